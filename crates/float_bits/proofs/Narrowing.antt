@@ -1,0 +1,292 @@
+-- `narrow x` is what the pattern of `magnitude` stands for, with x's sign. Assumes nothing.
+use mathlib.Core.Path.{_≡_, refl, sym, ap, _∙_, subst}
+use mathlib.Core.Logic.{_⊎_, inl, inr}
+use Prim.Native.Nat.{ℕ, zero, suc, _+_, _-_, _*_, _/_, _%_, _^_, _≤_, _<_, min, compare, zero-le}
+use native.Mathlib.Nat.{le-refl, le-trans, le-of-eq, le-of-lt, lt-of-lt-of-le, lt-of-le-of-lt, eq-or-lt-of-le, mul-one, mul-comm, mul-assoc, mul-le-mul-right, mul-lt-mul-of-pos-right, mul-pos, le-div-iff-mul-le, div-lt-iff-lt-mul, zero-lt-suc, mod-lt, div-le-self, not-le-of-lt, zero-add, one-mul}
+use native.Mathlib.Omega.{arith}
+use mathlib.Core.Bool.{Bool, true, false, not, cond}
+use lib.Dec.{T, leb, ltb, eqb, leb→le, nleb→lt, le→leb, eqb→eq, ltb→lt, not-T}
+use lib.Arith.{lt→nleb}
+use lib.Pow.{pow-add, pow-pos, pow-mono, pow-lt, shl-lt, shl-exact}
+use lib.Ieee.{Float, nan, inf, fin, binary32, binary64, up, down, size, odd, round, ofBits, toBits, ofFields, fits, isNan, nanBits}
+use lib.Ieee.Digits.{size-le}
+use lib.Ieee.Fits.{down-pos, nearest-le}
+use lib.Ieee.Exact.{HasValue, odd-sign}
+use lib.Ieee.Bits.{is-true, is-false, ofBits-toBits, nanBits-above}
+use lib.Ieee.Nearest.{closest, closest-same}
+use lib.Ieee.Order.{drop, kept}
+use lib.Ieee.Scale.{round-same}
+use Rattle.rounding.proofs.Pattern.{round-pattern, size-exact, kept-le}
+use Rattle.rounding.proofs.Half.{closest-zero}
+use Rattle.float_bits.specs.Narrow.{narrow, magnitude}
+
+pub narrow-val : (x : Float) (s : Bool) (a c : ℕ) → 0 < c → HasValue x s a c → narrow x ≡ round binary32 s a c
+unfolding narrow
+narrow-val nan s a c C v = absurd v
+narrow-val (inf t) s a c C v = absurd v
+narrow-val (fin t m e) s a c C v =
+    ap (λ (b : Bool). round binary32 b (m * up e) (down e)) (v .0) ∙ round-same binary32 s (m * up e) (down e) a c (down-pos e) C (v .1)
+
+-- ---- powers of two
+shl2 : (q a b : ℕ) → q * 2 ^ a * 2 ^ b ≡ q * 2 ^ (a + b)
+shl2 q a b = mul-assoc q (2 ^ a) (2 ^ b) ∙ ap (λ (x : ℕ). q * x) (sym (pow-add 2 a b))
+
+shl3 : (q k a i b : ℕ) → k + a + i ≡ b → q * 2 ^ k * 2 ^ a * 2 ^ i ≡ q * 2 ^ b
+shl3 q k a i b e = ap (λ (x : ℕ). x * 2 ^ i) (shl2 q k a) ∙ shl2 q (k + a) i ∙ ap (λ (x : ℕ). q * 2 ^ x) e
+
+-- ---- q * 2 ^ k / 2 ^ 1074, rounded to binary32: the normal range
+module _ (q k j : ℕ) (K : k ≡ 896 + j) (lo : 4503599627370496 ≤ q) (hi : q < 9007199254740992) where
+  n : ℕ
+  n = q * 2 ^ k * 2 ^ 149
+
+  n-is : n ≡ q * 2 ^ (1045 + j)
+  unfolding n
+  n-is = shl2 q k 149 ∙ ap (λ (x : ℕ). q * 2 ^ x) (at k j K)
+    where
+      at : (k j : ℕ) → k ≡ 896 + j → k + 149 ≡ 1045 + j
+      at k j e = omega arith
+
+  size-is : size (n / 2 ^ 1074) ≡ suc (23 + j)
+  size-is = size-exact (23 + j) (n / 2 ^ 1074) (le-div-iff-mul-le (pow-pos 1074) .1 least) (div-lt-iff-lt-mul (pow-pos 1074) .1 most)
+    where
+      e1 : (j : ℕ) → 23 + j + 1074 ≡ 52 + (1045 + j)
+      e1 j = omega arith
+
+      e2 : (j : ℕ) → suc (23 + j) + 1074 ≡ 53 + (1045 + j)
+      e2 j = omega arith
+
+      least : 2 ^ (23 + j) * 2 ^ 1074 ≤ n
+      least = le-trans (le-of-eq (sym (pow-add 2 (23 + j) 1074) ∙ ap (λ (x : ℕ). 2 ^ x) (e1 j) ∙ pow-add 2 52 (1045 + j))) (le-trans (mul-le-mul-right (2 ^ (1045 + j)) lo) (le-of-eq (sym n-is)))
+
+      most : n < 2 ^ suc (23 + j) * 2 ^ 1074
+      most = lt-of-le-of-lt (le-of-eq n-is) (lt-of-lt-of-le (mul-lt-mul-of-pos-right hi (pow-pos (1045 + j))) (le-of-eq (sym (pow-add 2 53 (1045 + j)) ∙ ap (λ (x : ℕ). 2 ^ x) (sym (e2 j)) ∙ pow-add 2 (suc (23 + j)) 1074)))
+
+  drop-is : drop 24 n (2 ^ 1074) ≡ j
+  drop-is = ap (λ (z : ℕ). z - 24) size-is ∙ cut j
+    where
+      cut : (j : ℕ) → suc (23 + j) - 24 ≡ j
+      cut j = omega arith
+
+  kept-is : kept 24 n (2 ^ 1074) ≡ closest q 536870912
+  kept-is =
+      ap (λ (z : ℕ). closest n (2 ^ 1074 * 2 ^ z)) drop-is
+      ∙ closest-same n (2 ^ 1074 * 2 ^ j) q 536870912 (mul-pos (pow-pos 1074) (pow-pos j)) (pow-pos 29)
+      (ap (λ (x : ℕ). x * 2 ^ 29) n-is ∙ shl2 q (1045 + j) 29 ∙ ap (λ (x : ℕ). q * 2 ^ x) (e j) ∙ ap (λ (x : ℕ). q * x) (pow-add 2 1074 j))
+    where
+      e : (j : ℕ) → 1045 + j + 29 ≡ 1074 + j
+      e j = omega arith
+
+  high : min (drop 24 (q * 2 ^ k * 2 ^ 149) (2 ^ 1074) * 8388608 + kept 24 (q * 2 ^ k * 2 ^ 149) (2 ^ 1074)) 2139095040 ≡ min (j * 8388608 + closest q 536870912) 2139095040
+  unfolding n
+  high = ap (λ (d : ℕ). min (d * 8388608 + kept 24 n (2 ^ 1074)) 2139095040) drop-is ∙ ap (λ (x : ℕ). min (j * 8388608 + x) 2139095040) kept-is
+
+-- ---- below the normal range nothing is dropped
+module _ (q k i : ℕ) (K : k + i ≡ 925) (L : k < 896) (hi : q < 9007199254740992) where
+  m : ℕ
+  m = q * 2 ^ k * 2 ^ 149
+
+  m-drop : drop 24 m (2 ^ 1074) ≡ 0
+  unfolding m
+  m-drop = none (size (m / 2 ^ 1074)) (size-le (m / 2 ^ 1074) 24 (div-lt-iff-lt-mul (pow-pos 1074) .1 most))
+    where
+      none : (z : ℕ) → z ≤ 24 → z - 24 ≡ 0
+      none z h = omega arith
+
+      room : (k : ℕ) → k < 896 → 53 + (k + 149) ≤ 1098
+      room k h = omega arith
+
+      most : m < 2 ^ 24 * 2 ^ 1074
+      most = lt-of-le-of-lt (le-of-eq (shl2 q k 149)) (lt-of-lt-of-le (shl-lt 53 (k + 149) hi) (pow-mono (room k L)))
+
+  m-kept : kept 24 m (2 ^ 1074) ≡ closest q (2 ^ i)
+  unfolding m
+  m-kept =
+      ap (λ (z : ℕ). closest m (2 ^ 1074 * 2 ^ z)) m-drop
+      ∙ closest-same m (2 ^ 1074 * 2 ^ 0) q (2 ^ i) (pow-pos 1074) (pow-pos i) (shl3 q k 149 i 1074 (e k i K))
+    where
+      e : (k i : ℕ) → k + i ≡ 925 → k + 149 + i ≡ 1074
+      e k i h = omega arith
+
+  lower : min (drop 24 (q * 2 ^ k * 2 ^ 149) (2 ^ 1074) * 8388608 + kept 24 (q * 2 ^ k * 2 ^ 149) (2 ^ 1074)) 2139095040 ≡ closest q (2 ^ i)
+  unfolding m
+  lower = plain (drop 24 m (2 ^ 1074)) (kept 24 m (2 ^ 1074)) m-drop (kept-le 24 m (2 ^ 1074)) ∙ m-kept
+    where
+      plain : (d x : ℕ) → d ≡ 0 → x ≤ 16777216 → min (d * 8388608 + x) 2139095040 ≡ x
+      plain d x e h = omega arith
+
+-- ---- the pattern, by the two fields
+abbrev signOf : Bool → ℕ
+signOf s = cond s 2147483648 0
+
+from : (s : Bool) (d q k p : ℕ) → min (drop 24 (q * 2 ^ k * 2 ^ 149) (2 ^ 1074) * 8388608 + kept 24 (q * 2 ^ k * 2 ^ 149) (2 ^ 1074)) 2139095040 ≡ p → narrow (odd d s q k 1074) ≡ ofBits binary32 (signOf s + p)
+from s d q k p e = narrow-val (odd d s q k 1074) s (q * 2 ^ k) (2 ^ 1074) (pow-pos 1074) (odd-sign d s q k 1074) ∙ round-pattern s (q * 2 ^ k) (2 ^ 1074) ∙ ap (λ (x : ℕ). ofBits binary32 (signOf s + x)) e
+
+half : (q i : ℕ) → q < 9007199254740992 → 55 ≤ i → q * 2 < 2 ^ i
+half q i h l = lt-of-lt-of-le (twice q h) (pow-mono l)
+  where
+    twice : (q : ℕ) → q < 9007199254740992 → q * 2 < 2 ^ 55
+    twice q h = omega arith
+
+-- `magnitude` in its three ranges
+pub mag-high : (f d : ℕ) → 897 ≤ f → magnitude f d ≡ min ((f - 897) * 8388608 + closest (4503599627370496 + d) 536870912) 2139095040
+unfolding magnitude
+mag-high f d h = ap (λ (t : Bool). cond t (min ((f - 897) * 8388608 + closest (4503599627370496 + d) 536870912) 2139095040) (cond (leb 872 f) (closest (4503599627370496 + d) (2 ^ (926 - f))) 0)) (is-true (leb 897 f) (le→leb 897 f h))
+
+pub mag-mid : (f d : ℕ) → f < 897 → 872 ≤ f → magnitude f d ≡ closest (4503599627370496 + d) (2 ^ (926 - f))
+unfolding magnitude
+mag-mid f d h g =
+    ap (λ (t : Bool). cond t (min ((f - 897) * 8388608 + closest (4503599627370496 + d) 536870912) 2139095040) (cond (leb 872 f) (closest (4503599627370496 + d) (2 ^ (926 - f))) 0)) (is-false (leb 897 f) (lt→nleb 897 f h))
+    ∙ ap (λ (t : Bool). cond t (closest (4503599627370496 + d) (2 ^ (926 - f))) 0) (is-true (leb 872 f) (le→leb 872 f g))
+
+pub mag-low : (f d : ℕ) → f < 872 → magnitude f d ≡ 0
+unfolding magnitude
+mag-low f d h =
+    ap (λ (t : Bool). cond t (min ((f - 897) * 8388608 + closest (4503599627370496 + d) 536870912) 2139095040) (cond (leb 872 f) (closest (4503599627370496 + d) (2 ^ (926 - f))) 0)) (is-false (leb 897 f) (lt→nleb 897 f (up2 f h)))
+    ∙ ap (λ (t : Bool). cond t (closest (4503599627370496 + d) (2 ^ (926 - f))) 0) (is-false (leb 872 f) (lt→nleb 872 f h))
+  where
+    up2 : (f : ℕ) → f < 872 → f < 897
+    up2 f h = omega arith
+
+mag-top : magnitude 2047 0 ≡ 2139095040
+unfolding magnitude
+mag-top = refl
+
+le-or-lt : (a b : ℕ) → (a ≤ b) ⊎ (b < a)
+le-or-lt a b = go (leb a b) (leb→le a b) (nleb→lt a b)
+  where
+    go : (t : Bool) → (T t → a ≤ b) → (T (not t) → b < a) → (a ≤ b) ⊎ (b < a)
+    go true h g = inl (h tt)
+    go false h g = inr (g tt)
+
+normal : (s : Bool) (k d : ℕ) → d < 4503599627370496 → narrow (odd 53 s (4503599627370496 + d) k 1074) ≡ ofBits binary32 (signOf s + magnitude (suc k) d)
+normal s k d D =
+    elim (le-or-lt 896 k) [
+      | inl h ↦ from s 53 q k (magnitude (suc k) d) (high q k (suc k - 897) (is k h) (least d) (most d D) ∙ sym (mag-high (suc k) d (up0 k h)))
+      | inr l ↦ elim (le-or-lt 871 k) [
+        | inl g ↦ from s 53 q k (magnitude (suc k) d) (lower q k (926 - suc k) (is2 k l) l (most d D) ∙ sym (mag-mid (suc k) d (up3 k l) (up2 k g)))
+        | inr g ↦ from s 53 q k (magnitude (suc k) d) (lower q k (926 - suc k) (is2 k l) l (most d D) ∙ closest-zero q (2 ^ (926 - suc k)) (pow-pos (926 - suc k)) (half q (926 - suc k) (most d D) (far k g)) ∙ sym (mag-low (suc k) d (up1 k g)))
+      ]
+    ]
+  where
+    q : ℕ
+    q = 4503599627370496 + d
+
+    is : (k : ℕ) → 896 ≤ k → k ≡ 896 + (suc k - 897)
+    is k h = omega arith
+
+    is2 : (k : ℕ) → k < 896 → k + (926 - suc k) ≡ 925
+    is2 k h = omega arith
+
+    far : (k : ℕ) → k < 871 → 55 ≤ 926 - suc k
+    far k h = omega arith
+
+    up0 : (k : ℕ) → 896 ≤ k → 897 ≤ suc k
+    up0 k h = omega arith
+
+    up1 : (k : ℕ) → k < 871 → suc k < 872
+    up1 k h = omega arith
+
+    up2 : (k : ℕ) → 871 ≤ k → 872 ≤ suc k
+    up2 k h = omega arith
+
+    up3 : (k : ℕ) → k < 896 → suc k < 897
+    up3 k h = omega arith
+
+    least : (d : ℕ) → 4503599627370496 ≤ 4503599627370496 + d
+    least d = omega arith
+
+    most : (d : ℕ) → d < 4503599627370496 → 4503599627370496 + d < 9007199254740992
+    most d h = omega arith
+
+subnormal : (s : Bool) (d : ℕ) → d < 4503599627370496 → narrow (odd 53 s d 0 1074) ≡ ofBits binary32 (signOf s + magnitude 0 d)
+subnormal s d D =
+    from s 53 d 0 (magnitude 0 d) (lower d 0 925 refl (zero-lt-suc 895) (more d D) ∙ closest-zero d (2 ^ 925) (pow-pos 925) (half d 925 (more d D) (le-by 925)) ∙ sym (mag-low 0 d (zero-lt-suc 871)))
+  where
+    more : (d : ℕ) → d < 4503599627370496 → d < 9007199254740992
+    more d h = omega arith
+
+    le-by : (n : ℕ) → 55 ≤ 925
+    le-by n = omega arith
+
+infinite : (s : Bool) → narrow (inf s) ≡ ofBits binary32 (signOf s + magnitude 2047 0)
+unfolding narrow ofBits magnitude
+infinite true = refl
+infinite false = refl
+
+fields : (s : Bool) (f d : ℕ) → d < 4503599627370496 → T (not (isNan (ofFields binary64 s f d))) → narrow (ofFields binary64 s f d) ≡ ofBits binary32 (signOf s + magnitude f d)
+unfolding ofFields isNan
+fields s zero d D N = subnormal s d D
+fields s (suc k) d D N = go (eqb (suc k) 2047) (eqb→eq (suc k) 2047) (eqb d 0) (eqb→eq d 0) N
+  where
+    go : (a : Bool) → (T a → suc k ≡ 2047) → (b : Bool) → (T b → d ≡ 0) → T (not (isNan (cond a (cond b (inf s) nan) (odd 53 s (4503599627370496 + d) k 1074))))
+        → narrow (cond a (cond b (inf s) nan) (odd 53 s (4503599627370496 + d) k 1074)) ≡ ofBits binary32 (signOf s + magnitude (suc k) d)
+    go true e true z N = infinite s ∙ ap (λ (x : ℕ). ofBits binary32 (signOf s + magnitude x 0)) (sym (e tt)) ∙ ap (λ (x : ℕ). ofBits binary32 (signOf s + magnitude (suc k) x)) (sym (z tt))
+    go true e false z N = absurd N
+    go false e b z N = normal s k d D
+
+pub narrow-bits : (x : Float) → T (fits binary64 x) → T (not (isNan x))
+    → narrow x ≡ ofBits binary32 (signOf (leb 9223372036854775808 (toBits binary64 x)) + magnitude (toBits binary64 x % 9223372036854775808 / 4503599627370496) (toBits binary64 x % 4503599627370496))
+unfolding ofBits
+narrow-bits x F N =
+    let b = toBits binary64 x in
+    let e : ofFields binary64 (leb 9223372036854775808 b) (b % 9223372036854775808 / 4503599627370496) (b % 4503599627370496) ≡ x = ofBits-toBits binary64 x F in
+    ap narrow (sym e)
+    ∙ fields (leb 9223372036854775808 b) (b % 9223372036854775808 / 4503599627370496) (b % 4503599627370496) (mod-lt b (pow-pos 52)) (subst (λ (y : Float). T (not (isNan y))) (sym e) N)
+
+-- ---- what the code asks
+pub one-shl : (i : ℕ) → i ≤ 54 → 1 * 2 ^ i % 18446744073709551616 ≡ 2 ^ i
+one-shl i h = shl-exact 1 i 64 (pow-lt (zero-lt-suc 0)) (room i h) ∙ one-mul (2 ^ i)
+  where
+    room : (i : ℕ) → i ≤ 54 → 1 + i ≤ 64
+    room i h = omega arith
+
+pub closest-le : (a b : ℕ) → closest a b ≤ a + 1
+closest-le a b = add1 (closest a b) (a / b) a (nearest-le (a / b) (compare (a % b * 2) b)) (div-le-self a b)
+  where
+    add1 : (x y a : ℕ) → x ≤ suc y → y ≤ a → x ≤ a + 1
+    add1 x y a h k = omega arith
+
+pub mag-le : (f d : ℕ) → d < 4503599627370496 → magnitude f d ≤ 2139095040
+mag-le f d D =
+    elim (le-or-lt 897 f) [
+      | inl h ↦ le-trans (le-of-eq (mag-high f d h)) (min-le ((f - 897) * 8388608 + closest (4503599627370496 + d) 536870912))
+      | inr l ↦ elim (le-or-lt 872 f) [
+        | inl g ↦ le-trans (le-of-eq (mag-mid f d l g ∙ sym (lower (4503599627370496 + d) (f - 1) (926 - f) (is f l g) (lt f l g) (most d D)))) (min-le (drop 24 ((4503599627370496 + d) * 2 ^ (f - 1) * 2 ^ 149) (2 ^ 1074) * 8388608 + kept 24 ((4503599627370496 + d) * 2 ^ (f - 1) * 2 ^ 149) (2 ^ 1074)))
+        | inr g ↦ le-trans (le-of-eq (mag-low f d g)) zero-le
+      ]
+    ]
+  where
+    min-le : (x : ℕ) → min x 2139095040 ≤ 2139095040
+    min-le x = omega arith
+
+    is : (f : ℕ) → f < 897 → 872 ≤ f → f - 1 + (926 - f) ≡ 925
+    is f h g = omega arith
+
+    lt : (f : ℕ) → f < 897 → 872 ≤ f → f - 1 < 896
+    lt f h g = omega arith
+
+    most : (d : ℕ) → d < 4503599627370496 → 4503599627370496 + d < 9007199254740992
+    most d h = omega arith
+
+pub no-nan : (n : ℕ) → n % 2147483648 ≤ 2139095040 → T (not (nanBits binary32 n))
+no-nan n h = subst (λ (b : Bool). T (not b)) (sym (nanBits-above binary32 n)) (le→nltb 2139095040 (n % 2147483648) h)
+  where
+    le→nltb : (a b : ℕ) → b ≤ a → T (not (ltb a b))
+    le→nltb a b h = not-T (ltb a b) (λ (t : T (ltb a b)). not-le-of-lt (ltb→lt a b t) h)
+
+pub when-negative : (x : Float) (m : ℕ) → T (fits binary64 x) → T (not (isNan x))
+    → m ≡ magnitude (toBits binary64 x % 9223372036854775808 / 4503599627370496) (toBits binary64 x % 4503599627370496) → 9223372036854775808 ≤ toBits binary64 x → ofBits binary32 (2147483648 + m) ≡ narrow x
+when-negative x m F N e h =
+    let b = toBits binary64 x in
+    ap (λ (y : ℕ). ofBits binary32 (2147483648 + y)) e
+    ∙ ap (λ (t : Bool). ofBits binary32 (signOf t + magnitude (b % 9223372036854775808 / 4503599627370496) (b % 4503599627370496))) (sym (is-true (leb 9223372036854775808 b) (le→leb 9223372036854775808 b h)))
+    ∙ sym (narrow-bits x F N)
+
+pub when-positive : (x : Float) (m : ℕ) → T (fits binary64 x) → T (not (isNan x))
+    → m ≡ magnitude (toBits binary64 x % 9223372036854775808 / 4503599627370496) (toBits binary64 x % 4503599627370496) → toBits binary64 x < 9223372036854775808 → ofBits binary32 m ≡ narrow x
+when-positive x m F N e h =
+    let b = toBits binary64 x in
+    ap (ofBits binary32) (sym (zero-add m))
+    ∙ ap (λ (y : ℕ). ofBits binary32 (0 + y)) e
+    ∙ ap (λ (t : Bool). ofBits binary32 (signOf t + magnitude (b % 9223372036854775808 / 4503599627370496) (b % 4503599627370496))) (sym (is-false (leb 9223372036854775808 b) (lt→nleb 9223372036854775808 b h)))
+    ∙ sym (narrow-bits x F N)
