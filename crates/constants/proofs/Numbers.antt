@@ -1,0 +1,11 @@
+-- At 4 samples per pulse the definitions give document 01's numbers. Assumes nothing.
+use mathlib.Core.Path.{_≡_, refl}
+use Prim.Native.Nat.{ℕ}
+use mathlib.Core.List.{List, [], _∷_}
+use Rattle.constants.specs.Rate.{four, sampleRate, branches, prototypeLength, modeSPulse, modeACPulse, modeSTaps, modeACTaps, replyLimit, holdBack, workingMemory, largestOffset}
+
+abbrev pub of : ℕ → List ℕ
+of sps = sampleRate sps ∷ branches sps ∷ prototypeLength sps ∷ modeSPulse sps ∷ modeACPulse sps ∷ modeSTaps sps ∷ modeACTaps sps ∷ replyLimit sps ∷ holdBack sps ∷ workingMemory sps ∷ largestOffset sps ∷ []
+
+pub numbers : of four ≡ (8000000 ∷ 256 ∷ 1792 ∷ 307 ∷ 278 ∷ 1486 ∷ 1515 ∷ 1094 ∷ 32 ∷ 2252 ∷ 4000000 ∷ [])
+numbers = refl

@@ -1,0 +1,1 @@
+// The numbers that follow from the samples per pulse. They are definitions: see specs/. Assumes nothing.
