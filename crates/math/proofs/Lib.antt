@@ -7,3 +7,4 @@ pub mod Constants
 pub mod Wrapped
 pub mod Reduction
 pub mod Bounded
+pub mod InRange
