@@ -79,31 +79,28 @@ fn other_agrees(i: usize) -> u64
     1
 }
 
-fn count_wraps() -> u64 {
-    let mut n: u64 = 0;
-    let mut i: usize = 0;
-    while i < tables::WRAPS_ROWS {
-        n += wrap_agrees(i);
-        i += 1;
+// One if row i of a table agrees: 0 the wraps, 1 the phases, 2 the others.
+fn row_agrees(table: u8, i: usize) -> u64
+    requires { ⌜ i < 1000 ⌝ }
+    ensures { λ r. ⌜ r ≤ 1 ⌝ }
+{
+    if table == 0 {
+        return wrap_agrees(i);
     }
-    n
+    if table == 1 {
+        return phase_agrees(i);
+    }
+    other_agrees(i)
 }
 
-fn count_phases() -> u64 {
+// How many of a table's first rows agree.
+fn count(table: u8, rows: usize) -> u64
+    requires { ⌜ rows ≤ 1000 ⌝ }
+{
     let mut n: u64 = 0;
     let mut i: usize = 0;
-    while i < tables::PHASES_ROWS {
-        n += phase_agrees(i);
-        i += 1;
-    }
-    n
-}
-
-fn count_others() -> u64 {
-    let mut n: u64 = 0;
-    let mut i: usize = 0;
-    while i < tables::OTHERS_ROWS {
-        n += other_agrees(i);
+    while i < rows {
+        n += row_agrees(table, i);
         i += 1;
     }
     n
@@ -121,9 +118,9 @@ fn print_count(n: u64) {
 
 fn main() {
     io::write_all(1, b"wraps ");
-    print_count(count_wraps());
+    print_count(count(0, tables::WRAPS_ROWS));
     io::write_all(1, b"phases ");
-    print_count(count_phases());
+    print_count(count(1, tables::PHASES_ROWS));
     io::write_all(1, b"others ");
-    print_count(count_others());
+    print_count(count(2, tables::OTHERS_ROWS));
 }

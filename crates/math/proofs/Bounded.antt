@@ -1,22 +1,20 @@
 -- Sine and cosine of a phase from -PI to PI are finite and at most 1 in size. Each coefficient has the other sign than the one before it and is smaller,
 -- so that every Horner sum lies between 0 and its last coefficient. Assumes nothing.
 use mathlib.Core.Path.{_≡_, refl, sym, ap, _∙_, subst}
-use Prim.Native.Nat.{ℕ, zero, suc, _+_, _-_, _*_, _^_, _≤_, _<_, zero-le}
-use native.Mathlib.Nat.{le-refl, le-trans, le-of-eq, lt-of-lt-of-le, lt-of-le-of-lt, one-mul, mul-one, mul-assoc, mul-le-mul-right, mul-le-mul-left, mul-le-mul, mul-pos, sub-le, zero-lt-suc}
+use Prim.Native.Nat.{ℕ, zero, suc, _+_, _-_, _*_, _^_, _≤_, _<_}
+use native.Mathlib.Nat.{le-refl, le-trans, le-of-eq, lt-of-le-of-lt, one-mul, mul-assoc, mul-le-mul-right, mul-le-mul-left, mul-le-mul, mul-pos, sub-le, zero-lt-suc}
 use native.Mathlib.Omega.{arith}
 use mathlib.Core.Bool.{Bool, true, false, not}
-use lib.Dec.{T, lit<, lit≤}
+use lib.Dec.{lit<, lit≤}
 use lib.Pow.{pow-pos}
-use lib.Ieee.{Float, binary64, unlike, size, span, climb, round, add, mul, neg}
+use lib.Ieee.{Float, binary64, unlike, size, span, climb, round, mul}
 use lib.Ieee.Fits.{round-fits}
 use lib.Ieee.Scale.{overflow}
 use Rattle.rounding.proofs.Units.{G, G-le, G-mono, rounded}
 use Rattle.rounding.proofs.More.{Rep, G-rep, rep-of, round-value}
 use Rattle.rounding.proofs.Val.{Val, mul-val, add-opposite-r}
-use Rattle.math.specs.declared.Reduced.{Reduced}
-use Rattle.math.specs.declared.SinCos.{SinCos}
 use Rattle.math.specs.Carrier.{reduced, factorial, odd, sineCoefficient, cosineCoefficient, horner, sineSum, cosineSum, quadrant, sinCos}
-use Rattle.math.proofs.Size.{Within, within-more, within-neg}
+use Rattle.math.proofs.Size.{Within, within-neg}
 use Rattle.math.proofs.Constants.{quarterUnits, piUnits}
 use Rattle.math.proofs.Reduction.{reduced-within}
 
@@ -53,8 +51,7 @@ module _ (coefficient : ℕ → Float) (count : ℕ → ℕ) (last : ℕ) (A : A
       let g = G (m * k) (2 ^ 1074 * 2 ^ 1074) in
       let small : g ≤ count (suc n) = under-rep (count (suc n)) (m * k) (2 ^ 1074 * 2 ^ 1074) (A .exact (suc n)) (pow-pos 2148) (le-trans (mul-le-mul-right (2 ^ 1074) (mul-le-mul (t .2) K)) (le-of-eq (mul-assoc (count (suc n)) (2 ^ 1074) (2 ^ 1074)))) in
       let product : Val (mul binary64 (horner coefficient j (suc n) z) z) (not (odd n)) g = subst (λ (b : Bool). Val (mul binary64 (horner coefficient j (suc n) z) z) b g) (like (not (odd n))) (mul-val (horner coefficient j (suc n) z) z (not (odd n)) false m k (t .1) Z (lt-of-le-of-lt small (A .under (suc n)))) in
-      let total : G (count n - g) (2 ^ 1074) ≤ count n = under-rep (count n) (count n - g) (2 ^ 1074) (A .exact n) (pow-pos 1074) (mul-le-mul-right (2 ^ 1074) (sub-le (count n) g)) in
-      (
+      let total : G (count n - g) (2 ^ 1074) ≤ count n = under-rep (count n) (count n - g) (2 ^ 1074) (A .exact n) (pow-pos 1074) (mul-le-mul-right (2 ^ 1074) (sub-le (count n) g)) in (
         G (count n - g) (2 ^ 1074),
         add-opposite-r (mul binary64 (horner coefficient j (suc n) z) z) (coefficient n) (odd n) g (count n) product (A .is n) (lt-of-le-of-lt small (A .falls n (first n j last h))) (lt-of-le-of-lt total (A .under n)),
         total,
