@@ -28,16 +28,29 @@ fn near(x: f64, y: f64) -> bool {
     -d <= 1.1920928955078125e-7
 }
 
+// Entry i of a table, and 0 past its end.
+fn wraps(i: usize) -> u64 {
+    if i < 303 { tables::WRAPS[i] } else { 0 }
+}
+
+fn phases(i: usize) -> u64 {
+    if i < 1070 { tables::PHASES[i] } else { 0 }
+}
+
+fn others(i: usize) -> u64 {
+    if i < 45 { tables::OTHERS[i] } else { 0 }
+}
+
 // One if row i of the wraps agrees.
 fn wrap_agrees(i: usize) -> u64
     requires { ⌜ i < 1000 ⌝ }
     ensures { λ r. ⌜ r ≤ 1 ⌝ }
 {
-    let x = value(tables::wraps(3 * i));
-    if !same(math::phase_wrap_f64(x), tables::wraps(3 * i + 1)) {
+    let x = value(wraps(3 * i));
+    if !same(math::phase_wrap_f64(x), wraps(3 * i + 1)) {
         return 0;
     }
-    if !same(math::phase_wrap_once_f64(x), tables::wraps(3 * i + 2)) {
+    if !same(math::phase_wrap_once_f64(x), wraps(3 * i + 2)) {
         return 0;
     }
     1
@@ -48,17 +61,17 @@ fn phase_agrees(i: usize) -> u64
     requires { ⌜ i < 1000 ⌝ }
     ensures { λ r. ⌜ r ≤ 1 ⌝ }
 {
-    let y = math::sin_cos(value(tables::phases(5 * i)));
-    if !same(y.sin, tables::phases(5 * i + 1)) {
+    let y = math::sin_cos(value(phases(5 * i)));
+    if !same(y.sin, phases(5 * i + 1)) {
         return 0;
     }
-    if !same(y.cos, tables::phases(5 * i + 2)) {
+    if !same(y.cos, phases(5 * i + 2)) {
         return 0;
     }
-    if !near(y.sin, value(tables::phases(5 * i + 3))) {
+    if !near(y.sin, value(phases(5 * i + 3))) {
         return 0;
     }
-    if !near(y.cos, value(tables::phases(5 * i + 4))) {
+    if !near(y.cos, value(phases(5 * i + 4))) {
         return 0;
     }
     1
@@ -69,11 +82,11 @@ fn other_agrees(i: usize) -> u64
     requires { ⌜ i < 1000 ⌝ }
     ensures { λ r. ⌜ r ≤ 1 ⌝ }
 {
-    let y = math::sin_cos(value(tables::others(3 * i)));
-    if !same(y.sin, tables::others(3 * i + 1)) {
+    let y = math::sin_cos(value(others(3 * i)));
+    if !same(y.sin, others(3 * i + 1)) {
         return 0;
     }
-    if !same(y.cos, tables::others(3 * i + 2)) {
+    if !same(y.cos, others(3 * i + 2)) {
         return 0;
     }
     1
