@@ -2,7 +2,7 @@
 use mathlib.Core.Path.{_≡_, refl, sym, ap, _∙_, subst}
 use mathlib.Core.Logic.{_⊎_, inl, inr}
 use Prim.Native.Nat.{ℕ, zero, suc, _+_, _-_, _*_, _/_, _%_, _≤_, _<_, compare, Ordering, Ordering·lt, Ordering·eq, Ordering·gt}
-use native.Mathlib.Nat.{div-eq-of-lt-le, mod-lt, div-add-mod', suc-mul, zero-mul, mul-comm, mul-assoc, mul-right-comm, mul-le-mul-right, le-trans, le-of-eq, lt-of-le-of-lt, eq-zero-or-pos, lt-irrefl, lt-of-lt-of-le, one-mul, zero-lt-suc}
+use native.Mathlib.Nat.{mul-add-div-right, mul-add-mod-self-right, div-eq-of-lt-le, mod-lt, div-add-mod', suc-mul, zero-mul, mul-comm, mul-assoc, mul-right-comm, mul-le-mul-right, le-trans, le-of-eq, lt-of-le-of-lt, eq-zero-or-pos, lt-irrefl, lt-of-lt-of-le, one-mul, zero-lt-suc}
 use native.Mathlib.Omega.{arith}
 use mathlib.Core.Bool.{not}
 use lib.Dec.{T, isLe, isEq, eqb, leb→le, nleb→lt, eqb→eq, eqb-refl}
@@ -189,3 +189,21 @@ closest-half a h H =
 
         less2 : (r h p : ℕ) → p ≡ 1 → 0 < h → r * 2 ≡ 2 * h → r + (h - 1) + p < 2 * h + 2 * h
         less2 r h p o H c = omega arith
+
+-- an even multiple of the divisor goes through: a tie stays a tie, to the same side
+pub closest-even : (e a b : ℕ) → 0 < b → closest (2 * e * b + a) b ≡ 2 * e + closest a b
+closest-even e a b B =
+    ap (λ (x : ℕ). nearest ((2 * e * b + a) / b) (compare (x * 2) b)) (mul-add-mod-self-right (2 * e) b a)
+    ∙ ap (λ (x : ℕ). nearest x (compare (a % b * 2) b)) (mul-add-div-right B (2 * e) a)
+    ∙ go (a / b) (compare (a % b * 2) b)
+  where
+    go : (w : ℕ) (o : Ordering) → nearest (2 * e + w) o ≡ 2 * e + nearest w o
+    go w Ordering·lt = refl
+    go w Ordering·eq = even e w
+      where
+        even : (e w : ℕ) → 2 * e + w + (2 * e + w) % 2 ≡ 2 * e + (w + w % 2)
+        even e w = omega arith
+    go w Ordering·gt = next e w
+      where
+        next : (e w : ℕ) → suc (2 * e + w) ≡ 2 * e + suc w
+        next e w = omega arith
