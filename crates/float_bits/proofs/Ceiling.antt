@@ -1,15 +1,15 @@
 -- What the branches of `ceil_to_i64` know of x, and that each returns the ceiling. Assumes nothing.
 use mathlib.Core.Path.{_≡_, refl, sym, ap, _∙_, subst}
 use mathlib.Core.Logic.{_⊎_, inl, inr}
-use Prim.Native.Nat.{ℕ, zero, suc, _+_, _-_, _*_, _/_, _%_, _^_, _≤_, _<_, min, zero-le}
-use native.Mathlib.Nat.{le-refl, le-trans, le-of-eq, le-of-lt, lt-of-lt-of-le, lt-of-le-of-lt, not-le-of-lt, mul-one, one-mul, zero-mul, mul-comm, mul-assoc, mul-right-comm, mul-le-mul-right, mul-lt-mul-of-pos-right, lt-of-mul-lt-mul-right, mul-pos, le-div-iff-mul-le, div-lt-iff-lt-mul, zero-lt-suc, div-add-mod', mod-lt, div-one, div-eq-of-lt-le, div-eq-of-lt, suc-mul, div-mul-le-self, zero-div, zero-add, le-of-mul-le-mul-right, le-antisymm, lt-div-mul-add}
+use Prim.Native.Nat.{ℕ, zero, suc, _+_, _-_, _*_, _/_, _%_, _^_, _≤_, _<_, min}
+use native.Mathlib.Nat.{le-trans, le-of-eq, le-of-lt, lt-of-lt-of-le, lt-of-le-of-lt, mul-one, zero-mul, mul-right-comm, lt-of-mul-lt-mul-right, le-div-iff-mul-le, div-lt-iff-lt-mul, div-eq-of-lt-le, div-eq-of-lt, suc-mul, div-mul-le-self, zero-div, zero-add, le-of-mul-le-mul-right, le-antisymm, lt-div-mul-add}
 use native.Mathlib.Omega.{arith}
-use mathlib.Core.Bool.{Bool, true, false, not, _&&_, _||_, cond, true≢false}
+use mathlib.Core.Bool.{_||_, Bool, true, false, not, _&&_, true≢false}
 use lib.IntN.{ℤ, pos, negsuc, negℤ}
-use lib.Dec.{T, leb, ltb, eqb, ltb→lt, nltb→le, lt→ltb, eqb→eq, eqb-refl, not-T}
-use lib.Pow.{pow-pos, pow-mono}
-use lib.Ieee.{Float, nan, inf, fin, binary64, up, down, lt, eq, le, ofInt, toSigned, toUnsigned, inFloat, fits, below}
-use lib.Ieee.Fits.{up-pos, down-pos, and-l, and-r}
+use lib.Dec.{T, leb, ltb, eqb, ltb→lt, nltb→le, lt→ltb, eqb→eq, eqb-refl}
+use lib.Pow.{pow-pos}
+use lib.Ieee.{Float, nan, inf, fin, binary64, up, down, lt, eq, le, ofInt, toSigned, toUnsigned, fits}
+use lib.Ieee.Fits.{down-pos, and-l, and-r}
 use lib.Ieee.Exact.{HasValue}
 use lib.Ieee.Back.{round-whole}
 use Rattle.float_bits.specs.Ceil.{ceilSigned, upward}

@@ -1,17 +1,17 @@
 -- Narrowing keeps the order (`narrow-mono`) and the sign (`narrow-neg`). So a value within a limit that `f32` holds stays within it, finite, and one from 0 to 1 stays there. Assumes nothing.
 use mathlib.Core.Path.{_≡_, refl, sym, ap, _∙_, subst}
 use mathlib.Core.Logic.{_⊎_, inl, inr}
-use Prim.Native.Nat.{ℕ, zero, suc, _+_, _*_, _/_, _%_, _^_, _≤_, _<_}
-use native.Mathlib.Nat.{mul-one, one-mul, zero-mul, mul-pos, eq-zero-or-pos, zero-lt-suc, lt-irrefl}
+use Prim.Native.Nat.{ℕ, _+_, _*_, _/_, _%_, _^_, _≤_, _<_}
+use native.Mathlib.Nat.{zero-mul, mul-pos, eq-zero-or-pos, lt-irrefl}
 use native.Mathlib.Omega.{arith}
 use mathlib.Core.Bool.{Bool, true, false, not}
 use lib.IntN.{ℤ, pos}
 use lib.Dec.{T}
 use lib.Pow.{pow-pos}
-use lib.Ieee.{Float, nan, inf, fin, binary32, binary64, up, down, round, neg, lt, eq, le, ofBits, toBits, fits, isNan}
+use lib.Ieee.{Float, nan, inf, fin, binary32, binary64, up, down, round, neg, le, ofBits, toBits, fits, isNan}
 use lib.Ieee.Bits.{ofBits-toBits, toBits-lt}
 use lib.Ieee.Exact.{HasValue, round-exact}
-use lib.Ieee.Fits.{up-pos, down-pos}
+use lib.Ieee.Fits.{down-pos}
 use lib.Ieee.Order.{round-mono}
 use lib.Ieee.Scale.{finite}
 use Rattle.rounding.proofs.Order.{Le, Signed, le-fin, fin-le, le-neg, le-signed, round-signed, round-neg, bits-neg}

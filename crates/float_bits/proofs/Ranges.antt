@@ -1,13 +1,11 @@
 -- `within-test`: a value is within a limit in size where it is neither above the limit nor below its negation; the test of `finite`; and what being within a finite limit tells. Assumes nothing.
-use mathlib.Core.Path.{_≡_, refl, sym, ap, _∙_, subst}
-use Prim.Native.Nat.{ℕ, zero, suc, _+_, _*_, _≤_, _<_}
-use native.Mathlib.Nat.{le-of-eq, zero-mul}
-use native.Mathlib.Omega.{arith}
+use mathlib.Core.Path.{_≡_, refl, sym, _∙_, subst}
+use Prim.Native.Nat.{ℕ, _*_, _≤_}
+use native.Mathlib.Nat.{le-of-eq}
 use mathlib.Core.Bool.{Bool, true, false, not, true≢false, false≢true}
-use lib.IntN.{ℤ, pos}
-use lib.Dec.{T, T-not}
+use lib.IntN.{ℤ}
+use lib.Dec.{T}
 use lib.Ieee.{Float, nan, inf, fin, up, down, lt, le, neg}
-use lib.Ieee.Bits.{is-true, is-false}
 use lib.Ieee.Scale.{finite}
 use Rattle.rounding.proofs.Order.{Le, le-fin, fin-le}
 use Rattle.float_bits.specs.Range.{abs, within}

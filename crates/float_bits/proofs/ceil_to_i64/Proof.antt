@@ -1,14 +1,12 @@
 -- `ceiling::ceil_to_i64` meets its contract: each branch is a case of `proofs/Law.antt`. Assumes nothing.
 use mathlib.Core.Path.{_≡_, sym, ap, _∙_, subst}
 use mathlib.Core.Bool.{Bool, true, false, not}
-use Prim.Native.Nat.{ℕ, _+_, _^_, _≤_, _<_}
 use lib.Dec.{T}
 use lib.IntN.{ℤ}
-use lib.Signed.{mag}
 use lib.Ieee.{Float, binary64, fits, ofBits, neg, toSigned}
 use lib.Ieee.Casts.{toSigned-in}
 use mir.Syntax.{w64}
-use mir.Val.{toZ, ofZ, SFits}
+use mir.Val.{toZ, ofZ}
 use mir.Facts.{toZ-ofZ}
 use Rattle.float_bits.proofs.Ceiling.{pos-above-min, nonpos-below-max, large, huge, nonpos, low-end, no-number}
 use borrow.Author.Needs.{needs}
