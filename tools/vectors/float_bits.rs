@@ -1,6 +1,6 @@
 // Makes crates/float_vectors/src/table.rt: points and what Rust's own casts and ceiling give there.
 //
-//     rustc -O -o /tmp/float_bits tools/vectors/float_bits.rs && /tmp/float_bits > crates/float_vectors/src/table.rt && rt fmt
+//     rustc -O -o target/float_bits tools/vectors/float_bits.rs && target/float_bits > crates/float_vectors/src/table.rt && rt fmt
 //
 // The points are those listed here, their negations, and some whose digits come from a fixed generator.
 
