@@ -1,0 +1,104 @@
+-- What a call's steps use up of what is lent: the counts of an answer are those of the draws taken, noise used, samples and records.
+-- Assumes nothing.
+use mathlib.Core.Bool.{Bool}
+use mathlib.Core.List.{List, [], _∷_, _++_, append-nil, append-assoc}
+use mathlib.Core.Path.{_≡_, refl, sym, ap, _∙_}
+use Prim.Native.Nat.{ℕ, zero, suc, _+_, _-_, _*_, _≤_, _<_}
+use native.Mathlib.Omega.{arith}
+use lib.ListN.{length, length-append}
+use Rattle.call_lists.specs.Generator.{Generator, Sample, NoisePair}
+use Rattle.call_lists.specs.PlainRun.{Kind, ignored, ends, reply, timeOf, ended}
+use Rattle.call_lists.specs.PlainBench.{Lent, Step, halt, drain, due, taking, latest, Bench, Benched, benchStep, benchOn, benchSteps}
+use Rattle.call_lists.specs.Laws.{Laws}
+use Rattle.call_lists.proofs.Machine.{later, State, Ran, stateStep, wrote, sample, took, noted, withSample, machineOn, machineSteps}
+use Rattle.call_lists.proofs.Says.{Says, step-says, Drains, Dues, Takes}
+use Rattle.call_lists.proofs.Flats.{AllOf}
+
+module _ (G : Generator) where
+  open Generator G using (Byte, Draw, Time, t0, after, adds, entry, recordBytes)
+
+  -- the bench took the first of the lent draws and used the first of the lent noise
+  pub record Moved (b : Bench G) (l : Lent G) (r : Benched G) : Type 0 where
+    pub tk : List Draw
+    pub us : List (NoisePair G)
+    pub taken : r .bench .taken ≡ b .taken ++ tk
+    pub used : r .bench .used ≡ b .used ++ us
+    pub draws : l .draws ≡ tk ++ r .rest .draws
+    pub noise : l .noise ≡ us ++ r .rest .noise
+
+  module _ (b : Bench G) (l : Lent G) (go : Bench G → Lent G → Benched G) (ih : (b′ : Bench G) (l′ : Lent G) → Moved b′ l′ (go b′ l′)) where
+    moved-on : (c : Step G) → Says G (ended G t0 (b .taken)) (length (b .used)) (timeOf G t0 (b .taken)) l c → Moved b l (benchOn G go b l c)
+    moved-on (halt s) f = record { tk = []; us = []; taken = sym (append-nil (b .taken)); used = sym (append-nil (b .used)); draws = refl; noise = refl }
+    moved-on (drain v l′) f =
+        let m = ih (record { taken = b .taken; used = b .used ++ (v ∷ []); mark = b .mark }) l′ in
+        record {
+          tk = m .tk;
+          us = v ∷ m .us;
+          taken = m .taken;
+          used = m .used ∙ append-assoc (b .used) (v ∷ []) (m .us);
+          draws = sym (f .draws) ∙ m .draws;
+          noise = f .noise ∙ ap (λ (vs : List (NoisePair G)). v ∷ vs) (m .noise);
+        }
+    moved-on (due t v l′) f =
+        let m = ih (record { taken = b .taken; used = b .used ++ (v ∷ []); mark = latest G (b .mark) t }) l′ in
+        record {
+          tk = m .tk;
+          us = v ∷ m .us;
+          taken = m .taken;
+          used = m .used ∙ append-assoc (b .used) (v ∷ []) (m .us);
+          draws = sym (f .draws) ∙ m .draws;
+          noise = f .noise ∙ ap (λ (vs : List (NoisePair G)). v ∷ vs) (m .noise);
+        }
+    moved-on (taking d k l′) f =
+        let m = ih (record { taken = b .taken ++ (d ∷ []); used = b .used; mark = b .mark }) l′ in
+        record {
+          tk = d ∷ m .tk;
+          us = m .us;
+          taken = m .taken ∙ append-assoc (b .taken) (d ∷ []) (m .tk);
+          used = m .used;
+          draws = f .draws ∙ ap (λ (ds : List Draw). d ∷ ds) (m .draws);
+          noise = sym (f .noise) ∙ m .noise;
+        }
+
+  pub moved : (f : ℕ) (b : Bench G) (l : Lent G) → Moved b l (benchSteps G f b l)
+  moved zero b l = record { tk = []; us = []; taken = sym (append-nil (b .taken)); used = sym (append-nil (b .used)); draws = refl; noise = refl }
+  moved (suc f) b l =
+      moved-on b l (λ b′ l′. benchSteps G f b′ l′) (λ b′ l′. moved f b′ l′) (benchStep G b l)
+      (step-says G (ended G t0 (b .taken)) (length (b .used)) (timeOf G t0 (b .taken)) (l .draws) (l .noise) (l .room) (l .slots))
+
+  module _ (L : Laws G) (o : G .Value) where
+    -- the machine wrote one sample for each noise pair and place in output, and one record for each slot
+    pub record Counted (l : Lent G) (r : Ran G o) : Type 0 where
+      pub noise : length (l .noise) ≡ length (r .samples) + length (r .rest .noise)
+      pub room : l .room ≡ length (r .samples) + r .rest .room
+      pub slots : l .slots ≡ length (r .records) + r .rest .slots
+      pub lines : AllOf recordBytes (r .records)
+
+    module _ (z : State G o) (l : Lent G) (go : State G o → Lent G → Ran G o) (ih : (z′ : State G o) (l′ : Lent G) → Counted l′ (go z′ l′)) where
+      noted-counted : (t : Time) (d : Draw) (k : Kind) (l′ : Lent G) (r : Ran G o) → Takes G (z .over) (z .written) (z .time) l d k l′ → Counted l′ r → Counted l (noted G o t d k r)
+      noted-counted t d ignored l′ r f m = record
+          { noise = omega (arith, m .noise, ap length (f .noise)); room = omega (arith, m .room, f .room); slots = omega (arith, m .slots, f .slots); lines = m .lines }
+      noted-counted t d ends l′ r f m = record
+          { noise = omega (arith, m .noise, ap length (f .noise)); room = omega (arith, m .room, f .room); slots = omega (arith, m .slots, f .slots); lines = m .lines }
+      noted-counted t d (reply s) l′ r f m = record {
+        noise = omega (arith, m .noise, ap length (f .noise));
+        room = omega (arith, m .room, f .room);
+        slots = omega (arith, m .slots, f .slots);
+        lines = (L .entry-length t d s (length (adds t d s)), m .lines);
+      }
+
+      counted-on : (c : Step G) → Says G (z .over) (z .written) (z .time) l c → Counted l (machineOn G o go z l c)
+      counted-on (halt s) f = record { noise = omega arith; room = omega arith; slots = omega arith; lines = tt }
+      counted-on (drain v l′) f =
+          let m = ih (wrote G o z (z .mark)) l′ in
+          record { noise = omega (arith, m .noise, ap length (f .noise)); room = omega (arith, m .room, f .room); slots = omega (arith, m .slots, f .slots); lines = m .lines }
+      counted-on (due t v l′) f =
+          let m = ih (wrote G o z (later G (z .mark) t)) l′ in
+          record { noise = omega (arith, m .noise, ap length (f .noise)); room = omega (arith, m .room, f .room); slots = omega (arith, m .slots, f .slots); lines = m .lines }
+      counted-on (taking d k l′) f = noted-counted (after (z .time) d) d k l′ (go (took G o z d k) l′) f (ih (took G o z d k) l′)
+
+    pub counted : (f : ℕ) (z : State G o) (l : Lent G) → Counted l (machineSteps G o f z l)
+    counted zero z l = record { noise = omega arith; room = omega arith; slots = omega arith; lines = tt }
+    counted (suc f) z l =
+        counted-on z l (λ z′ l′. machineSteps G o f z′ l′) (λ z′ l′. counted f z′ l′) (stateStep G o z l)
+        (step-says G (z .over) (z .written) (z .time) (l .draws) (l .noise) (l .room) (l .slots))

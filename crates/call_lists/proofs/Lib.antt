@@ -1,0 +1,12 @@
+pub mod Machine
+pub mod Plains
+pub mod Ring
+pub mod Says
+pub mod Fuels
+pub mod Reached
+pub mod Marks
+pub mod Loops
+pub mod Flats
+pub mod Counted
+pub mod Reach
+pub mod Demand3

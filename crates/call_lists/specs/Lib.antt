@@ -1,0 +1,5 @@
+pub mod Generator
+pub mod PlainRun
+pub mod PlainBench
+pub mod Laws
+pub mod Demand3
