@@ -10,3 +10,5 @@ pub mod Flats
 pub mod Counted
 pub mod Reach
 pub mod Demand3
+pub mod Batch
+pub mod Stretch

@@ -1,0 +1,132 @@
+-- A stretch of working memory that does not wrap, as flat numbers: what samples written from it are, and what is left of it; and the place of the next sample.
+-- A tight loop over numbers can state its contract by `mixed` and `replicate`. Assumes nothing.
+use mathlib.Core.Bool.{Bool, true, false, cond}
+use mathlib.Core.List.{List, [], _∷_, _++_, append-assoc}
+use mathlib.Core.Path.{_≡_, refl, sym, ap, _∙_}
+use Prim.Native.Nat.{ℕ, zero, suc, _+_, _-_, _*_, _%_, _≤_, _<_}
+use native.Mathlib.Nat.{suc-mod, mod-eq-of-lt, mod-self, add-zero}
+use native.Mathlib.Omega.{arith}
+use lib.Dec.{ltb}
+use lib.ListN.{length, getD, set, take, drop, replicate, length-set, replicate-append-replicate, take-append-drop}
+use lib.Seq.{drop-cons, take-suc-set, take-set-le, drop-set-lt, append-snoc}
+use borrow.Author.Tests.{lt-ltb, le-ltb}
+use Rattle.call_lists.specs.Generator.{Generator, Sample, NoisePair, silence, noisy}
+use Rattle.call_lists.specs.PlainBench.{flatten}
+use Rattle.call_lists.proofs.Machine.{window, rd, wr}
+use Rattle.call_lists.proofs.Ring.{rd-other, length-wr}
+use Rattle.call_lists.proofs.Batch.{written, cleared}
+
+-- the place of the next sample, by a comparison
+pub next-place : (w s : ℕ) → s % w < w → suc s % w ≡ cond (ltb (suc (s % w)) w) (suc (s % w)) 0
+next-place w s h = suc-mod s w ∙ go (ltb (suc (s % w)) w) refl
+  where
+    go : (x : Bool) → ltb (suc (s % w)) w ≡ x → suc (s % w) % w ≡ cond x (suc (s % w)) 0
+    go true e = mod-eq-of-lt (borrow.Author.Tests.ltb-true (suc (s % w)) w e)
+    go false e = ap (λ (n : ℕ). n % w) {x = suc (s % w)} {y = w} (omega (arith, borrow.Author.Tests.ltb-false (suc (s % w)) w e)) ∙ mod-self w
+
+module _ (G : Generator) (o : G .Value) where
+  open Generator G using (Value, nought, plus, scaled)
+
+  -- numbers of memory with their noise
+  abbrev pub mixed : List Value → List Value → List Value
+  mixed [] vs = []
+  mixed (x ∷ xs) [] = []
+  mixed (x ∷ xs) (v ∷ vs) = plus x (scaled v) ∷ mixed xs vs
+
+  -- ---- by place
+  reads : List Value → ℕ → List (NoisePair G) → List (Sample G)
+  reads m p [] = []
+  reads m p (v ∷ vs) = noisy G (rd G o m p) v ∷ reads m (suc p) vs
+
+  reads-wr : (vs : List (NoisePair G)) (m : List Value) (p q : ℕ) (a : Sample G) → p < q → reads (wr G o m p a) q vs ≡ reads m q vs
+  unfolding reads
+  reads-wr [] m p q a h = refl
+  reads-wr (v ∷ vs) m p q a h =
+      ap (λ (x : Sample G). noisy G x v ∷ reads (wr G o m p a) (suc q) vs) (rd-other G o m p q a (λ e. omega arith))
+      ∙ ap (λ (l : List (Sample G)). noisy G (rd G o m q) v ∷ l) (reads-wr vs m p (suc q) a (omega arith))
+
+  -- the next place of a stretch
+  step-place : (w p : ℕ) → w % window G o ≡ p → suc p < window G o → suc w % window G o ≡ suc p
+  step-place w p e h = suc-mod w (window G o) ∙ ap (λ (n : ℕ). suc n % window G o) e ∙ mod-eq-of-lt h
+
+  written-reads : (vs : List (NoisePair G)) (m : List Value) (w p : ℕ) → w % window G o ≡ p → p + length vs ≤ window G o → written G o m w vs ≡ reads m p vs
+  unfolding reads
+  written-reads [] m w p e h = refl
+  written-reads (v ∷ []) m w p e h = ap (λ (n : ℕ). noisy G (rd G o m n) v ∷ []) e
+  written-reads (v ∷ u ∷ vs) m w p e h =
+      ap (λ (n : ℕ). noisy G (rd G o m n) v ∷ written G o (wr G o m n (silence G)) (suc w) (u ∷ vs)) e
+      ∙ ap (λ (l : List (Sample G)). noisy G (rd G o m p) v ∷ l)
+      (written-reads (u ∷ vs) (wr G o m p (silence G)) (suc w) (suc p) (step-place w p e (omega arith)) (omega arith) ∙ reads-wr (u ∷ vs) m p (suc p) (silence G) (omega arith))
+
+  reads-flat : (vs : List (NoisePair G)) (m : List Value) (p : ℕ) → 2 * (p + length vs) ≤ length m → flatten (reads m p vs) ≡ mixed (drop (2 * p) m) (flatten vs)
+  unfolding reads
+  reads-flat [] m p h = sym (no-noise (drop (2 * p) m))
+    where
+      no-noise : (l : List Value) → mixed l [] ≡ []
+      no-noise [] = refl
+      no-noise (x ∷ l) = refl
+  reads-flat (v ∷ vs) m p h =
+      ap (λ (l : List Value). plus (getD m (2 * p) o) (scaled (v .re)) ∷ plus (getD m (2 * p + 1) o) (scaled (v .im)) ∷ l)
+      (reads-flat vs m (suc p) (omega arith) ∙ ap (λ (n : ℕ). mixed (drop n m) (flatten vs)) {x = 2 * suc p} {y = suc (2 * p + 1)} (omega arith))
+      ∙ ap (λ (l : List Value). mixed l (flatten (v ∷ vs))) (sym two)
+    where
+      two : drop (2 * p) m ≡ getD m (2 * p) o ∷ getD m (2 * p + 1) o ∷ drop (suc (2 * p + 1)) m
+      two =
+          drop-cons m (2 * p) o (omega arith)
+          ∙ ap (λ (l : List Value). getD m (2 * p) o ∷ l) (ap (λ (n : ℕ). drop n m) {x = suc (2 * p)} {y = 2 * p + 1} (omega arith) ∙ drop-cons m (2 * p + 1) o (omega arith))
+
+  -- samples of a stretch, as numbers
+  pub written-stretch : (vs : List (NoisePair G)) (m : List Value) (w : ℕ) → w % window G o + length vs ≤ window G o → length m ≡ 2 * window G o
+      → flatten (written G o m w vs) ≡ mixed (drop (2 * (w % window G o)) m) (flatten vs)
+  written-stretch vs m w h f =
+      ap (λ (l : List (Sample G)). flatten l) (written-reads vs m w (w % window G o) refl h) ∙ reads-flat vs m (w % window G o) (omega arith)
+
+  -- ---- what is left
+  blanked : List Value → ℕ → ℕ → List Value
+  blanked m p n = take (2 * p) m ++ (replicate (2 * n) nought ++ drop (2 * p + 2 * n) m)
+
+  blank-one : (m : List Value) (p : ℕ) → 2 * p + 1 < length m → take (suc (2 * p + 1)) (wr G o m p (silence G)) ≡ take (2 * p) m ++ (nought ∷ nought ∷ [])
+  blank-one m p h =
+      take-suc-set (set m (2 * p) nought) (2 * p + 1) nought (omega (arith, length-set m (2 * p) nought))
+      ∙ ap (λ (n : ℕ). take n (set m (2 * p) nought) ++ (nought ∷ [])) {x = 2 * p + 1} {y = suc (2 * p)} (omega arith)
+      ∙ ap (λ (l : List Value). l ++ (nought ∷ [])) (take-suc-set m (2 * p) nought (omega arith))
+      ∙ append-assoc (take (2 * p) m) (nought ∷ []) (nought ∷ [])
+
+  blanked-on : (m : List Value) (p n : ℕ) → 2 * p + 1 < length m → blanked (wr G o m p (silence G)) (suc p) n ≡ blanked m p (suc n)
+  unfolding blanked
+  blanked-on m p n h =
+      ap (λ (k : ℕ). take k m′ ++ (replicate (2 * n) nought ++ drop (2 * suc p + 2 * n) m′)) {x = 2 * suc p} {y = suc (2 * p + 1)} (omega arith)
+      ∙ ap (λ (l : List Value). l ++ (replicate (2 * n) nought ++ drop (2 * suc p + 2 * n) m′)) (blank-one m p h)
+      ∙ append-assoc (take (2 * p) m) (nought ∷ nought ∷ []) (replicate (2 * n) nought ++ drop (2 * suc p + 2 * n) m′)
+      ∙ ap (λ (l : List Value). take (2 * p) m ++ (nought ∷ nought ∷ (replicate (2 * n) nought ++ l))) rest
+      ∙ ap (λ (k : ℕ). take (2 * p) m ++ (replicate k nought ++ drop (2 * p + 2 * suc n) m)) {x = suc (suc (2 * n))} {y = 2 * suc n} (omega arith)
+    where
+      m′ : List Value
+      m′ = wr G o m p (silence G)
+
+      rest : drop (2 * suc p + 2 * n) m′ ≡ drop (2 * p + 2 * suc n) m
+      rest =
+          drop-set-lt (2 * suc p + 2 * n) (set m (2 * p) nought) (2 * p + 1) nought (omega arith)
+          ∙ drop-set-lt (2 * suc p + 2 * n) m (2 * p) nought (omega arith)
+          ∙ ap (λ (k : ℕ). drop k m) {x = 2 * suc p + 2 * n} {y = 2 * p + 2 * suc n} (omega arith)
+
+  cleared-blanked : (n : ℕ) (m : List Value) (w p : ℕ) → w % window G o ≡ p → p + n ≤ window G o → length m ≡ 2 * window G o → cleared G o m w n ≡ blanked m p n
+  unfolding blanked
+  cleared-blanked zero m w p e h f = sym (ap (λ (k : ℕ). take (2 * p) m ++ drop k m) (add-zero (2 * p)) ∙ take-append-drop (2 * p) m)
+  cleared-blanked (suc zero) m w p e h f =
+      ap (λ (i : ℕ). wr G o m i (silence G)) e
+      ∙ sym (ap (λ (k : ℕ). take (2 * suc p) m′ ++ drop k m′) (add-zero (2 * suc p)) ∙ take-append-drop (2 * suc p) m′)
+      ∙ blanked-on m p 0 (omega arith)
+    where
+      m′ : List Value
+      m′ = wr G o m p (silence G)
+  cleared-blanked (suc (suc n)) m w p e h f =
+      ap (λ (i : ℕ). cleared G o (wr G o m i (silence G)) (suc w) (suc n)) e
+      ∙ cleared-blanked (suc n) (wr G o m p (silence G)) (suc w) (suc p) (step-place w p e (omega arith)) (omega arith) (length-wr G o m p (silence G) ∙ f)
+      ∙ blanked-on m p (suc n) (omega arith)
+
+  -- memory after a stretch: its numbers are 0.0, the others as they were
+  pub cleared-stretch : (n : ℕ) (m : List Value) (w : ℕ) → w % window G o + n ≤ window G o → length m ≡ 2 * window G o
+      → cleared G o m w n ≡ take (2 * (w % window G o)) m ++ (replicate (2 * n) nought ++ drop (2 * (w % window G o) + 2 * n) m)
+  unfolding blanked
+  cleared-stretch n m w h f = cleared-blanked n m w (w % window G o) refl h f
