@@ -59,6 +59,10 @@ module _ (G : Generator) (o : G .Value) where
   written m w [] = []
   written m w (v ∷ vs) = noisy G (rd G o m (w % window G o)) v ∷ written (wr G o m (w % window G o) (silence G)) (suc w) vs
 
+  pub length-written : (vs : List (NoisePair G)) (m : List Value) (w : ℕ) → length (written m w vs) ≡ length vs
+  length-written [] m w = refl
+  length-written (v ∷ vs) m w = ap suc (length-written vs (wr G o m (w % window G o) (silence G)) (suc w))
+
   abbrev pub cleared : List Value → ℕ → ℕ → List Value
   cleared m w zero = m
   cleared m w (suc n) = cleared (wr G o m (w % window G o) (silence G)) (suc w) n

@@ -9,7 +9,6 @@ use lib.ListN.{length, length-append}
 use Rattle.call_lists.specs.Generator.{Generator, Sample, NoisePair}
 use Rattle.call_lists.specs.PlainRun.{Kind, ignored, ends, reply, timeOf, ended}
 use Rattle.call_lists.specs.PlainBench.{Lent, Step, halt, drain, due, taking, latest, Bench, Benched, benchStep, benchOn, benchSteps}
-use Rattle.call_lists.specs.Laws.{Laws}
 use Rattle.call_lists.proofs.Machine.{later, State, Ran, stateStep, wrote, sample, took, noted, withSample, machineOn, machineSteps}
 use Rattle.call_lists.proofs.Says.{Says, step-says, Drains, Dues, Takes}
 use Rattle.call_lists.proofs.Flats.{AllOf}
@@ -66,39 +65,53 @@ module _ (G : Generator) where
       moved-on b l (λ b′ l′. benchSteps G f b′ l′) (λ b′ l′. moved f b′ l′) (benchStep G b l)
       (step-says G (ended G t0 (b .taken)) (length (b .used)) (timeOf G t0 (b .taken)) (l .draws) (l .noise) (l .room) (l .slots))
 
-  module _ (L : Laws G) (o : G .Value) where
+  module _ (o : G .Value) where
     -- the machine wrote one sample for each noise pair and place in output, and one record for each slot
     pub record Counted (l : Lent G) (r : Ran G o) : Type 0 where
+      pub draws : length (r .rest .draws) ≤ length (l .draws)
       pub noise : length (l .noise) ≡ length (r .samples) + length (r .rest .noise)
       pub room : l .room ≡ length (r .samples) + r .rest .room
       pub slots : l .slots ≡ length (r .records) + r .rest .slots
-      pub lines : AllOf recordBytes (r .records)
 
+    -- a step that writes no record leaves the counts to what follows; one that takes a reply adds a record
     module _ (z : State G o) (l : Lent G) (go : State G o → Lent G → Ran G o) (ih : (z′ : State G o) (l′ : Lent G) → Counted l′ (go z′ l′)) where
       noted-counted : (t : Time) (d : Draw) (k : Kind) (l′ : Lent G) (r : Ran G o) → Takes G (z .over) (z .written) (z .time) l d k l′ → Counted l′ r → Counted l (noted G o t d k r)
       noted-counted t d ignored l′ r f m = record
-          { noise = omega (arith, m .noise, ap length (f .noise)); room = omega (arith, m .room, f .room); slots = omega (arith, m .slots, f .slots); lines = m .lines }
+          { draws = omega (arith, m .draws, ap length (f .draws)); noise = omega (arith, m .noise, ap length (f .noise)); room = omega (arith, m .room, f .room); slots = omega (arith, m .slots, f .slots) }
       noted-counted t d ends l′ r f m = record
-          { noise = omega (arith, m .noise, ap length (f .noise)); room = omega (arith, m .room, f .room); slots = omega (arith, m .slots, f .slots); lines = m .lines }
-      noted-counted t d (reply s) l′ r f m = record {
-        noise = omega (arith, m .noise, ap length (f .noise));
-        room = omega (arith, m .room, f .room);
-        slots = omega (arith, m .slots, f .slots);
-        lines = (L .entry-length t d s (length (adds t d s)), m .lines);
-      }
+          { draws = omega (arith, m .draws, ap length (f .draws)); noise = omega (arith, m .noise, ap length (f .noise)); room = omega (arith, m .room, f .room); slots = omega (arith, m .slots, f .slots) }
+      noted-counted t d (reply s) l′ r f m = record
+          { draws = omega (arith, m .draws, ap length (f .draws)); noise = omega (arith, m .noise, ap length (f .noise)); room = omega (arith, m .room, f .room); slots = omega (arith, m .slots, f .slots) }
 
       counted-on : (c : Step G) → Says G (z .over) (z .written) (z .time) l c → Counted l (machineOn G o go z l c)
-      counted-on (halt s) f = record { noise = omega arith; room = omega arith; slots = omega arith; lines = tt }
+      counted-on (halt s) f = record { draws = omega arith; noise = omega arith; room = omega arith; slots = omega arith }
       counted-on (drain v l′) f =
           let m = ih (wrote G o z (z .mark)) l′ in
-          record { noise = omega (arith, m .noise, ap length (f .noise)); room = omega (arith, m .room, f .room); slots = omega (arith, m .slots, f .slots); lines = m .lines }
+          record { draws = omega (arith, m .draws, ap length (f .draws)); noise = omega (arith, m .noise, ap length (f .noise)); room = omega (arith, m .room, f .room); slots = omega (arith, m .slots, f .slots) }
       counted-on (due t v l′) f =
           let m = ih (wrote G o z (later G (z .mark) t)) l′ in
-          record { noise = omega (arith, m .noise, ap length (f .noise)); room = omega (arith, m .room, f .room); slots = omega (arith, m .slots, f .slots); lines = m .lines }
+          record { draws = omega (arith, m .draws, ap length (f .draws)); noise = omega (arith, m .noise, ap length (f .noise)); room = omega (arith, m .room, f .room); slots = omega (arith, m .slots, f .slots) }
       counted-on (taking d k l′) f = noted-counted (after (z .time) d) d k l′ (go (took G o z d k) l′) f (ih (took G o z d k) l′)
 
     pub counted : (f : ℕ) (z : State G o) (l : Lent G) → Counted l (machineSteps G o f z l)
-    counted zero z l = record { noise = omega arith; room = omega arith; slots = omega arith; lines = tt }
+    counted zero z l = record { draws = omega arith; noise = omega arith; room = omega arith; slots = omega arith }
     counted (suc f) z l =
         counted-on z l (λ z′ l′. machineSteps G o f z′ l′) (λ z′ l′. counted f z′ l′) (stateStep G o z l)
         (step-says G (z .over) (z .written) (z .time) (l .draws) (l .noise) (l .room) (l .slots))
+
+    -- every record has its length
+    module _ (line : (t : Time) (d : Draw) (s n : ℕ) → length (entry t d s n) ≡ recordBytes) where
+      noted-lines : (t : Time) (d : Draw) (k : Kind) (r : Ran G o) → AllOf recordBytes (r .records) → AllOf recordBytes (noted G o t d k r .records)
+      noted-lines t d ignored r h = h
+      noted-lines t d ends r h = h
+      noted-lines t d (reply s) r h = (line t d s (length (adds t d s)), h)
+
+      lines-on : (z : State G o) (l : Lent G) (go : State G o → Lent G → Ran G o) → ((z′ : State G o) (l′ : Lent G) → AllOf recordBytes (go z′ l′ .records)) → (c : Step G) → AllOf recordBytes (machineOn G o go z l c .records)
+      lines-on z l go ih (halt s) = tt
+      lines-on z l go ih (drain v l′) = ih (wrote G o z (z .mark)) l′
+      lines-on z l go ih (due t v l′) = ih (wrote G o z (later G (z .mark) t)) l′
+      lines-on z l go ih (taking d k l′) = noted-lines (after (z .time) d) d k (go (took G o z d k) l′) (ih (took G o z d k) l′)
+
+      pub lines : (f : ℕ) (z : State G o) (l : Lent G) → AllOf recordBytes (machineSteps G o f z l .records)
+      lines zero z l = tt
+      lines (suc f) z l = lines-on z l (λ z′ l′. machineSteps G o f z′ l′) (λ z′ l′. lines f z′ l′) (stateStep G o z l)

@@ -15,13 +15,13 @@ use Rattle.call_lists.specs.PlainRun.{Reply, timeOf, ended, replies, sam
 use Rattle.call_lists.specs.PlainBench.{Stop, done, outputFull, wantsNoise, wantsDraws, recordsFull, Refusal, wrongLength, wrongDraw, wrongNoise, Answer, refused, ran, pairs, flatten, join, over, Call, Result, drawsOf, orElse, atDraw, wrongLengths, firstFault, firstLoud, jumpsBack, drawRefusal, refusalOf, Lent, lentOf, Bench, Benched, bench0, benchSteps, fuel, counts, Given, resultOf, benchCall, benchRun, benchResults, benchAfter}
 use Rattle.call_lists.specs.Laws.{Laws, AllInRange, NoJump, Accepted}
 use Rattle.call_lists.specs.Demand3.{Prefix, isDone, doneIn, drawsTaken, samplesWritten, noiseUsed, recordsWritten, allSamples, allRecords, reachesDone, allTaken, allUsed, bench, plainOutput, plainLines, Demand3}
-use Rattle.call_lists.proofs.Machine.{State, Ran, opened, machineSteps, machineCall, machineRun, machineResults, machineAfter}
+use Rattle.call_lists.proofs.Machine.{State, Ran, opened, machineSteps, machineCall, machineRun, machineResults, machineAfter, runs}
 use Rattle.call_lists.proofs.Plains.{replies-still, replies-append, samplesFrom-append, length-samplesFrom}
 use Rattle.call_lists.proofs.Reached.{Reached, reached-first, samples-stay}
 use Rattle.call_lists.proofs.Marks.{refusal-alike}
 use Rattle.call_lists.proofs.Loops.{Matches, matches-first, Kept, loop-kept}
 use Rattle.call_lists.proofs.Flats.{length-flatten, flatten-append, pairs-flatten, pairs-after, take-pairs, join-append, AllOf, length-join, take-over}
-use Rattle.call_lists.proofs.Counted.{Moved, moved, Counted, counted}
+use Rattle.call_lists.proofs.Counted.{Moved, moved, Counted, counted, lines}
 use Rattle.call_lists.proofs.Reach.{all-reach}
 
 -- ---- a call that is not refused has its draws in range, and its first does not jump back
@@ -131,7 +131,7 @@ module _ (G : Generator) (L : Laws G) (o : G .Value) where
     records =
         ap (λ (xs : List Byte). plainLines G (b .taken) ++ xs)
         (take-over (recordBytes * (l .slots - rz .rest .slots)) (join (rz .records)) (c .records)
-        (length-join recordBytes (rz .records) (n .lines) ∙ ap (λ (i : ℕ). recordBytes * i) {x = length (rz .records)} {y = l .slots - rz .rest .slots} (omega (arith, n .slots))))
+        (length-join recordBytes (rz .records) (lines G o (L .entry-length) (fuel G l) z l) ∙ ap (λ (i : ℕ). recordBytes * i) {x = length (rz .records)} {y = l .slots - rz .rest .slots} (omega (arith, n .slots))))
         ∙ sym (join-append (plainRecords G (b .taken)) (rz .records))
         ∙ ap (λ (xs : List (List Byte)). join xs) (k .records);
     taken =
@@ -163,8 +163,8 @@ module _ (G : Generator) (L : Laws G) (o : G .Value) where
       m : Moved G b l rb
       m = moved G (fuel G l) b l
 
-      n : Counted G L o l rz
-      n = counted G L o (fuel G l) z l
+      n : Counted G o l rz
+      n = counted G o (fuel G l) z l
 
   -- ---- a list of calls
   record CallsKept (b : Bench G) (cs : List (Call G)) (p : List (Result G)) (b′ : Bench G) (q : List (Result G)) (z′ : State G o) : Type 0 where
@@ -263,10 +263,7 @@ module _ (G : Generator) (L : Laws G) (o : G .Value) where
   take-results (suc n) z (c ∷ cs) = ap (λ (rs : List (Result G)). resultOf G c (machineRun G o z c .0) ∷ rs) (take-results n (machineRun G o z c .1) cs)
 
   -- ---- the claim
-  abbrev pub runs : List (Call G) → List (Result G)
-  runs cs = machineResults G o (opened G o) cs
-
-  kept : (cs : List (Call G)) → CallsKept (bench0 G) cs (benchResults G (bench0 G) cs) (bench G cs) (runs cs) (machineAfter G o (opened G o) cs)
+  kept : (cs : List (Call G)) → CallsKept (bench0 G) cs (benchResults G (bench0 G) cs) (bench G cs) (runs G o cs) (machineAfter G o (opened G o) cs)
   kept cs = calls-kept cs (bench0 G) (opened G o) (reached-first G L) (matches-first G L o)
 
   -- any bench that calls made is reached
@@ -276,13 +273,13 @@ module _ (G : Generator) (L : Laws G) (o : G .Value) where
   none-yet : plainOutput G [] [] ≡ []
   none-yet = rw (take-nil {A = NoisePair G} total)
 
-  all-samples : (cs : List (Call G)) → allSamples G (runs cs) ≡ plainOutput G (bench G cs .taken) (bench G cs .used)
-  all-samples cs = ap (λ (l : List Value). l ++ allSamples G (runs cs)) (sym none-yet) ∙ kept cs .samples
+  all-samples : (cs : List (Call G)) → allSamples G (runs G o cs) ≡ plainOutput G (bench G cs .taken) (bench G cs .used)
+  all-samples cs = ap (λ (l : List Value). l ++ allSamples G (runs G o cs)) (sym none-yet) ∙ kept cs .samples
 
-  all-records : (cs : List (Call G)) → allRecords G (runs cs) ≡ plainLines G (bench G cs .taken)
+  all-records : (cs : List (Call G)) → allRecords G (runs G o cs) ≡ plainLines G (bench G cs .taken)
   all-records cs = kept cs .records
 
-  length-samples : (cs : List (Call G)) → length (allSamples G (runs cs)) ≡ 2 * length (bench G cs .used)
+  length-samples : (cs : List (Call G)) → length (allSamples G (runs G o cs)) ≡ 2 * length (bench G cs .used)
   length-samples cs =
       ap length (all-samples cs)
       ∙ length-flatten (plainSamples G (bench G cs .taken) (bench G cs .used))
@@ -294,7 +291,7 @@ module _ (G : Generator) (L : Laws G) (o : G .Value) where
   same-used : (us ws : List (NoisePair G)) → flatten us ≡ flatten ws → us ≡ ws
   same-used us ws e = sym (pairs-flatten us) ∙ ap (λ (l : List Value). pairs l) e ∙ pairs-flatten ws
 
-  pub demand3 : Demand3 G runs
+  pub demand3 : Demand3 G (runs G o)
   demand3 = record {
     answers = λ cs. kept cs .results;
     taken = λ cs. sym (kept cs .taken);
@@ -312,6 +309,6 @@ module _ (G : Generator) (L : Laws G) (o : G .Value) where
         let taken : bench G cs .taken ≡ bench G cs′ .taken = sym (kept cs .taken) ∙ et ∙ kept cs′ .taken in
         let used : bench G cs .used ≡ bench G cs′ .used = same-used (bench G cs .used) (bench G cs′ .used) (sym (kept cs .used) ∙ eu ∙ kept cs′ .used) in
         (all-samples cs ∙ (λ i. plainOutput G (taken i) (used i)) ∙ sym (all-samples cs′), all-records cs ∙ (λ i. plainLines G (taken i)) ∙ sym (all-records cs′));
-    whole = λ cs e. (kept cs .finished e .0, all-of (length (allSamples G (runs cs))) (length (bench G cs .used)) (length-samples cs) (reached cs .within) (kept cs .finished e .1));
+    whole = λ cs e. (kept cs .finished e .0, all-of (length (allSamples G (runs G o cs))) (length (bench G cs .used)) (length-samples cs) (reached cs .within) (kept cs .finished e .1));
     reach = λ cs. all-reach G L t0 (bench G cs .taken) (L .good-first) (reached cs .in-range);
   }

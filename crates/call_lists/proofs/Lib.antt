@@ -12,3 +12,4 @@ pub mod Reach
 pub mod Demand3
 pub mod Batch
 pub mod Stretch
+pub mod Turns

@@ -114,3 +114,7 @@ module _ (G : Generator) (o : G .Value) where
   abbrev pub machineAfter : State → List (Call G) → State
   machineAfter z [] = z
   machineAfter z (c ∷ cs) = machineAfter (machineRun z c .1) cs
+
+  -- what each call of a list comes to, from what opening left
+  abbrev pub runs : List (Call G) → List (Result G)
+  runs cs = machineResults opened cs
