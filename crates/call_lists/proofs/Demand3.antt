@@ -12,50 +12,18 @@ use lib.Seq.{drop-at, take-at, take-all, take-nil, take-append-add}
 use borrow.Author.Tests.{le-leb}
 use Rattle.call_lists.specs.Generator.{Generator, Sample, NoisePair}
 use Rattle.call_lists.specs.PlainRun.{Reply, timeOf, ended, replies, samplesFrom, plainSamples, plainRecords}
-use Rattle.call_lists.specs.PlainBench.{Stop, done, outputFull, wantsNoise, wantsDraws, recordsFull, Refusal, wrongLength, wrongDraw, wrongNoise, Answer, refused, ran, pairs, flatten, join, over, Call, Result, drawsOf, orElse, atDraw, wrongLengths, firstFault, firstLoud, jumpsBack, drawRefusal, refusalOf, Lent, lentOf, Bench, Benched, bench0, benchSteps, fuel, counts, Given, resultOf, benchCall, benchRun, benchResults, benchAfter}
-use Rattle.call_lists.specs.Laws.{Laws, AllInRange, NoJump, Accepted}
+use Rattle.call_lists.specs.PlainBench.{Stop, done, outputFull, wantsNoise, wantsDraws, recordsFull, Refusal, Answer, refused, ran, pairs, flatten, join, over, Call, Result, drawsOf, refusalOf, Lent, lentOf, Bench, Benched, bench0, benchSteps, fuel, counts, Given, resultOf, benchCall, benchRun, benchResults, benchAfter}
+use Rattle.call_lists.specs.Laws.{Laws, Accepted}
 use Rattle.call_lists.specs.Demand3.{Prefix, isDone, doneIn, drawsTaken, samplesWritten, noiseUsed, recordsWritten, allSamples, allRecords, reachesDone, allTaken, allUsed, bench, plainOutput, plainLines, Demand3}
 use Rattle.call_lists.proofs.Machine.{State, Ran, opened, machineSteps, machineCall, machineRun, machineResults, machineAfter, runs}
 use Rattle.call_lists.proofs.Plains.{replies-still, replies-append, samplesFrom-append, length-samplesFrom}
 use Rattle.call_lists.proofs.Reached.{Reached, reached-first, samples-stay}
+use Rattle.call_lists.proofs.Refusals.{not-refused}
 use Rattle.call_lists.proofs.Marks.{refusal-alike}
 use Rattle.call_lists.proofs.Loops.{Matches, matches-first, Kept, loop-kept}
 use Rattle.call_lists.proofs.Flats.{length-flatten, flatten-append, pairs-flatten, pairs-after, take-pairs, join-append, AllOf, length-join, take-over}
 use Rattle.call_lists.proofs.Counted.{Moved, moved, Counted, counted, lines}
 use Rattle.call_lists.proofs.Reach.{all-reach}
-
--- ---- a call that is not refused has its draws in range, and its first does not jump back
-module _ (G : Generator) where
-  open Generator G using (Draw, Time, after, fault)
-
-  none-of : (p q : Option Refusal) → orElse G p q ≡ none → (p ≡ none) × (q ≡ none)
-  none-of none q e = (refl, e)
-  none-of (some r) q e = let z : _≡_ {A = ℕ} 0 1 = cc in absurd (omega arith)
-
-  no-fault : (k : ℕ) (f : Option ℕ) → atDraw G k f ≡ none → f ≡ none
-  no-fault k none e = refl
-  no-fault k (some f) e = let z : _≡_ {A = ℕ} 0 1 = cc in absurd (omega arith)
-
-  all-in-range : (k : ℕ) (ds : List Draw) → firstFault G k ds ≡ none → AllInRange G ds
-  all-in-range k [] e = tt
-  all-in-range k (d ∷ ds) e =
-      let b = none-of (atDraw G k (fault d)) (firstFault G (suc k) ds) e in
-      (no-fault k (fault d) (b .0), all-in-range (suc k) ds (b .1))
-
-  accepted-draws : (t : Time) (m : Option Time) (ds : List Draw) → drawRefusal G t m ds ≡ none → Accepted G t m ds
-  accepted-draws t m [] e = record { in-range = tt; no-jump = tt }
-  accepted-draws t m (d ∷ ds) e = go (jumpsBack G m (after t d)) refl e
-    where
-      go : (x : Bool) → jumpsBack G m (after t d) ≡ x → cond x (some (wrongDraw 0 0)) (firstFault G 0 (d ∷ ds)) ≡ none → Accepted G t m (d ∷ ds)
-      go true p q = let z : _≡_ {A = ℕ} 0 1 = cc in absurd (omega arith)
-      go false p q = record { in-range = all-in-range 0 (d ∷ ds) q; no-jump = p }
-
-  pub not-refused : (t : Time) (m : Option Time) (c : Call G) → refusalOf G t m c ≡ none → Accepted G t m (lentOf G c .draws)
-  not-refused t m c e = go (wrongLengths G c) e
-    where
-      go : (x : Bool) → cond x (some wrongLength) (orElse G (drawRefusal G t m (drawsOf G (c .draws))) (firstLoud G 0 (c .noise))) ≡ none → Accepted G t m (drawsOf G (c .draws))
-      go true q = let z : _≡_ {A = ℕ} 0 1 = cc in absurd (omega arith)
-      go false q = accepted-draws t m (drawsOf G (c .draws)) (none-of (drawRefusal G t m (drawsOf G (c .draws))) (firstLoud G 0 (c .noise)) q .0)
 
 is-done-eq : (s : Stop) → isDone s ≡ true → s ≡ done
 is-done-eq done e = refl

@@ -3,6 +3,7 @@ pub mod Plains
 pub mod Ring
 pub mod Says
 pub mod Fuels
+pub mod Refusals
 pub mod Reached
 pub mod Marks
 pub mod Loops
