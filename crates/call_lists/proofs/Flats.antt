@@ -24,6 +24,13 @@ module _ {X : Type 0} where
   pairs-flatten [] = refl
   pairs-flatten (a ∷ l) = ap (λ (x : List (Pair X)). a ∷ x) (pairs-flatten l)
 
+  -- numbers of an even count are their pairs
+  pub flatten-pairs : (n : ℕ) (xs : List X) → length xs ≡ 2 * n → flatten (pairs xs) ≡ xs
+  flatten-pairs n [] h = refl
+  flatten-pairs n (x ∷ []) h = absurd (omega arith)
+  flatten-pairs zero (x ∷ y ∷ xs) h = absurd (omega arith)
+  flatten-pairs (suc n) (x ∷ y ∷ xs) h = ap (λ (l : List X). x ∷ y ∷ l) (flatten-pairs n xs (omega arith))
+
   -- pairs as numbers, and any numbers after them
   pub pairs-after : (l : List (Pair X)) (xs : List X) → pairs (flatten l ++ xs) ≡ l ++ pairs xs
   pairs-after [] xs = refl

@@ -14,3 +14,4 @@ pub mod Demand3
 pub mod Batch
 pub mod Stretch
 pub mod Turns
+pub mod Simulated

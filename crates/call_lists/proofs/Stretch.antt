@@ -1,18 +1,18 @@
--- A stretch of working memory that does not wrap, as flat numbers: what samples written from it are, and what is left of it; and the place of the next sample.
+-- Working memory as flat numbers: a reply added place by place, and a stretch that does not wrap: what samples written from it are, and what is left of it.
 -- A tight loop over numbers can state its contract by `mixed` and `replicate`. Assumes nothing.
 use mathlib.Core.Bool.{Bool, true, false, cond}
 use mathlib.Core.List.{List, [], _∷_, _++_, append-assoc}
 use mathlib.Core.Path.{_≡_, refl, sym, ap, _∙_}
 use Prim.Native.Nat.{ℕ, zero, suc, _+_, _-_, _*_, _%_, _≤_, _<_}
-use native.Mathlib.Nat.{suc-mod, mod-eq-of-lt, mod-self, add-zero}
+use native.Mathlib.Nat.{mod-lt, mod-add-mod, suc-mod, mod-eq-of-lt, mod-self, add-zero}
 use native.Mathlib.Omega.{arith}
 use lib.Dec.{ltb}
 use lib.ListN.{length, getD, set, take, drop, replicate, length-set, replicate-append-replicate, take-append-drop}
-use lib.Seq.{drop-cons, take-suc-set, take-set-le, drop-set-lt, append-snoc}
-use borrow.Author.Tests.{lt-ltb, le-ltb}
-use Rattle.call_lists.specs.Generator.{Generator, Sample, NoisePair, silence, noisy}
+use lib.Seq.{getD-set-other, drop-cons, take-suc-set, take-set-le, drop-set-lt, append-snoc}
+use borrow.Author.Tests.{ltb-true, ltb-false}
+use Rattle.call_lists.specs.Generator.{Generator, Sample, NoisePair, silence, add, noisy}
 use Rattle.call_lists.specs.PlainBench.{flatten}
-use Rattle.call_lists.proofs.Machine.{window, rd, wr}
+use Rattle.call_lists.proofs.Machine.{window, rd, wr, put}
 use Rattle.call_lists.proofs.Ring.{rd-other, length-wr}
 use Rattle.call_lists.proofs.Batch.{written, cleared}
 
@@ -21,11 +21,40 @@ pub next-place : (w s : ℕ) → s % w < w → suc s % w ≡ cond (ltb (suc (s %
 next-place w s h = suc-mod s w ∙ go (ltb (suc (s % w)) w) refl
   where
     go : (x : Bool) → ltb (suc (s % w)) w ≡ x → suc (s % w) % w ≡ cond x (suc (s % w)) 0
-    go true e = mod-eq-of-lt (borrow.Author.Tests.ltb-true (suc (s % w)) w e)
-    go false e = ap (λ (n : ℕ). n % w) {x = suc (s % w)} {y = w} (omega (arith, borrow.Author.Tests.ltb-false (suc (s % w)) w e)) ∙ mod-self w
+    go true e = mod-eq-of-lt (ltb-true (suc (s % w)) w e)
+    go false e = ap (λ (n : ℕ). n % w) {x = suc (s % w)} {y = w} (omega (arith, ltb-false (suc (s % w)) w e)) ∙ mod-self w
+
+-- the sample that is a window less a place further on stands at place 0
+pub place-wraps : (w s : ℕ) → s % w < w → (s + (w - s % w)) % w ≡ 0
+place-wraps w s h = sym (mod-add-mod s w (w - s % w)) ∙ ap (λ (n : ℕ). n % w) {x = s % w + (w - s % w)} {y = w} (omega arith) ∙ mod-self w
 
 module _ (G : Generator) (o : G .Value) where
   open Generator G using (Value, nought, plus, scaled)
+
+  -- ---- a reply added, place by place
+  abbrev pub bump : List Value → ℕ → Value → List Value
+  bump m i x = set m i (plus (getD m i o) x)
+
+  -- a sample is added number by number
+  pub bump-two : (m : List Value) (q : ℕ) (x : Sample G) → wr G o m q (add G (rd G o m q) x) ≡ bump (bump m (2 * q) (x .re)) (2 * q + 1) (x .im)
+  bump-two m q x =
+      ap (λ (y : Value). set (set m (2 * q) (plus (getD m (2 * q) o) (x .re))) (2 * q + 1) (plus y (x .im)))
+      (sym (getD-set-other m (2 * q) (2 * q + 1) (plus (getD m (2 * q) o) (x .re)) o (omega arith)))
+
+  -- the place after q, by a comparison
+  abbrev pub nextPlace : ℕ → ℕ
+  nextPlace q = cond (ltb (suc q) (window G o)) (suc q) 0
+
+  abbrev pub putFrom : List Value → ℕ → List (Sample G) → List Value
+  putFrom m q [] = m
+  putFrom m q (x ∷ xs) = putFrom (bump (bump m (2 * q) (x .re)) (2 * q + 1) (x .im)) (nextPlace q) xs
+
+  pub put-from : (xs : List (Sample G)) (m : List Value) (s : ℕ) → 0 < window G o → put G o m s xs ≡ putFrom m (s % window G o) xs
+  put-from [] m s pos = refl
+  put-from (x ∷ xs) m s pos =
+      ap (λ (y : List Value). put G o y (suc s) xs) (bump-two m (s % window G o) x)
+      ∙ put-from xs (bump (bump m (2 * (s % window G o)) (x .re)) (2 * (s % window G o) + 1) (x .im)) (suc s) pos
+      ∙ ap (λ (q : ℕ). putFrom (bump (bump m (2 * (s % window G o)) (x .re)) (2 * (s % window G o) + 1) (x .im)) q xs) (next-place (window G o) s (mod-lt s pos))
 
   -- numbers of memory with their noise
   abbrev pub mixed : List Value → List Value → List Value

@@ -122,10 +122,11 @@ module _ (G : Generator) (o : G .Value) where
     }
 
     -- what the rest of a call comes to
-    abbrev pub restOf : Turn → Ended
+    unfoldable pub restOf : Turn → Ended
     restOf t = finish t (allSteps G o (t .state) (leftOf t))
 
     by-step : (t : Turn) (s : Step G) → stateStep G o (t .state) (leftOf t) ≡ s → restOf t ≡ finish t (machineOn G o (λ z l. allSteps G o z l) (t .state) (leftOf t) s)
+    unfolding restOf
     by-step t s e = ap (λ (r : Ran G o). finish t r) (machine-repeats G o (t .state) (leftOf t) ∙ ap (λ (x : Step G). machineOn G o (λ z l. allSteps G o z l) (t .state) (leftOf t) x) e)
 
     -- ---- stops
@@ -305,6 +306,7 @@ module _ (G : Generator) (o : G .Value) where
 
       -- n samples that are due, written at once
       pub turn-writes : (m : Time) → AreDue t n m → restOf t ≡ restOf (wroteTurn t n m)
+      unfolding restOf
       turn-writes m d = ap (λ (r : Ran G o). finish t r) (steps-written m d) ∙ finish-wrote m (allSteps G o (wroteMany G o (t .state) n m) (leftOf (wroteTurn t n m)))
 
     -- ---- draws
@@ -338,6 +340,7 @@ module _ (G : Generator) (o : G .Value) where
 
       -- Step 4: the draw is taken and ignored
       pub turn-ignores : nextKind t ≡ ignored → restOf t ≡ restOf (tookTurn t ignored (t .lines) (t .records))
+      unfolding restOf
       turn-ignores e = by-step t (taking (drawAt (t .rest)) ignored left) (step-is ignored e refl) ∙ (λ i. record {
         state = r .state;
         taken = taken-one ignored left refl i;
@@ -356,6 +359,7 @@ module _ (G : Generator) (o : G .Value) where
 
       -- Step 4: the draw is taken and ends the run
       pub turn-ends : nextKind t ≡ ends → restOf t ≡ restOf (tookTurn t ends (t .lines) (t .records))
+      unfolding restOf
       turn-ends e = by-step t (taking (drawAt (t .rest)) ends left) (step-is ends e refl) ∙ (λ i. record {
         state = r .state;
         taken = taken-one ends left refl i;
@@ -393,6 +397,7 @@ module _ (G : Generator) (o : G .Value) where
         line = entry (nextTime t) (drawAt (t .rest)) s (length (adds (nextTime t) (drawAt (t .rest)) s))
 
         pub turn-adds : length line ≡ recordBytes → recordBytes * (t .lines + 1) ≤ length (t .records) → restOf t ≡ restOf (tookTurn t (reply s) (t .lines + 1) (laid (recordBytes * t .lines) line (t .records)))
+        unfolding restOf
         turn-adds len h =
             by-step t (taking (drawAt (t .rest)) (reply s) left)
             (step-is (reply s) is not-due ∙ ap (λ (n : ℕ). step5 G (drawAt (t .rest)) s (drawsOf G (drop drawBytes (t .rest))) (leftOf t .noise) (leftOf t .room) n) one-slot)
@@ -456,6 +461,7 @@ module _ (G : Generator) (o : G .Value) where
         q = omega arith
 
     first-rest : restOf (c .noise) (firstTurn z c) ≡ finish (c .noise) (firstTurn z c) (allSteps G o z l)
+    unfolding restOf
     first-rest = ap (λ (x : Lent G). finish (c .noise) (firstTurn z c) (allSteps G o z x)) first-left
 
     pub call-state : restOf (c .noise) (firstTurn z c) .state ≡ machineCall G o z c none .1
