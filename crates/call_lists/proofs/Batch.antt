@@ -1,24 +1,21 @@
 -- Due samples written at once: n of them are n of document 01's steps. And what a stretch of the ring gives that does not wrap.
 -- Assumes nothing.
 use mathlib.Core.Bool.{Bool, true, false, cond}
-use mathlib.Core.List.{List, [], _∷_, _++_, append-assoc}
-use mathlib.Core.Path.{_≡_, refl, sym, ap, _∙_, subst}
-use Prim.Native.Nat.{ℕ, zero, suc, _+_, _-_, _*_, _%_, _≤_, _<_}
-use native.Mathlib.Nat.{add-zero, mod-eq-of-lt, mod-self, add-mod-right}
+use mathlib.Core.List.{List, [], _∷_, _++_}
+use mathlib.Core.Path.{_≡_, refl, sym, ap, _∙_}
+use Prim.Native.Nat.{ℕ, zero, suc, _+_, _-_, _%_, _≤_, _<_}
 use native.Mathlib.Omega.{arith}
-use lib.Dec.{leb, ltb}
-use lib.ListN.{length, getD, set, take, drop, replicate, length-append, length-drop, length-set}
-use lib.Seq.{drop-cons, set-split, take-suc}
+use lib.ListN.{length}
 use borrow.Author.Tests.{lt-leb, lt-ltb}
-use Rattle.call_lists.specs.Generator.{Generator, Pair, Sample, NoisePair, silence, noisy}
+use Rattle.call_lists.specs.Generator.{Generator, Sample, NoisePair, silence, noisy}
 use Rattle.call_lists.specs.PlainRun.{Kind, reply, kind}
-use Rattle.call_lists.specs.PlainBench.{Stop, Lent, Step, halt, drain, due, taking, write, step4, dueBy, step1, flatten, fuel}
+use Rattle.call_lists.specs.PlainBench.{Lent, Step, drain, due, write, step4, dueBy, step1, fuel}
 use Rattle.call_lists.proofs.Machine.{window, rd, wr, later, State, Ran, stateStep, withSample, wrote, sample, machineOn, machineSteps}
 use Rattle.call_lists.proofs.Fuels.{machine-repeats}
 use Rattle.call_lists.proofs.Ring.{length-wr}
 
 module _ (G : Generator) (o : G .Value) where
-  open Generator G using (Value, Draw, Time, nought, plus, scaled, after, hold, total)
+  open Generator G using (Value, Draw, Time, after, hold, total)
 
   -- the steps of a call until one stops it
   abbrev pub allSteps : State G o → Lent G → Ran G o

@@ -1,20 +1,20 @@
 -- What a call's steps use up of what is lent: the counts of an answer are those of the draws taken, noise used, samples and records.
 -- Assumes nothing.
-use mathlib.Core.Bool.{Bool}
 use mathlib.Core.List.{List, [], _∷_, _++_, append-nil, append-assoc}
+use mathlib.Core.Option.{Option}
 use mathlib.Core.Path.{_≡_, refl, sym, ap, _∙_}
-use Prim.Native.Nat.{ℕ, zero, suc, _+_, _-_, _*_, _≤_, _<_}
+use Prim.Native.Nat.{ℕ, zero, suc, _+_, _-_, _≤_}
 use native.Mathlib.Omega.{arith}
-use lib.ListN.{length, length-append}
-use Rattle.call_lists.specs.Generator.{Generator, Sample, NoisePair}
+use lib.ListN.{length}
+use Rattle.call_lists.specs.Generator.{Generator, NoisePair}
 use Rattle.call_lists.specs.PlainRun.{Kind, ignored, ends, reply, timeOf, ended}
 use Rattle.call_lists.specs.PlainBench.{Lent, Step, halt, drain, due, taking, latest, Bench, Benched, benchStep, benchOn, benchSteps}
-use Rattle.call_lists.proofs.Machine.{later, State, Ran, stateStep, wrote, sample, took, noted, withSample, machineOn, machineSteps}
-use Rattle.call_lists.proofs.Says.{Says, step-says, Drains, Dues, Takes}
+use Rattle.call_lists.proofs.Machine.{later, State, Ran, stateStep, wrote, took, noted, machineOn, machineSteps}
+use Rattle.call_lists.proofs.Says.{Says, step-says, Takes}
 use Rattle.call_lists.proofs.Flats.{AllOf}
 
 module _ (G : Generator) where
-  open Generator G using (Byte, Draw, Time, t0, after, adds, entry, recordBytes)
+  open Generator G using (Draw, Time, t0, after, adds, entry, recordBytes)
 
   -- the bench took the first of the lent draws and used the first of the lent noise
   pub record Moved (b : Bench G) (l : Lent G) (r : Benched G) : Type 0 where
@@ -26,28 +26,23 @@ module _ (G : Generator) where
     pub noise : l .noise ≡ us ++ r .rest .noise
 
   module _ (b : Bench G) (l : Lent G) (go : Bench G → Lent G → Benched G) (ih : (b′ : Bench G) (l′ : Lent G) → Moved b′ l′ (go b′ l′)) where
+    -- a sample written, whatever the latest time is then
+    used-one : (v : NoisePair G) (m : Option Time) (l′ : Lent G) → l′ .draws ≡ l .draws → l .noise ≡ v ∷ l′ .noise → Moved b l (go (record { taken = b .taken; used = b .used ++ (v ∷ []); mark = m }) l′)
+    used-one v m l′ ds vs =
+        let k = ih (record { taken = b .taken; used = b .used ++ (v ∷ []); mark = m }) l′ in
+        record {
+          tk = k .tk;
+          us = v ∷ k .us;
+          taken = k .taken;
+          used = k .used ∙ append-assoc (b .used) (v ∷ []) (k .us);
+          draws = sym ds ∙ k .draws;
+          noise = vs ∙ ap (λ (ws : List (NoisePair G)). v ∷ ws) (k .noise);
+        }
+
     moved-on : (c : Step G) → Says G (ended G t0 (b .taken)) (length (b .used)) (timeOf G t0 (b .taken)) l c → Moved b l (benchOn G go b l c)
     moved-on (halt s) f = record { tk = []; us = []; taken = sym (append-nil (b .taken)); used = sym (append-nil (b .used)); draws = refl; noise = refl }
-    moved-on (drain v l′) f =
-        let m = ih (record { taken = b .taken; used = b .used ++ (v ∷ []); mark = b .mark }) l′ in
-        record {
-          tk = m .tk;
-          us = v ∷ m .us;
-          taken = m .taken;
-          used = m .used ∙ append-assoc (b .used) (v ∷ []) (m .us);
-          draws = sym (f .draws) ∙ m .draws;
-          noise = f .noise ∙ ap (λ (vs : List (NoisePair G)). v ∷ vs) (m .noise);
-        }
-    moved-on (due t v l′) f =
-        let m = ih (record { taken = b .taken; used = b .used ++ (v ∷ []); mark = latest G (b .mark) t }) l′ in
-        record {
-          tk = m .tk;
-          us = v ∷ m .us;
-          taken = m .taken;
-          used = m .used ∙ append-assoc (b .used) (v ∷ []) (m .us);
-          draws = sym (f .draws) ∙ m .draws;
-          noise = f .noise ∙ ap (λ (vs : List (NoisePair G)). v ∷ vs) (m .noise);
-        }
+    moved-on (drain v l′) f = used-one v (b .mark) l′ (f .draws) (f .noise)
+    moved-on (due t v l′) f = used-one v (latest G (b .mark) t) l′ (f .draws) (f .noise)
     moved-on (taking d k l′) f =
         let m = ih (record { taken = b .taken ++ (d ∷ []); used = b .used; mark = b .mark }) l′ in
         record {

@@ -1,18 +1,17 @@
 -- Demand 3 holds of the machine, by `demand3` at the end of this file: its calls keep step with the plain bench's, refused ones too.
 -- Assumes nothing.
-use mathlib.Core.Bool.{Bool, true, false, cond, _||_, true≢false, false≢true}
+use mathlib.Core.Bool.{Bool, true, false, _||_, false≢true}
 use mathlib.Core.List.{List, [], _∷_, _++_, map, map-append, append-nil, append-assoc}
 use mathlib.Core.Option.{Option, none, some}
 use mathlib.Core.Path.{_≡_, refl, sym, ap, _∙_, subst}
-use Prim.Native.Nat.{ℕ, zero, suc, _+_, _-_, _*_, _/_, _≤_, _<_}
+use Prim.Native.Nat.{ℕ, zero, suc, _+_, _-_, _*_, _≤_}
 use native.Mathlib.Omega.{arith}
-use lib.Dec.{leb}
 use lib.ListN.{length, drop, take, length-append}
 use lib.Seq.{drop-at, take-at, take-all, take-nil, take-append-add}
 use borrow.Author.Tests.{le-leb}
 use Rattle.call_lists.specs.Generator.{Generator, Sample, NoisePair}
 use Rattle.call_lists.specs.PlainRun.{Reply, timeOf, ended, replies, samplesFrom, plainSamples, plainRecords}
-use Rattle.call_lists.specs.PlainBench.{Stop, done, outputFull, wantsNoise, wantsDraws, recordsFull, Refusal, Answer, refused, ran, pairs, flatten, join, over, Call, Result, drawsOf, refusalOf, Lent, lentOf, Bench, Benched, bench0, benchSteps, fuel, counts, Given, resultOf, benchCall, benchRun, benchResults, benchAfter}
+use Rattle.call_lists.specs.PlainBench.{Stop, done, outputFull, wantsNoise, wantsDraws, recordsFull, Refusal, pairs, flatten, join, over, Call, Result, drawsOf, refusalOf, Lent, lentOf, Bench, Benched, bench0, benchSteps, fuel, counts, Given, resultOf, benchCall, benchResults, benchAfter}
 use Rattle.call_lists.specs.Laws.{Laws, Accepted}
 use Rattle.call_lists.specs.Demand3.{Prefix, isDone, doneIn, drawsTaken, samplesWritten, noiseUsed, recordsWritten, allSamples, allRecords, reachesDone, allTaken, allUsed, bench, plainOutput, plainLines, Demand3}
 use Rattle.call_lists.proofs.Machine.{State, Ran, opened, machineSteps, machineCall, machineRun, machineResults, machineAfter, runs}
@@ -21,7 +20,7 @@ use Rattle.call_lists.proofs.Reached.{Reached, reached-first, samples-s
 use Rattle.call_lists.proofs.Refusals.{not-refused}
 use Rattle.call_lists.proofs.Marks.{refusal-alike}
 use Rattle.call_lists.proofs.Loops.{Matches, matches-first, Kept, loop-kept}
-use Rattle.call_lists.proofs.Flats.{length-flatten, flatten-append, pairs-flatten, pairs-after, take-pairs, join-append, AllOf, length-join, take-over}
+use Rattle.call_lists.proofs.Flats.{length-flatten, flatten-append, pairs-flatten, pairs-after, take-pairs, join-append, length-join, take-over}
 use Rattle.call_lists.proofs.Counted.{Moved, moved, Counted, counted, lines}
 use Rattle.call_lists.proofs.Reach.{all-reach}
 

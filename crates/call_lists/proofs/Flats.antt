@@ -1,13 +1,13 @@
 -- Flat lists, as they are lent: pairs, joins, draws cut from bytes, and buffers with something written at their start.
 -- Assumes nothing.
-use mathlib.Core.List.{List, [], _∷_, _++_, append-assoc, append-nil}
-use mathlib.Core.Path.{_≡_, refl, sym, ap, _∙_, subst}
+use mathlib.Core.List.{List, [], _∷_, _++_, append-assoc}
+use mathlib.Core.Path.{_≡_, refl, sym, ap, _∙_}
 use Prim.Native.Nat.{ℕ, zero, suc, _+_, _-_, _*_, _/_, _≤_, _<_}
 use native.Mathlib.Nat.{mul-suc, add-div-right, div-eq-of-lt}
 use native.Mathlib.Numerals.{add-one}
 use native.Mathlib.Omega.{arith}
 use lib.ListN.{length, take, drop, length-append, length-drop, drop-of-length-le}
-use lib.Seq.{take-at, drop-at, take-nil, take-append-add, drop-append-add}
+use lib.Seq.{take-at, drop-at}
 use Rattle.call_lists.specs.Generator.{Generator, Pair}
 use Rattle.call_lists.specs.PlainBench.{pairs, flatten, join, over, cut, drawsOf}
 
@@ -87,7 +87,7 @@ module _ {X : Type 0} where
   length-over xs buffer h = length-append xs (drop (length xs) buffer) ∙ omega (arith, length-drop (length xs) buffer)
 
 module _ (G : Generator) where
-  open Generator G using (Byte, Draw, drawBytes, drawAt)
+  open Generator G using (Byte, drawBytes, drawAt)
 
   -- draws from bytes: none where fewer than a draw's bytes are left, else the first and those of the rest
   pub draws-none : (bytes : List Byte) → length bytes < drawBytes → drawsOf G bytes ≡ []

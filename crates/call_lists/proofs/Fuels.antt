@@ -1,18 +1,18 @@
 -- The fuel of a call is enough: the loops go on until a step stops them.
 -- Assumes nothing.
-use mathlib.Core.List.{List, [], _∷_, _++_}
-use mathlib.Core.Path.{_≡_, refl, sym, ap, _∙_}
+use mathlib.Core.List.{[], _∷_, _++_}
+use mathlib.Core.Path.{_≡_, refl, ap}
 use Prim.Native.Nat.{ℕ, zero, suc, _+_, _≤_, _<_}
 use native.Mathlib.Omega.{arith}
 use lib.ListN.{length}
-use Rattle.call_lists.specs.Generator.{Generator, Sample, NoisePair, silence, add, noisy}
-use Rattle.call_lists.specs.PlainRun.{Kind, ignored, ends, reply, timeOf, ended}
+use Rattle.call_lists.specs.Generator.{Generator, NoisePair}
+use Rattle.call_lists.specs.PlainRun.{Kind, timeOf, ended}
 use Rattle.call_lists.specs.PlainBench.{Lent, Step, halt, drain, due, taking, latest, Bench, Benched, benchStep, benchOn, benchSteps, fuel}
 use Rattle.call_lists.proofs.Machine.{later, State, Ran, stateStep, wrote, sample, took, noted, withSample, machineOn, machineSteps}
 use Rattle.call_lists.proofs.Says.{Says, step-says, Drains, Dues, Takes}
 
 module _ (G : Generator) where
-  open Generator G using (Value, Byte, Draw, Time, t0, after)
+  open Generator G using (Value, Draw, Time, t0, after)
 
   less-drain : {e : _} {w : ℕ} (l l′ : Lent G) (v : NoisePair G) → Drains G e w l v l′ → fuel G l′ < fuel G l
   less-drain l l′ v s = omega (arith, s .room, ap length (s .draws))

@@ -1,27 +1,27 @@
 -- A call's loop on the machine keeps step with the bench's, and writes what the plain run has new.
 -- Assumes nothing.
-use mathlib.Core.Bool.{Bool, true, false, cond, true≢false, false≢true}
-use mathlib.Core.List.{List, [], _∷_, _++_, map, append-nil, append-assoc}
-use mathlib.Core.Option.{Option, none, some}
+use mathlib.Core.Bool.{true}
+use mathlib.Core.List.{List, [], _∷_, _++_, append-nil, append-assoc}
+use mathlib.Core.Option.{Option}
 use mathlib.Core.Path.{_≡_, refl, sym, ap, _∙_, subst}
 use Prim.Native.Nat.{ℕ, zero, suc, _+_, _-_, _%_, _≤_, _<_}
 use native.Mathlib.Decide.{decLe}
 use native.Mathlib.Nat.{add-mod-right, mod-lt}
 use native.Mathlib.Omega.{arith}
 use lib.ListN.{length, length-append}
-use Rattle.call_lists.specs.Generator.{Generator, Sample, NoisePair, silence, add, noisy}
-use Rattle.call_lists.specs.PlainRun.{Kind, ignored, ends, reply, Reply, kind, timeOf, endsBy, ended, replyOf, push, replies, addNth, hit, sumFrom, sumAt, samplesFrom, plainSamples, plainRecords}
-use Rattle.call_lists.specs.PlainBench.{Stop, done, wantsDraws, Lent, Step, halt, drain, due, taking, latest, Bench, Benched, bench0, benchStep, benchOn, benchSteps}
-use Rattle.call_lists.proofs.Machine.{window, blank, rd, wr, put, later, State, Ran, opened, stateStep, wrote, sample, took, withSample, noted, machineOn, machineSteps}
-use Rattle.call_lists.specs.Laws.{Laws, Accepted}
-use Rattle.call_lists.proofs.Plains.{hit-before, hit-at, length-samplesFrom}
+use Rattle.call_lists.specs.Generator.{Generator, Sample, NoisePair, silence, noisy}
+use Rattle.call_lists.specs.PlainRun.{Kind, ignored, ends, reply, timeOf, ended, replyOf, replies, addNth, hit, sumAt, plainSamples, plainRecords}
+use Rattle.call_lists.specs.PlainBench.{done, Lent, Step, halt, drain, due, taking, latest, Bench, Benched, bench0, benchStep, benchOn, benchSteps}
+use Rattle.call_lists.proofs.Machine.{window, rd, wr, put, later, State, Ran, opened, stateStep, wrote, sample, took, withSample, noted, machineOn, machineSteps}
+use Rattle.call_lists.specs.Laws.{Laws}
+use Rattle.call_lists.proofs.Plains.{hit-before, hit-at}
 use Rattle.call_lists.proofs.Ring.{Fit, fit-blank, rd-blank, fit-wr, fit-put, rd-back, rd-here, put-ahead, put-at}
-use Rattle.call_lists.proofs.Says.{Halts, Drains, Dues, Takes, Says, step-says, reply-fits}
+use Rattle.call_lists.proofs.Says.{Dues, Takes, Says, step-says, reply-fits}
 use Rattle.call_lists.proofs.Reached.{Reached, Left, samples-more, reached-drain, reached-due, left-drain, left-due, take-time, take-ended, take-sum, left-take, reached-take, take-samples, take-records, take-ahead, good-on, take-short, due-left}
 use Rattle.call_lists.proofs.Marks.{StandsFor, stands-first, stands-later}
 
 module _ (G : Generator) (L : Laws G) (o : G .Value) where
-  open Generator G using (Value, Byte, Draw, Time, t0, after, before, adds, entry, limit, hold, total)
+  open Generator G using (Byte, Draw, Time, t0, after, adds, entry, total)
 
   abbrev w : ℕ
   w = window G o

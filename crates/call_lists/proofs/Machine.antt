@@ -1,13 +1,13 @@
 -- The machine that mirrors the code: working memory of limit + hold samples as a flat list used as a ring, a count of samples written, the time, the end and the latest time.
 -- It is defined on any state. Assumes nothing.
 use mathlib.Core.Bool.{Bool, true, false, cond}
-use mathlib.Core.List.{List, [], _∷_, _++_}
+use mathlib.Core.List.{List, [], _∷_}
 use mathlib.Core.Option.{Option, none, some}
 use Prim.Native.Nat.{ℕ, zero, suc, _+_, _*_, _%_}
 use lib.ListN.{length, getD, set, replicate}
-use Rattle.call_lists.specs.Generator.{Generator, Pair, Sample, NoisePair, silence, add, noisy}
+use Rattle.call_lists.specs.Generator.{Generator, Sample, NoisePair, silence, add, noisy}
 use Rattle.call_lists.specs.PlainRun.{Kind, ignored, ends, reply}
-use Rattle.call_lists.specs.PlainBench.{Stop, done, outputFull, wantsNoise, wantsDraws, recordsFull, Refusal, Call, Result, Lent, lentOf, Step, halt, drain, due, taking, step1, refusalOf, fuel, counts, Given, refusedWith, resultOf}
+use Rattle.call_lists.specs.PlainBench.{Stop, wantsDraws, Refusal, Call, Result, Lent, lentOf, Step, halt, drain, due, taking, step1, refusalOf, fuel, counts, Given, refusedWith, resultOf}
 
 module _ (G : Generator) where
   open Generator G using (Time, before)

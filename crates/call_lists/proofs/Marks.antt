@@ -1,6 +1,6 @@
 -- The machine's latest time, a plain time, stands for the bench's, which may be none: the first time stands for none, since no time is before it.
 -- Assumes nothing.
-use mathlib.Core.Bool.{Bool, true, false, cond, _||_, true≢false, false≢true}
+use mathlib.Core.Bool.{Bool, true, false, cond, true≢false}
 use mathlib.Core.List.{List, [], _∷_}
 use mathlib.Core.Option.{Option, none, some}
 use mathlib.Core.Path.{_≡_, refl, sym, ap, _∙_}
@@ -8,7 +8,7 @@ use Prim.Native.Nat.{ℕ, zero, suc}
 use native.Mathlib.Omega.{arith}
 use Rattle.call_lists.specs.Generator.{Generator}
 use Rattle.call_lists.specs.PlainBench.{Refusal, wrongLength, wrongDraw, Call, drawsOf, wrongLengths, orElse, atDraw, firstFault, firstLoud, jumpsBack, drawRefusal, refusalOf, latest}
-use Rattle.call_lists.specs.Laws.{Laws, NotAfter, GapInRange}
+use Rattle.call_lists.specs.Laws.{Laws, NotAfter}
 use Rattle.call_lists.proofs.Machine.{later}
 
 module _ (G : Generator) (L : Laws G) where

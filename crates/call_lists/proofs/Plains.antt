@@ -1,19 +1,18 @@
 -- Facts of the plain run: what one more draw, and more noise, do to it.
 -- Assumes nothing.
-use mathlib.Core.Bool.{Bool, true, false, cond, true≢false, false≢true}
-use mathlib.Core.List.{List, [], _∷_, _++_, map, append-nil, append-assoc}
-use mathlib.Core.Path.{_≡_, refl, sym, ap, _∙_}
+use mathlib.Core.Bool.{true, false, true≢false, false≢true}
+use mathlib.Core.List.{List, [], _∷_, _++_}
+use mathlib.Core.Path.{_≡_, refl, ap, _∙_}
 use Prim.Native.Nat.{ℕ, zero, suc, _+_, _-_, _≤_, _<_}
 use native.Mathlib.Nat.{le-of-suc-le-suc, not-suc-le-zero}
 use native.Mathlib.Omega.{arith}
-use lib.Dec.{leb}
-use lib.ListN.{length, take}
-use borrow.Author.Tests.{le-leb, lt-leb, leb-true, leb-false}
-use Rattle.call_lists.specs.Generator.{Generator, Start, negative, from, Sample, NoisePair, silence, add, noisy}
-use Rattle.call_lists.specs.PlainRun.{Kind, ignored, ends, reply, Reply, kindOf, kind, timeOf, endsBy, ended, replyOf, push, replies, addNth, hit, sumFrom, sumAt, samplesFrom, plainSamples, plainRecords}
+use lib.ListN.{length}
+use borrow.Author.Tests.{le-leb, lt-leb}
+use Rattle.call_lists.specs.Generator.{Generator, Sample, NoisePair, noisy}
+use Rattle.call_lists.specs.PlainRun.{Kind, ignored, ends, reply, Reply, kind, timeOf, endsBy, ended, replyOf, push, replies, addNth, hit, sumFrom, sumAt, samplesFrom}
 
 module _ (G : Generator) where
-  open Generator G using (Value, Byte, Draw, Time, t0, after, start, adds, entry, limit, total)
+  open Generator G using (Draw, Time, after)
 
   pub time-append : (t : Time) (ds es : List Draw) → timeOf G t (ds ++ es) ≡ timeOf G (timeOf G t ds) es
   time-append t [] es = refl

@@ -2,12 +2,11 @@
 -- Assumes nothing.
 use mathlib.Core.List.{List, [], _∷_}
 use mathlib.Core.Path.{_≡_, refl}
-use Prim.Native.Nat.{ℕ, _+_, _≤_, _<_}
+use Prim.Native.Nat.{ℕ}
 use native.Mathlib.Omega.{arith}
-use lib.ListN.{length}
 use Rattle.call_lists.specs.Generator.{Generator}
 use Rattle.call_lists.specs.PlainRun.{Kind, ignored, ends, reply, kind, replyOf, push, replies}
-use Rattle.call_lists.specs.Laws.{Laws, InRange, AllInRange}
+use Rattle.call_lists.specs.Laws.{Laws, AllInRange}
 use Rattle.call_lists.specs.Demand3.{Reach, AllReach}
 use Rattle.call_lists.proofs.Plains.{hit-before, hit-behind}
 use Rattle.call_lists.proofs.Says.{reply-start}

@@ -1,22 +1,22 @@
 -- What holds of a bench that calls made: draws that it does not refuse start at or after the samples written, and every reply taken ends within the window.
 -- Assumes nothing.
-use mathlib.Core.Bool.{Bool, true, false, cond, true≢false, false≢true}
-use mathlib.Core.List.{List, [], _∷_, _++_, map, map-append, append-nil, append-assoc}
+use mathlib.Core.Bool.{Bool, true, false, cond, true≢false}
+use mathlib.Core.List.{List, [], _∷_, _++_, map, map-append}
 use mathlib.Core.Option.{Option, none, some}
 use mathlib.Core.Path.{_≡_, refl, sym, ap, _∙_, subst}
-use Prim.Native.Nat.{ℕ, zero, suc, _+_, _-_, _≤_, _<_}
+use Prim.Native.Nat.{ℕ, suc, _+_, _-_, _≤_, _<_}
 use native.Mathlib.Omega.{arith}
-use lib.ListN.{length, take, length-append}
+use lib.ListN.{length, length-append}
 use lib.Seq.{take-all}
-use Rattle.call_lists.specs.Generator.{Generator, Start, negative, from, Sample, NoisePair, silence, add, noisy}
-use Rattle.call_lists.specs.PlainRun.{Kind, ignored, ends, reply, Reply, kindOf, kind, timeOf, endsBy, ended, replyOf, push, replies, addNth, hit, sumFrom, sumAt, samplesFrom, plainSamples, plainRecords}
+use Rattle.call_lists.specs.Generator.{Generator, Sample, NoisePair, silence, noisy}
+use Rattle.call_lists.specs.PlainRun.{Kind, ignored, ends, reply, Reply, kind, timeOf, endsBy, ended, replyOf, push, replies, hit, sumFrom, sumAt, samplesFrom, plainSamples, plainRecords}
 use Rattle.call_lists.specs.PlainBench.{Lent, jumpsBack, latest, Bench, bench0}
 use Rattle.call_lists.specs.Laws.{Laws, NotAfter, InRange, GapInRange, AllInRange, NoJump, Accepted}
-use Rattle.call_lists.proofs.Plains.{time-append, ended-still, ended-append, replies-still, replies-append, sum-append, hit-before, hit-behind, samplesFrom-append, samplesFrom-same, length-samplesFrom}
+use Rattle.call_lists.proofs.Plains.{time-append, ended-append, replies-still, replies-append, sum-append, hit-before, hit-behind, samplesFrom-append, samplesFrom-same}
 use Rattle.call_lists.proofs.Says.{Drains, Dues, Takes, reply-fits, reply-start}
 
 module _ (G : Generator) (L : Laws G) where
-  open Generator G using (Value, Byte, Draw, Time, t0, after, before, start, adds, entry, limit, hold, total)
+  open Generator G using (Draw, Time, t0, after, before, start, adds, limit, hold, total)
 
   pub in-range→gap : (d : Draw) → InRange G d → GapInRange G d
   in-range→gap d e f = let z : _≡_ {A = ℕ} 0 1 = cc in omega arith

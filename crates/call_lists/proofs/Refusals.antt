@@ -1,6 +1,6 @@
 -- A run call is refused with a number exactly where the cause of that number is the first: `refused-for` and `refused-if`, at the end.
 -- Assumes nothing.
-use mathlib.Core.Bool.{Bool, true, false, cond, true≢false, false≢true}
+use mathlib.Core.Bool.{Bool, true, false, cond}
 use mathlib.Core.List.{List, [], _∷_}
 use mathlib.Core.Logic.{_⊎_, inl, inr}
 use mathlib.Core.Option.{Option, none, some}
@@ -9,7 +9,7 @@ use Prim.Native.Nat.{ℕ, zero, suc, _+_}
 use native.Mathlib.Omega.{arith}
 use Rattle.call_lists.specs.Generator.{Generator}
 use Rattle.call_lists.specs.PlainBench.{Refusal, wrongLength, wrongDraw, wrongNoise, Call, drawsOf, wrongLengths, orElse, atDraw, firstFault, jumpsBack, drawRefusal, firstLoud, refusalOf, lentOf}
-use Rattle.call_lists.specs.Laws.{InRange, AllInRange, NoJump, Accepted}
+use Rattle.call_lists.specs.Laws.{AllInRange, NoJump, Accepted}
 use Rattle.call_lists.specs.Refusals.{FaultAt, LoudAt, JumpAt, Cause}
 
 module _ (G : Generator) where

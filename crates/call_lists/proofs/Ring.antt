@@ -1,14 +1,13 @@
 -- Working memory as a ring: reads after writes, places of samples less than a window apart differ, and what adding a reply does to each.
 -- Assumes nothing.
-use mathlib.Core.Bool.{Bool, true, false, cond}
-use mathlib.Core.List.{List, [], _∷_, _++_}
+use mathlib.Core.List.{List, [], _∷_}
 use mathlib.Core.Logic.{_≢_}
 use mathlib.Core.Path.{_≡_, refl, sym, ap, _∙_, subst}
 use Prim.Native.Nat.{ℕ, zero, suc, _+_, _-_, _*_, _/_, _%_, _≤_, _<_}
 use native.Mathlib.Decide.{decLe}
 use native.Mathlib.Nat.{mod-lt, div-add-mod', mul-le-mul-right, add-zero}
 use native.Mathlib.Omega.{arith}
-use lib.ListN.{length, getD, set, replicate, length-replicate, length-set, getD-replicate}
+use lib.ListN.{length, set, length-replicate, length-set, getD-replicate}
 use lib.Seq.{getD-set-same, getD-set-other}
 use Rattle.call_lists.specs.Generator.{Generator, Sample, silence, add}
 use Rattle.call_lists.specs.PlainRun.{addNth}

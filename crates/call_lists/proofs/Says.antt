@@ -1,15 +1,15 @@
 -- What a choice of the five steps says of the call and the state.
 -- Assumes nothing.
-use mathlib.Core.Bool.{Bool, true, false, cond, true≢false, false≢true}
-use mathlib.Core.List.{List, [], _∷_, _++_}
-use mathlib.Core.Path.{_≡_, refl, sym, ap, _∙_}
+use mathlib.Core.Bool.{Bool, true, false, cond}
+use mathlib.Core.List.{List, [], _∷_}
+use mathlib.Core.Path.{_≡_, refl, ap}
 use Prim.Native.Nat.{ℕ, zero, suc, _+_, _-_, _≤_, _<_}
 use native.Mathlib.Omega.{arith}
 use lib.Dec.{leb, ltb}
 use borrow.Author.Tests.{leb-true, leb-false, ltb-true, ltb-false}
-use Rattle.call_lists.specs.Generator.{Generator, Start, negative, from, Sample, NoisePair, silence, add, noisy}
+use Rattle.call_lists.specs.Generator.{Generator, Start, negative, from, NoisePair}
 use Rattle.call_lists.specs.PlainRun.{Kind, ignored, ends, reply, kindOf, kind}
-use Rattle.call_lists.specs.PlainBench.{Stop, done, Lent, Step, halt, drain, due, taking, write, step5, step4, dueBy, step2, step1}
+use Rattle.call_lists.specs.PlainBench.{Stop, done, Lent, Step, halt, drain, due, taking, write, step5, step4, dueBy, step1}
 
 module _ (G : Generator) where
   open Generator G using (Draw, Time, after, limit, hold, total)

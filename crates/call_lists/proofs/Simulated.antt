@@ -1,12 +1,12 @@
 -- Demand 3 of anything that does, call by call, what the machine does: `demand3-of`. So it is shown of code from the contract of one run call.
 -- Assumes nothing.
 use mathlib.Core.List.{List, [], _∷_}
-use mathlib.Core.Path.{_≡_, refl, sym, ap, _∙_, subst, fun-ext}
+use mathlib.Core.Path.{_≡_, refl, sym, subst, fun-ext}
 use Rattle.call_lists.specs.Generator.{Generator}
 use Rattle.call_lists.specs.PlainBench.{Call, Result, resultOf}
 use Rattle.call_lists.specs.Laws.{Laws}
 use Rattle.call_lists.specs.Demand3.{Demand3}
-use Rattle.call_lists.proofs.Machine.{State, opened, machineRun, machineResults, runs}
+use Rattle.call_lists.proofs.Machine.{State, opened, machineRun, machineResults}
 use Rattle.call_lists.proofs.Demand3.{demand3}
 
 -- S is what is handed from call to call (state, prototypes, working memory), `call` what a call comes to and hands on, and `Rel` when it stands for a machine's state

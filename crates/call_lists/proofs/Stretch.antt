@@ -7,8 +7,8 @@ use Prim.Native.Nat.{ℕ, zero, suc, _+_, _-_, _*_, _%_, _≤_, _<_}
 use native.Mathlib.Nat.{mod-lt, mod-add-mod, suc-mod, mod-eq-of-lt, mod-self, add-zero}
 use native.Mathlib.Omega.{arith}
 use lib.Dec.{ltb}
-use lib.ListN.{length, getD, set, take, drop, replicate, length-set, replicate-append-replicate, take-append-drop}
-use lib.Seq.{getD-set-other, drop-cons, take-suc-set, take-set-le, drop-set-lt, append-snoc}
+use lib.ListN.{length, getD, set, take, drop, replicate, length-set, take-append-drop}
+use lib.Seq.{getD-set-other, drop-cons, take-suc-set, drop-set-lt}
 use borrow.Author.Tests.{ltb-true, ltb-false}
 use Rattle.call_lists.specs.Generator.{Generator, Sample, NoisePair, silence, add, noisy}
 use Rattle.call_lists.specs.PlainBench.{flatten}

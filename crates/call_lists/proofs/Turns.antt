@@ -1,22 +1,22 @@
 -- A call on flat buffers, turn by turn, as the code goes: `restOf t` is what the rest of a call comes to from a turn t, and each turn of the code's loop leaves it as it is.
 -- The buffers stay whole; the counts say where the next numbers go. No law of the generator is used but the length of a record. Assumes nothing.
 use mathlib.Core.Bool.{Bool, true, false, cond}
-use mathlib.Core.List.{List, [], _∷_, _++_, append-assoc, append-nil}
-use mathlib.Core.Option.{Option, none, some}
+use mathlib.Core.List.{List, [], _∷_, _++_, append-assoc}
+use mathlib.Core.Option.{none}
 use mathlib.Core.Path.{_≡_, refl, sym, ap, _∙_}
 use Prim.Native.Nat.{ℕ, zero, suc, _+_, _-_, _*_, _/_, _≤_, _<_}
-use native.Mathlib.Nat.{le-div-iff-mul-le, div-lt-iff-lt-mul, mul-comm, mul-suc, mul-add, add-assoc}
+use native.Mathlib.Nat.{le-div-iff-mul-le, div-lt-iff-lt-mul, mul-comm, mul-add}
 use native.Mathlib.Omega.{arith}
-use lib.Dec.{leb, ltb}
-use lib.ListN.{length, take, drop, length-append, length-take, length-drop, take-append-drop}
+use lib.Dec.{ltb}
+use lib.ListN.{length, take, drop, length-append, length-drop, take-append-drop}
 use lib.Seq.{take-at, drop-at, drop-drop, length-take-le}
 use borrow.Author.Tests.{le-leb, lt-leb, lt-ltb, le-ltb}
 use Rattle.call_lists.specs.Generator.{Generator, Pair, Sample, NoisePair}
 use Rattle.call_lists.specs.PlainRun.{Kind, ignored, ends, reply, kind}
-use Rattle.call_lists.specs.PlainBench.{Stop, done, outputFull, wantsNoise, wantsDraws, recordsFull, Answer, ran, pairs, flatten, join, over, Call, Result, drawsOf, Lent, lentOf, Step, halt, drain, due, taking, write, step4, step5, dueBy, step1, step2, fuel, resultOf}
-use Rattle.call_lists.proofs.Machine.{later, State, Ran, stateStep, took, noted, withRecord, machineOn, machineSteps, machineCall}
+use Rattle.call_lists.specs.PlainBench.{Stop, done, outputFull, wantsNoise, wantsDraws, recordsFull, Answer, ran, pairs, flatten, join, over, Call, Result, drawsOf, Lent, lentOf, Step, halt, drain, due, taking, write, step4, step5, dueBy, step1, fuel, resultOf}
+use Rattle.call_lists.proofs.Machine.{later, State, Ran, stateStep, took, noted, machineOn, machineCall}
 use Rattle.call_lists.proofs.Fuels.{machine-repeats}
-use Rattle.call_lists.proofs.Flats.{length-flatten, flatten-append, pairs-after, pairs-flatten, pairs-drop, take-pairs, length-pairs, draws-none, draws-cons}
+use Rattle.call_lists.proofs.Flats.{length-flatten, flatten-append, draws-none, draws-cons}
 use Rattle.call_lists.proofs.Counted.{Counted, counted}
 use Rattle.call_lists.proofs.Batch.{allSteps, lentWith, written, length-written, wroteMany, withSamples, drain-many, due-many}
 
@@ -338,43 +338,35 @@ module _ (G : Generator) (o : G .Value) where
       taken-one k l e =
           omega (arith, ap length (draws-cons G (t .rest) pos some-draw), ap length e, counted G o (fuel G l) (took G o (t .state) (drawAt (t .rest)) k) l .draws)
 
-      -- Step 4: the draw is taken and ignored
+      -- a draw that is taken and not recorded
+      not-recorded : (k : Kind) → stateStep G o (t .state) (leftOf t) ≡ taking (drawAt (t .rest)) k (leftOf (tookTurn t k (t .lines) (t .records)))
+          → ((r : Ran G o) → noted G o (nextTime t) (drawAt (t .rest)) k r ≡ r) → restOf t ≡ restOf (tookTurn t k (t .lines) (t .records))
+      unfolding restOf
+      not-recorded k is plain =
+          by-step t (taking (drawAt (t .rest)) k left) is
+          ∙ ap (λ (x : Ran G o). finish t x) (plain r)
+          ∙ (λ i. record {
+            state = r .state;
+            taken = taken-one k left refl i;
+            samples = t .samples + length (r .samples);
+            lines = t .lines + length (r .records);
+            output = laid (2 * t .samples) (flatten (r .samples)) (t .output);
+            records = laid (recordBytes * t .lines) (join (r .records)) (t .records);
+            stop = r .stop;
+          })
+        where
+          left : Lent G
+          left = leftOf (tookTurn t k (t .lines) (t .records))
+
+          r : Ran G o
+          r = allSteps G o (took G o (t .state) (drawAt (t .rest)) k) left
+
+      -- Step 4: the draw is taken and ignored, or is taken and ends the run
       pub turn-ignores : nextKind t ≡ ignored → restOf t ≡ restOf (tookTurn t ignored (t .lines) (t .records))
-      unfolding restOf
-      turn-ignores e = by-step t (taking (drawAt (t .rest)) ignored left) (step-is ignored e refl) ∙ (λ i. record {
-        state = r .state;
-        taken = taken-one ignored left refl i;
-        samples = t .samples + length (r .samples);
-        lines = t .lines + length (r .records);
-        output = laid (2 * t .samples) (flatten (r .samples)) (t .output);
-        records = laid (recordBytes * t .lines) (join (r .records)) (t .records);
-        stop = r .stop;
-      })
-        where
-          left : Lent G
-          left = leftOf (tookTurn t ignored (t .lines) (t .records))
+      turn-ignores e = not-recorded ignored (step-is ignored e refl) (λ r. refl)
 
-          r : Ran G o
-          r = allSteps G o (took G o (t .state) (drawAt (t .rest)) ignored) left
-
-      -- Step 4: the draw is taken and ends the run
       pub turn-ends : nextKind t ≡ ends → restOf t ≡ restOf (tookTurn t ends (t .lines) (t .records))
-      unfolding restOf
-      turn-ends e = by-step t (taking (drawAt (t .rest)) ends left) (step-is ends e refl) ∙ (λ i. record {
-        state = r .state;
-        taken = taken-one ends left refl i;
-        samples = t .samples + length (r .samples);
-        lines = t .lines + length (r .records);
-        output = laid (2 * t .samples) (flatten (r .samples)) (t .output);
-        records = laid (recordBytes * t .lines) (join (r .records)) (t .records);
-        stop = r .stop;
-      })
-        where
-          left : Lent G
-          left = leftOf (tookTurn t ends (t .lines) (t .records))
-
-          r : Ran G o
-          r = allSteps G o (took G o (t .state) (drawAt (t .rest)) ends) left
+      turn-ends e = not-recorded ends (step-is ends e refl) (λ r. refl)
 
       -- Step 5: fewer than a record's bytes left, else the message is added and recorded
       module _ (s : ℕ) (is : nextKind t ≡ reply s) (near : s ≤ t .state .written + hold) (record-pos : 0 < recordBytes) where

@@ -1,14 +1,14 @@
 -- What is asked of a generator for demand 3: order of times, hold-back, count bound, length of a record.
 -- Each is to be proved of the generator at hand. Assumes nothing.
-use mathlib.Core.Bool.{Bool, true, false}
+use mathlib.Core.Bool.{false}
 use mathlib.Core.List.{List, [], _∷_}
 use mathlib.Core.Option.{Option, none, some}
 use mathlib.Core.Logic.{_≢_}
 use mathlib.Core.Path.{_≡_}
 use Prim.Native.Nat.{ℕ, zero, _+_, _≤_, _<_}
 use lib.ListN.{length}
-use Rattle.call_lists.specs.Generator.{Generator, Start, from}
-use Rattle.call_lists.specs.PlainRun.{Kind, reply, kind}
+use Rattle.call_lists.specs.Generator.{Generator, from}
+use Rattle.call_lists.specs.PlainRun.{reply, kind}
 use Rattle.call_lists.specs.PlainBench.{jumpsBack}
 
 module _ (G : Generator) where

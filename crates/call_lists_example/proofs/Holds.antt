@@ -1,15 +1,15 @@
 -- The small generator meets the laws, so demand 3 holds of it.
 -- Assumes nothing.
 use mathlib.Core.Bool.{Bool, true, false, cond}
-use mathlib.Core.List.{List, [], _∷_}
+use mathlib.Core.List.{[]}
 use mathlib.Core.Option.{Option, none, some}
 use mathlib.Core.Path.{_≡_, refl}
 use Prim.Native.Nat.{ℕ, _+_, _-_, _≤_}
 use native.Mathlib.Omega.{arith}
 use lib.Dec.{leb, ltb}
 use borrow.Author.Tests.{ltb-false, le-ltb}
-use Rattle.call_lists.specs.Generator.{Start, negative, from}
-use Rattle.call_lists.specs.PlainRun.{Kind, ends, reply, kindOf}
+use Rattle.call_lists.specs.Generator.{negative, from}
+use Rattle.call_lists.specs.PlainRun.{ends, reply, kindOf}
 use Rattle.call_lists.specs.Laws.{Laws}
 use Rattle.call_lists.specs.Demand3.{Demand3}
 use Rattle.call_lists.proofs.Machine.{runs}

@@ -1,6 +1,6 @@
 -- A small generator: a number of a sample is a list, and to add is to append, so that the order of additions shows. Draws and records have three bytes.
 -- Assumes nothing.
-use mathlib.Core.Bool.{Bool, true, false, cond}
+use mathlib.Core.Bool.{cond}
 use mathlib.Core.List.{List, [], _∷_, _++_}
 use mathlib.Core.Option.{Option, none, some}
 use Prim.Native.Nat.{ℕ, _+_, _-_}

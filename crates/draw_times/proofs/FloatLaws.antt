@@ -1,14 +1,13 @@
 -- Demand 3 for f64 times and f32 samples: what is left to show of draws is that a gap in range is finite and not negative, the hold-back, the count bound and the length of a record.
 -- Assumes nothing.
 use mathlib.Core.Bool.{false}
-use mathlib.Core.List.{List}
 use mathlib.Core.Logic.{_≢_}
-use mathlib.Core.Option.{Option, none, some}
+use mathlib.Core.Option.{none, some}
 use mathlib.Core.Path.{_≡_, refl}
 use Prim.Native.Nat.{ℕ, _+_, _≤_, _<_}
 use lib.Ieee.{Float, binary32, binary64, fits, lt, ofBits}
 use lib.ListN.{length}
-use Rattle.call_lists.specs.Generator.{Generator, from}
+use Rattle.call_lists.specs.Generator.{from}
 use Rattle.call_lists.specs.PlainRun.{reply, kind}
 use Rattle.call_lists.specs.Laws.{Laws}
 use Rattle.call_lists.specs.Demand3.{Demand3}

@@ -1,15 +1,15 @@
 -- Times as f64, no NaN and not negative: their order, and that a gap in range does not take a time back.
 -- Finite gaps may sum to infinity, which is a time too. Assumes nothing.
-use mathlib.Core.Bool.{Bool, true, false, not, cond, _||_, _&&_, true≢false, false≢true}
+use mathlib.Core.Bool.{Bool, true, false, cond, _||_, _&&_, true≢false}
 use mathlib.Core.Path.{_≡_, refl, sym, ap, _∙_, subst}
 use Prim.Native.Nat.{ℕ, zero, suc, _+_, _-_, _*_, _^_, _/_, _%_, _≤_, _<_, compare}
-use native.Mathlib.Nat.{zero-mul, mul-assoc, mul-comm, mul-left-comm, mul-right-comm, eq-of-mul-eq-mul-right, mul-pos, mul-le-mul-right, le-of-eq, lt-of-lt-of-le}
+use native.Mathlib.Nat.{zero-mul, mul-assoc, mul-right-comm, eq-of-mul-eq-mul-right, mul-pos, mul-le-mul-right, le-of-eq, lt-of-lt-of-le}
 use native.Mathlib.Omega.{arith}
-use borrow.Author.Tests.{ltb-true, ltb-false, le-ltb, lt-ltb, eqb-true}
-use lib.Dec.{T, leb, leb→le, ltb, eqb, eqb→eq, ltb→lt}
+use borrow.Author.Tests.{ltb-true, ltb-false, le-ltb, eqb-true}
+use lib.Dec.{T, leb, leb→le, ltb, eqb, ltb→lt}
 use lib.IntN.{ℤ, pos, negsuc}
-use lib.Ieee.{Float, Format, nan, inf, fin, binary64, up, down, lt, le, eq, add, sum, round, units, odd, fits, prec, emax, low, size, nearest, below, level}
-use lib.Ieee.Fits.{add-fits, up-pos, down-pos, core, round-is, and-l, and-r, reach}
+use lib.Ieee.{Float, Format, nan, inf, fin, binary64, up, down, lt, le, eq, add, sum, round, units, odd, fits, prec, emax, low, size, nearest, level}
+use lib.Ieee.Fits.{add-fits, down-pos, core, round-is, and-l, and-r, reach}
 use native.Mathlib.Decide.{decLe}
 use lib.Pow.{pow-lt, pow-pos, pow-add, shl-lt, pow-mono}
 use lib.Ieee.Exact.{HasValue, round-exact}
