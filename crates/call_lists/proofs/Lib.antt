@@ -15,3 +15,4 @@ pub mod Batch
 pub mod Stretch
 pub mod Turns
 pub mod Simulated
+pub mod Plans
