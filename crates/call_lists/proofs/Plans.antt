@@ -6,9 +6,9 @@ use mathlib.Core.Path.{_≡_, refl}
 use Prim.Native.Nat.{ℕ, zero, suc, _+_, _-_, _*_, _/_, _≤_, _<_, min}
 use native.Mathlib.Nat.{mul-add}
 use native.Mathlib.Omega.{arith}
-use lib.Dec.{leb, ltb}
+use lib.Dec.{eqb, leb, ltb}
 use lib.ListN.{length}
-use borrow.Author.Tests.{leb-true, leb-false, ltb-true, ltb-false}
+use borrow.Author.Tests.{eqb-true, eqb-false, leb-true, leb-false, ltb-true, ltb-false}
 use Rattle.call_lists.specs.Generator.{Generator}
 use Rattle.call_lists.specs.PlainRun.{Kind, ignored, ends, reply}
 use Rattle.call_lists.specs.PlainBench.{Stop, done, outputFull, wantsNoise, wantsDraws, recordsFull}
@@ -35,8 +35,7 @@ abbrev pub stopFor : ℕ → Stop
 stopFor room = cond (ltb room 2) outputFull wantsNoise
 
 abbrev pub someOr : {T : Type 0} → (ℕ → Plan T) → ℕ → ℕ → Plan T
-someOr f zero room = stopAt (stopFor room)
-someOr f (suc n) room = f (suc n)
+someOr f n room = cond (eqb n 0) (stopAt (stopFor room)) (f n)
 
 module _ (G : Generator) where
   open Generator G using (Time, drawBytes, recordBytes, hold, total)
@@ -46,8 +45,8 @@ module _ (G : Generator) where
 
   -- a reply by whose start so many samples are due
   abbrev pub planReply : ℕ → Time → ℕ → ℕ → ℕ → ℕ → Plan Time
-  planReply zero time s room noise bytes = cond (ltb bytes recordBytes) (stopAt recordsFull) (addReply time s)
-  planReply (suc n) time s room noise bytes = someOr (λ k. dueMany k time) (batch (suc n) room noise) room
+  planReply n time s room noise bytes =
+      cond (ltb 0 n) (someOr (λ k. dueMany k time) (batch n room noise) room) (cond (ltb bytes recordBytes) (stopAt recordsFull) (addReply time s))
 
   abbrev pub planDraw : ℕ → Time → Kind → ℕ → ℕ → ℕ → Plan Time
   planDraw written time ignored room noise bytes = ignore time
@@ -105,7 +104,7 @@ module _ (G : Generator) (o : G .Value) (noise : List (G .Value)) where
   some-or : (t : Turn G o) (f : ℕ → Plan Time) (n : ℕ) (m : Time) → Within t → 0 < n → ((k : ℕ) → k ≤ n → AreDue G o noise t k m)
       → ((k : ℕ) → 0 < k → k ≤ n → 2 * (t .samples + k) ≤ length (t .output) → 2 * (t .samples + k) ≤ length noise → PlanSays t (f k))
       → PlanSays t (someOr f (batch n (length (t .output) - 2 * t .samples) (length noise - 2 * t .samples)) (length (t .output) - 2 * t .samples))
-  some-or t f n m w pos d h = go (batch n (length (t .output) - 2 * t .samples) (length noise - 2 * t .samples)) refl
+  some-or t f n m w pos d h = go (eqb (batch n (length (t .output) - 2 * t .samples) (length noise - 2 * t .samples)) 0) refl
     where
       stops : (x : Bool) → ltb (length (t .output) - 2 * t .samples) 2 ≡ x → batch n (length (t .output) - 2 * t .samples) (length noise - 2 * t .samples) ≡ 0 → restOf G o noise t ≡ stopped G o t (cond x outputFull wantsNoise)
       stops true e z = turn-output-full G o noise t m (d 1 pos) (omega (arith, ltb-true (length (t .output) - 2 * t .samples) 2 e, w .output-in))
@@ -114,9 +113,15 @@ module _ (G : Generator) (o : G .Value) (noise : List (G .Value)) where
           (omega (arith, ltb-false (length (t .output) - 2 * t .samples) 2 e, w .output-in))
           (omega (arith, ltb-false (length (t .output) - 2 * t .samples) 2 e, w .output-in, w .noise-in))
 
-      go : (k : ℕ) → batch n (length (t .output) - 2 * t .samples) (length noise - 2 * t .samples) ≡ k → PlanSays t (someOr f k (length (t .output) - 2 * t .samples))
-      go zero e = stops (ltb (length (t .output) - 2 * t .samples) 2) refl e
-      go (suc k) e = h (suc k) (omega arith) (omega arith) (omega (arith, w .output-in)) (omega (arith, w .noise-in))
+      go : (x : Bool) → eqb (batch n (length (t .output) - 2 * t .samples) (length noise - 2 * t .samples)) 0 ≡ x
+          → PlanSays t (cond x (stopAt (stopFor (length (t .output) - 2 * t .samples))) (f (batch n (length (t .output) - 2 * t .samples) (length noise - 2 * t .samples))))
+      go true e = stops (ltb (length (t .output) - 2 * t .samples) 2) refl (eqb-true (batch n (length (t .output) - 2 * t .samples) (length noise - 2 * t .samples)) 0 e)
+      go false e =
+          let ne = eqb-false (batch n (length (t .output) - 2 * t .samples) (length noise - 2 * t .samples)) 0 e in
+          h (batch n (length (t .output) - 2 * t .samples) (length noise - 2 * t .samples)) (positive (batch n (length (t .output) - 2 * t .samples) (length noise - 2 * t .samples)) ne) (omega arith) (omega (arith, w .output-in)) (omega (arith, w .noise-in))
+        where
+          positive : (k : ℕ) → (k ≡ 0 → ⊥) → 0 < k
+          positive k ne = omega arith
 
   ended-says : (t : Turn G o) → Within t → t .state .over ≡ true
       → PlanSays t (planEnded G (t .state .written) (length (t .output) - 2 * t .samples) (length noise - 2 * t .samples))
@@ -139,33 +144,34 @@ module _ (G : Generator) (o : G .Value) (noise : List (G .Value)) where
   module _ (draw-pos : 0 < drawBytes) (record-pos : 0 < recordBytes) where
     reply-says : (t : Turn G o) (s : ℕ) → Within t → Taken t (nextTime G o noise t) (reply s) → (n : ℕ) → s - hold - t .state .written ≡ n
         → PlanSays t (planReply G n (nextTime G o noise t) s (length (t .output) - 2 * t .samples) (length noise - 2 * t .samples) (length (t .records) - recordBytes * t .lines))
-    reply-says t s w k zero e = go (ltb (length (t .records) - recordBytes * t .lines) recordBytes) refl
+    reply-says t s w k n e = on (ltb 0 n) refl
       where
-        near : s ≤ t .state .written + hold
-        near = omega arith
-
-        go : (x : Bool) → ltb (length (t .records) - recordBytes * t .lines) recordBytes ≡ x → PlanSays t (cond x (stopAt recordsFull) (addReply (nextTime G o noise t) s))
-        go true p =
+        full : (x : Bool) → ltb (length (t .records) - recordBytes * t .lines) recordBytes ≡ x → s ≤ t .state .written + hold → PlanSays t (cond x (stopAt recordsFull) (addReply (nextTime G o noise t) s))
+        full true p near =
             turn-records-full G o noise t (k .going) draw-pos (k .bytes) s (k .is) near record-pos
             (omega (arith, ltb-true (length (t .records) - recordBytes * t .lines) recordBytes p, w .records-in, mul-add recordBytes (t .lines) 1))
-        go false p = record {
+        full false p near = record {
           taken = k;
           near = near;
           fits = omega (arith, ltb-false (length (t .records) - recordBytes * t .lines) recordBytes p, w .records-in, mul-add recordBytes (t .lines) 1);
         }
-    reply-says t s w k (suc n) e =
-        some-or t (λ j. dueMany j (nextTime G o noise t)) (suc n) (later G (t .state .mark) (nextTime G o noise t)) w (omega arith)
-        (λ j le. by-start s (k .going) draw-pos (k .bytes) (k .is) (omega arith))
-        (λ j jp le ro no. (
-          record {
-            some = jp;
-            output-fits = ro;
-            noise-fits = no;
-            due = by-start s (k .going) draw-pos (k .bytes) (k .is) (omega arith);
-            below = omega (arith, reply-fits G (start (nextTime G o noise t) (drawAt (t .rest))) s (k .is));
-          },
-          refl,
-        ))
+
+        on : (x : Bool) → ltb 0 n ≡ x
+            → PlanSays t (cond x (someOr (λ j. dueMany j (nextTime G o noise t)) (batch n (length (t .output) - 2 * t .samples) (length noise - 2 * t .samples)) (length (t .output) - 2 * t .samples)) (cond (ltb (length (t .records) - recordBytes * t .lines) recordBytes) (stopAt recordsFull) (addReply (nextTime G o noise t) s)))
+        on false p = full (ltb (length (t .records) - recordBytes * t .lines) recordBytes) refl (omega (arith, ltb-false 0 n p))
+        on true p =
+            some-or t (λ j. dueMany j (nextTime G o noise t)) n (later G (t .state .mark) (nextTime G o noise t)) w (ltb-true 0 n p)
+            (λ j le. by-start s (k .going) draw-pos (k .bytes) (k .is) (omega (arith, ltb-true 0 n p)))
+            (λ j jp le ro no. (
+              record {
+                some = jp;
+                output-fits = ro;
+                noise-fits = no;
+                due = by-start s (k .going) draw-pos (k .bytes) (k .is) (omega (arith, ltb-true 0 n p));
+                below = omega (arith, ltb-true 0 n p, reply-fits G (start (nextTime G o noise t) (drawAt (t .rest))) s (k .is));
+              },
+              refl,
+            ))
 
     draw-says : (t : Turn G o) → Within t → t .state .over ≡ false → drawBytes ≤ length (t .rest) → (k : Kind) → nextKind G o noise t ≡ k
         → PlanSays t (planDraw G (t .state .written) (nextTime G o noise t) k (length (t .output) - 2 * t .samples) (length noise - 2 * t .samples) (length (t .records) - recordBytes * t .lines))
