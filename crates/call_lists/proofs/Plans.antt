@@ -8,9 +8,9 @@ use native.Mathlib.Nat.{mul-add}
 use native.Mathlib.Omega.{arith}
 use lib.Dec.{eqb, leb, ltb}
 use lib.ListN.{length}
-use borrow.Author.Tests.{eqb-true, eqb-false, leb-true, leb-false, ltb-true, ltb-false}
-use Rattle.call_lists.specs.Generator.{Generator}
-use Rattle.call_lists.specs.PlainRun.{Kind, ignored, ends, reply}
+use borrow.Author.Tests.{eqb-true, eqb-false, leb-true, leb-false, ltb-true, ltb-false, eq-eqb, ne-eqb, le-leb, lt-leb, lt-ltb, le-ltb}
+use Rattle.call_lists.specs.Generator.{Generator, from}
+use Rattle.call_lists.specs.PlainRun.{Kind, ignored, ends, reply, kindOf}
 use Rattle.call_lists.specs.PlainBench.{Stop, done, outputFull, wantsNoise, wantsDraws, recordsFull}
 use Rattle.call_lists.proofs.Machine.{later}
 use Rattle.call_lists.proofs.Says.{reply-fits}
@@ -57,6 +57,43 @@ module _ (G : Generator) where
   abbrev pub plan : Bool → ℕ → ℕ → Time → Kind → ℕ → ℕ → ℕ → Plan Time
   plan true written rest time k room noise bytes = planEnded written room noise
   plan false written rest time k room noise bytes = cond (ltb rest drawBytes) (stopAt wantsDraws) (planDraw written time k room noise bytes)
+
+-- ---- the choice, test by test, as code meets it
+pub none-written : {T : Type 0} (f : ℕ → Plan T) (n room : ℕ) → n ≡ 0 → someOr f n room ≡ stopAt (stopFor room)
+none-written f n room e = rw (eq-eqb n 0 e)
+
+pub some-written : {T : Type 0} (f : ℕ → Plan T) (n room : ℕ) → (n ≡ 0 → ⊥) → someOr f n room ≡ f n
+some-written f n room e = rw (ne-eqb n 0 e)
+
+module _ (G : Generator) where
+  open Generator G using (Time, drawBytes, recordBytes, limit, total)
+
+  pub ended-done : (written room noise : ℕ) → total ≤ written → planEnded G written room noise ≡ stopAt done
+  ended-done written room noise h = rw (le-leb total written h)
+
+  pub ended-more : (written room noise : ℕ) → written < total → planEnded G written room noise ≡ someOr drainMany (batch (total - written) room noise) room
+  ended-more written room noise h = rw (lt-leb total written h)
+
+  pub reply-due : (n : ℕ) (time : Time) (s room noise bytes : ℕ) → 0 < n → planReply G n time s room noise bytes ≡ someOr (λ k. dueMany k time) (batch n room noise) room
+  reply-due n time s room noise bytes h = rw (lt-ltb 0 n h)
+
+  pub reply-full : (n : ℕ) (time : Time) (s room noise bytes : ℕ) → n ≤ 0 → bytes < recordBytes → planReply G n time s room noise bytes ≡ stopAt recordsFull
+  reply-full n time s room noise bytes h b = rw (le-ltb 0 n h, lt-ltb bytes recordBytes b)
+
+  pub reply-added : (n : ℕ) (time : Time) (s room noise bytes : ℕ) → n ≤ 0 → recordBytes ≤ bytes → planReply G n time s room noise bytes ≡ addReply time s
+  reply-added n time s room noise bytes h b = rw (le-ltb 0 n h, le-ltb bytes recordBytes b)
+
+  pub start-ends : (s : ℕ) → total ≤ s + limit → kindOf G (from s) ≡ ends
+  start-ends s h = rw (le-leb total (s + limit) h)
+
+  pub start-replies : (s : ℕ) → s + limit < total → kindOf G (from s) ≡ reply s
+  start-replies s h = rw (lt-leb total (s + limit) h)
+
+  pub wants-draws : (written rest : ℕ) (time : Time) (k : Kind) (room noise bytes : ℕ) → rest < drawBytes → plan G false written rest time k room noise bytes ≡ stopAt wantsDraws
+  wants-draws written rest time k room noise bytes h = rw (lt-ltb rest drawBytes h)
+
+  pub has-draw : (written rest : ℕ) (time : Time) (k : Kind) (room noise bytes : ℕ) → drawBytes ≤ rest → plan G false written rest time k room noise bytes ≡ planDraw G written time k room noise bytes
+  has-draw written rest time k room noise bytes h = rw (le-ltb rest drawBytes h)
 
 module _ (G : Generator) (o : G .Value) (noise : List (G .Value)) where
   open Generator G using (Time, start, entry, adds, drawAt, drawBytes, recordBytes, hold, total)
