@@ -93,6 +93,13 @@ module _ (G : Generator) where
   pub draws-none : (bytes : List Byte) → length bytes < drawBytes → drawsOf G bytes ≡ []
   draws-none bytes h = ap (λ (n : ℕ). cut G n bytes) (div-eq-of-lt h)
 
+  length-cut : (n : ℕ) (bytes : List Byte) → length (cut G n bytes) ≡ n
+  length-cut zero bytes = refl
+  length-cut (suc n) bytes = ap suc (length-cut n (drop drawBytes bytes))
+
+  pub length-draws : (bytes : List Byte) → length (drawsOf G bytes) ≡ length bytes / drawBytes
+  length-draws bytes = length-cut (length bytes / drawBytes) bytes
+
   pub draws-cons : (bytes : List Byte) → 0 < drawBytes → drawBytes ≤ length bytes → drawsOf G bytes ≡ drawAt bytes ∷ drawsOf G (drop drawBytes bytes)
   draws-cons bytes pos h =
       ap (λ (n : ℕ). cut G n bytes) (ap (λ (n : ℕ). n / drawBytes) {x = length bytes} {y = length bytes - drawBytes + drawBytes} (omega arith) ∙ add-div-right (length bytes - drawBytes) pos ∙ add-one ((length bytes - drawBytes) / drawBytes))

@@ -16,3 +16,4 @@ pub mod Stretch
 pub mod Turns
 pub mod Simulated
 pub mod Plans
+pub mod Batched

@@ -258,7 +258,7 @@ module _ (G : Generator) (o : G .Value) where
       room-left : ℕ
       room-left = length (t .output) / 2 - (t .samples + n)
 
-      same-length : (m : Time) → length (wroteTurn t n m .output) ≡ length (t .output)
+      pub same-length : (m : Time) → length (wroteTurn t n m .output) ≡ length (t .output)
       same-length m = length-laid (2 * t .samples) (flatten (nextSamples t n)) (t .output) (omega (arith, length-flatten (nextSamples t n), count))
 
       -- what is left, before and after

@@ -149,7 +149,7 @@ module _ (G : Generator) where
   step4 d ends ds vs room slots = taking d ends (record { draws = ds; noise = vs; room = room; slots = slots })
   step4 d (reply s) ds vs room slots = step5 d s ds vs room slots
 
-  -- the next lent draw does not end the run, and its start minus 32 exceeds the samples written
+  -- the next lent draw does not end the run, and its start minus 32 exceeds the samples written; a negative one never does
   abbrev pub dueBy : ℕ → Kind → Bool
   dueBy written ignored = false
   dueBy written ends = false
