@@ -3,10 +3,10 @@
 use mathlib.Core.List.{List, [], _∷_}
 use mathlib.Core.Path.{_≡_, refl}
 use Prim.Native.Nat.{ℕ}
-use Rattle.call_lists.specs.PlainBench.{Call, Result, refused, ran, wrongLength, wrongDraw, wrongNoise, done, outputFull, wantsNoise, recordsFull, bench0, benchResults}
+use Rattle.call_lists.specs.PlainBench.{Call, Result, refused, ran, wrongLength, wrongDraw, wrongNoise, done, outputFull, wantsNoise, wantsDraws, recordsFull, bench0, benchResults}
 use Rattle.call_lists.specs.Demand3.{bench, allSamples, allRecords, plainOutput, plainLines}
 use Rattle.call_lists.proofs.Machine.{runs}
-use Rattle.call_lists_example.specs.Small.{small}
+use Rattle.call_lists_example.specs.Small.{smallOf, small}
 
 abbrev pub calls : List (Call small)
 calls =
@@ -67,3 +67,18 @@ plain-gives = refl
 
 pub plain-records : plainLines small (bench small calls .taken) ≡ records
 plain-records = refl
+
+-- ---- short runs: a draw at time 1 that starts before sample 0, then one that starts at 1 - 1 = 0
+abbrev pub short : (total : ℕ) → List (Call (smallOf total))
+short total = record { draws = 1 ∷ 2 ∷ 10 ∷ 0 ∷ 1 ∷ 20 ∷ []; noise = (1 ∷ []) ∷ (2 ∷ []) ∷ (3 ∷ []) ∷ (4 ∷ []) ∷ []; output = [] ∷ [] ∷ [] ∷ [] ∷ []; records = 7 ∷ 7 ∷ 7 ∷ [] } ∷ []
+
+-- a run of 0 samples is Done once its end draw is taken
+pub no-samples : runs (smallOf 0) [] (short 0) ≡ record { answer = ran 2 0 0 0 done; output = [] ∷ [] ∷ [] ∷ [] ∷ []; records = 7 ∷ 7 ∷ 7 ∷ [] } ∷ []
+no-samples = refl
+
+-- a run of as many samples as the limit holds no reply at all; one sample more, and it may hold one at 0
+pub at-limit : runs (smallOf 3) [] (short 3) ≡ record { answer = ran 2 2 4 0 outputFull; output = (1 ∷ []) ∷ (2 ∷ []) ∷ (3 ∷ []) ∷ (4 ∷ []) ∷ []; records = 7 ∷ 7 ∷ 7 ∷ [] } ∷ []
+at-limit = refl
+
+pub above-limit : runs (smallOf 4) [] (short 4) ≡ record { answer = ran 2 0 0 1 wantsDraws; output = [] ∷ [] ∷ [] ∷ [] ∷ []; records = 1 ∷ 0 ∷ 3 ∷ [] } ∷ []
+above-limit = refl

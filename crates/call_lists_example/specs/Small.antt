@@ -21,8 +21,9 @@ faultOf d = cond (ltb 50 (d .gap)) (some 0) (cond (ltb 2 (d .delay)) (some 1) no
 abbrev pub startOf : ℕ → ℕ → Start
 startOf t d = cond (leb d t) (from (t - d)) negative
 
-abbrev pub small : Generator
-small = record {
+-- with so many samples in the run
+abbrev pub smallOf : ℕ → Generator
+smallOf total = record {
   Value = List ℕ;
   Byte = ℕ;
   Draw = SmallDraw;
@@ -47,5 +48,8 @@ small = record {
   drawAt = λ bytes. record { gap = getD bytes 0 0; delay = getD bytes 1 0; tone = getD bytes 2 0 };
   limit = 3;
   hold = 2;
-  total = 12;
+  total = total;
 }
+
+abbrev pub small : Generator
+small = smallOf 12
