@@ -17,7 +17,7 @@ use Rattle.call_lists.specs.Demand3.{Prefix, isDone, doneIn, drawsTaken,
 use Rattle.call_lists.proofs.Machine.{State, Ran, opened, machineSteps, machineCall, machineRun, machineResults, machineAfter, runs}
 use Rattle.call_lists.proofs.Plains.{replies-still, replies-append, samplesFrom-append, length-samplesFrom}
 use Rattle.call_lists.proofs.Reached.{Reached, reached-first, samples-stay}
-use Rattle.call_lists.proofs.Refusals.{not-refused}
+use Rattle.call_lists.proofs.Refusals.{accepted-draws, not-refused}
 use Rattle.call_lists.proofs.Marks.{refusal-alike}
 use Rattle.call_lists.proofs.Loops.{Matches, matches-first, Kept, loop-kept}
 use Rattle.call_lists.proofs.Flats.{length-flatten, flatten-append, pairs-flatten, pairs-after, take-pairs, join-append, length-join, take-over}
@@ -268,7 +268,7 @@ module _ (G : Generator) (L : Laws G) (o : G .Value) where
     samples-stay = λ cs n ds vs acc.
         subst (λ (l : List Value). Prefix l (plainOutput G (bench G (take n cs) .taken ++ ds) (pairs (flatten (bench G (take n cs) .used) ++ vs)))) (sym (ap (λ (rs : List (Result G)). allSamples G rs) (take-results n (opened G o) cs) ∙ all-samples (take n cs)))
         (subst (λ (l : List (NoisePair G)). Prefix (plainOutput G (bench G (take n cs) .taken) (bench G (take n cs) .used)) (plainOutput G (bench G (take n cs) .taken ++ ds) l)) (sym (pairs-after (bench G (take n cs) .used) vs))
-        (samples-prefix (bench G (take n cs)) ds (pairs vs) (reached (take n cs)) acc));
+        (samples-prefix (bench G (take n cs)) ds (pairs vs) (reached (take n cs)) (accepted-draws G (timeOf G t0 (bench G (take n cs) .taken)) (bench G (take n cs) .mark) ds acc)));
     records-stay = λ cs n ds.
         subst (λ (l : List Byte). Prefix l (plainLines G (bench G (take n cs) .taken ++ ds))) (sym (ap (λ (rs : List (Result G)). allRecords G rs) (take-results n (opened G o) cs) ∙ all-records (take n cs)))
         (records-prefix (bench G (take n cs) .taken) ds);

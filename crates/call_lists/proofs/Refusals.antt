@@ -82,7 +82,8 @@ module _ (G : Generator) where
       ∙ ap (λ (n : ℕ). some (wrongNoise n)) {x = suc j + i} {y = j + suc i} (omega arith)
 
   -- ---- lent draws, with the jump back
-  accepted-draws : (t : Time) (m : Option Time) (ds : List Draw) → drawRefusal G t m ds ≡ none → Accepted G t m ds
+  -- draws that are not refused are in range and do not jump back, and conversely
+  pub accepted-draws : (t : Time) (m : Option Time) (ds : List Draw) → drawRefusal G t m ds ≡ none → Accepted G t m ds
   accepted-draws t m [] e = record { in-range = tt; no-jump = tt }
   accepted-draws t m (d ∷ ds) e = go (jumpsBack G m (after t d)) refl e
     where
@@ -90,7 +91,7 @@ module _ (G : Generator) where
       go true p q = let z : _≡_ {A = ℕ} 0 1 = cc in absurd (omega arith)
       go false p q = record { in-range = all-in-range 0 (d ∷ ds) q; no-jump = p }
 
-  accepted-if : (t : Time) (m : Option Time) (ds : List Draw) → Accepted G t m ds → drawRefusal G t m ds ≡ none
+  pub accepted-if : (t : Time) (m : Option Time) (ds : List Draw) → Accepted G t m ds → drawRefusal G t m ds ≡ none
   accepted-if t m [] a = refl
   accepted-if t m (d ∷ ds) a = ap (λ (x : Bool). cond x (some (wrongDraw 0 0)) (firstFault G 0 (d ∷ ds))) (a .no-jump) ∙ no-fault-if 0 (d ∷ ds) (a .in-range)
 

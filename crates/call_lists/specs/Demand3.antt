@@ -2,13 +2,13 @@
 -- It speaks of what a caller sees: answers and lent buffers. Assumes nothing.
 use mathlib.Core.Bool.{Bool, true, false, _||_}
 use mathlib.Core.List.{List, [], _∷_, _++_}
+use mathlib.Core.Option.{none}
 use mathlib.Core.Path.{_≡_}
 use Prim.Native.Nat.{ℕ, _+_, _*_, _≤_, _<_}
 use lib.ListN.{length, take}
 use Rattle.call_lists.specs.Generator.{Generator, Sample, NoisePair}
 use Rattle.call_lists.specs.PlainRun.{Reply, hit, timeOf, ended, replies, plainSamples, plainRecords}
-use Rattle.call_lists.specs.PlainBench.{Stop, done, outputFull, wantsNoise, wantsDraws, recordsFull, Answer, refused, ran, pairs, flatten, join, Call, Result, drawsOf, Bench, bench0, benchResults, benchAfter}
-use Rattle.call_lists.specs.Laws.{Accepted}
+use Rattle.call_lists.specs.PlainBench.{Stop, done, outputFull, wantsNoise, wantsDraws, recordsFull, Answer, refused, ran, pairs, flatten, join, Call, Result, drawsOf, drawRefusal, Bench, bench0, benchResults, benchAfter}
 
 -- xs is a first part of ys
 abbrev pub Prefix : {X : Type 0} → List X → List X → Type 0
@@ -102,7 +102,7 @@ module _ (G : Generator) where
     pub records : (cs : List (Call G)) (n : ℕ) → allRecords (take n (run cs)) ≡ plainLines (bench (take n cs) .taken)
     -- (c) and they stay a first part of it when any noise, and any draws in range that the state does not refuse, are put after
     pub samples-stay :
-        (cs : List (Call G)) (n : ℕ) (ds : List Draw) (vs : List Value) → Accepted G (timeOf G t0 (bench (take n cs) .taken)) (bench (take n cs) .mark) ds
+        (cs : List (Call G)) (n : ℕ) (ds : List Draw) (vs : List Value) → drawRefusal G (timeOf G t0 (bench (take n cs) .taken)) (bench (take n cs) .mark) ds ≡ none
         → Prefix (allSamples (take n (run cs))) (plainOutput (bench (take n cs) .taken ++ ds) (pairs (flatten (bench (take n cs) .used) ++ vs)))
     pub records-stay : (cs : List (Call G)) (n : ℕ) (ds : List Draw) → Prefix (allRecords (take n (run cs))) (plainLines (bench (take n cs) .taken ++ ds))
     -- (d) lists alike in draws taken and noise used that reach Done give the same samples and records, as many samples as the duration has
