@@ -7,14 +7,15 @@ use Prim.Native.Nat.{ℕ, zero, suc, _+_, _-_, _*_, _%_, _≤_, _<_}
 use native.Mathlib.Nat.{mod-lt, mod-add-mod, suc-mod, mod-eq-of-lt, mod-self, add-zero}
 use native.Mathlib.Omega.{arith}
 use lib.Dec.{ltb}
-use lib.ListN.{length, getD, set, take, drop, replicate, length-set, take-append-drop}
-use lib.Seq.{getD-set-other, drop-cons, take-suc-set, drop-set-lt}
+use lib.ListN.{length, length-drop, getD, set, take, drop, replicate, length-set, take-append-drop}
+use lib.Seq.{take-add, length-take-le, getD-set-other, drop-cons, take-suc-set, drop-set-lt}
 use borrow.Author.Tests.{ltb-true, ltb-false}
 use Rattle.call_lists.specs.Generator.{Generator, Sample, NoisePair, silence, add, noisy}
-use Rattle.call_lists.specs.PlainBench.{flatten}
+use Rattle.call_lists.specs.PlainBench.{pairs, flatten}
 use Rattle.call_lists.proofs.Machine.{window, rd, wr, put}
+use Rattle.call_lists.proofs.Flats.{flatten-append, flatten-pairs, pairs-after, length-pairs}
 use Rattle.call_lists.proofs.Ring.{rd-other, length-wr}
-use Rattle.call_lists.proofs.Batch.{written, cleared}
+use Rattle.call_lists.proofs.Batch.{written, cleared, written-append, cleared-add, length-cleared}
 
 -- the place of the next sample, by a comparison
 pub next-place : (w s : ℕ) → s % w < w → suc s % w ≡ cond (ltb (suc (s % w)) w) (suc (s % w)) 0
@@ -159,3 +160,46 @@ module _ (G : Generator) (o : G .Value) where
       → cleared G o m w n ≡ take (2 * (w % window G o)) m ++ (replicate (2 * n) nought ++ drop (2 * (w % window G o) + 2 * n) m)
   unfolding blanked
   cleared-stretch n m w h f = cleared-blanked n m w (w % window G o) refl h f
+
+  -- ---- one stretch after another
+  pairs-more : (k j : ℕ) (xs : List Value) → 2 * (k + j) ≤ length xs → pairs (take (2 * (k + j)) xs) ≡ pairs (take (2 * k) xs) ++ pairs (take (2 * j) (drop (2 * k) xs))
+  pairs-more k j xs h =
+      ap (λ (n : ℕ). pairs (take n xs)) {x = 2 * (k + j)} {y = 2 * k + 2 * j} (omega arith)
+      ∙ ap (λ (l : List Value). pairs l) (take-add (2 * k) (2 * j) xs ∙ ap (λ (l : List Value). l ++ take (2 * j) (drop (2 * k) xs)) (sym (flatten-pairs k (take (2 * k) xs) (length-take-le (2 * k) xs (omega arith)))))
+      ∙ pairs-after (pairs (take (2 * k) xs)) (take (2 * j) (drop (2 * k) xs))
+
+  length-first : (k : ℕ) (xs : List Value) → 2 * k ≤ length xs → length (pairs (take (2 * k) xs)) ≡ k
+  length-first k xs h = length-pairs (take (2 * k) xs) ∙ omega (arith, length-take-le (2 * k) xs h)
+
+  -- after k samples with the noise xs, a stretch of j more
+  pub written-more : (k j : ℕ) (xs m : List Value) (w : ℕ) → 2 * (k + j) ≤ length xs → (w + k) % window G o + j ≤ window G o → length m ≡ 2 * window G o
+      → flatten (written G o m w (pairs (take (2 * (k + j)) xs)))
+      ≡ flatten (written G o m w (pairs (take (2 * k) xs))) ++ mixed (drop (2 * ((w + k) % window G o)) (cleared G o m w k)) (take (2 * j) (drop (2 * k) xs))
+  written-more k j xs m w h fits f =
+      ap (λ (vs : List (NoisePair G)). flatten (written G o m w vs)) (pairs-more k j xs h)
+      ∙ ap (λ (l : List (Sample G)). flatten l) (written-append G o first next m w)
+      ∙ flatten-append (written G o m w first) (written G o (cleared G o m w (length first)) (w + length first) next)
+      ∙ ap (λ (n : ℕ). flatten (written G o m w first) ++ flatten (written G o (cleared G o m w n) (w + n) next)) (length-first k xs (omega arith))
+      ∙ ap (λ (l : List Value). flatten (written G o m w first) ++ l) stretch
+    where
+      first : List (NoisePair G)
+      first = pairs (take (2 * k) xs)
+
+      next : List (NoisePair G)
+      next = pairs (take (2 * j) (drop (2 * k) xs))
+
+      more : length (take (2 * j) (drop (2 * k) xs)) ≡ 2 * j
+      more = length-take-le (2 * j) (drop (2 * k) xs) (omega (arith, length-drop (2 * k) xs))
+
+      count : length next ≡ j
+      count = length-pairs (take (2 * j) (drop (2 * k) xs)) ∙ omega (arith, more)
+
+      stretch : flatten (written G o (cleared G o m w k) (w + k) next) ≡ mixed (drop (2 * ((w + k) % window G o)) (cleared G o m w k)) (take (2 * j) (drop (2 * k) xs))
+      stretch =
+          written-stretch next (cleared G o m w k) (w + k) (omega (arith, count)) (length-cleared G o k m w ∙ f)
+          ∙ ap (λ (l : List Value). mixed (drop (2 * ((w + k) % window G o)) (cleared G o m w k)) l) (flatten-pairs j (take (2 * j) (drop (2 * k) xs)) more)
+
+  pub cleared-more : (k j : ℕ) (m : List Value) (w : ℕ) → (w + k) % window G o + j ≤ window G o → length m ≡ 2 * window G o
+      → cleared G o m w (k + j)
+      ≡ take (2 * ((w + k) % window G o)) (cleared G o m w k) ++ (replicate (2 * j) nought ++ drop (2 * ((w + k) % window G o) + 2 * j) (cleared G o m w k))
+  cleared-more k j m w fits f = cleared-add G o k j m w ∙ cleared-stretch j (cleared G o m w k) (w + k) fits (length-cleared G o k m w ∙ f)
