@@ -1,4 +1,4 @@
--- Due samples written at once: n of them are n of document 01's steps. And what a stretch of the ring gives that does not wrap.
+-- Due samples written at once: n of them are n of document 01's steps, by `drain-many` after the end draw and `due-many` before a draw; and a batch cut in two.
 -- Assumes nothing.
 use mathlib.Core.Bool.{Bool, true, false, cond}
 use mathlib.Core.List.{List, [], _∷_, _++_}
@@ -11,7 +11,7 @@ use Rattle.call_lists.specs.Generator.{Generator, Sample, NoisePair, sil
 use Rattle.call_lists.specs.PlainRun.{Kind, reply, kind}
 use Rattle.call_lists.specs.PlainBench.{Lent, Step, drain, due, write, step4, dueBy, step1, fuel}
 use Rattle.call_lists.proofs.Machine.{window, rd, wr, later, State, Ran, stateStep, withSample, wrote, sample, machineOn, machineSteps}
-use Rattle.call_lists.proofs.Fuels.{machine-repeats}
+use Rattle.call_lists.proofs.EnoughFuel.{machine-repeats}
 use Rattle.call_lists.proofs.Ring.{length-wr}
 
 module _ (G : Generator) (o : G .Value) where

@@ -10,8 +10,8 @@ use Rattle.call_lists.specs.Generator.{Generator, NoisePair}
 use Rattle.call_lists.specs.PlainRun.{Kind, ignored, ends, reply, timeOf, ended}
 use Rattle.call_lists.specs.PlainBench.{Lent, Step, halt, drain, due, taking, latest, Bench, Benched, benchStep, benchOn, benchSteps}
 use Rattle.call_lists.proofs.Machine.{later, State, Ran, stateStep, wrote, took, noted, machineOn, machineSteps}
-use Rattle.call_lists.proofs.Says.{Says, step-says, Takes}
-use Rattle.call_lists.proofs.Flats.{AllOf}
+use Rattle.call_lists.proofs.StepFacts.{Says, step-says, Takes}
+use Rattle.call_lists.proofs.FlatLists.{AllOf}
 
 module _ (G : Generator) where
   open Generator G using (Draw, Time, t0, after, adds, entry, recordBytes)

@@ -15,12 +15,12 @@ use Rattle.call_lists.specs.PlainBench.{Stop, done, outputFull, wantsNoi
 use Rattle.call_lists.specs.Laws.{Laws, Accepted}
 use Rattle.call_lists.specs.Demand3.{Prefix, isDone, doneIn, drawsTaken, samplesWritten, noiseUsed, recordsWritten, allSamples, allRecords, reachesDone, allTaken, allUsed, bench, plainOutput, plainLines, Demand3}
 use Rattle.call_lists.proofs.Machine.{State, Ran, opened, machineSteps, machineCall, machineRun, machineResults, machineAfter, runs}
-use Rattle.call_lists.proofs.Plains.{replies-still, replies-append, samplesFrom-append, length-samplesFrom}
+use Rattle.call_lists.proofs.PlainFacts.{replies-still, replies-append, samplesFrom-append, length-samplesFrom}
 use Rattle.call_lists.proofs.Reached.{Reached, reached-first, samples-stay}
 use Rattle.call_lists.proofs.Refusals.{accepted-draws, not-refused}
-use Rattle.call_lists.proofs.Marks.{refusal-alike}
-use Rattle.call_lists.proofs.Loops.{Matches, matches-first, Kept, loop-kept}
-use Rattle.call_lists.proofs.Flats.{length-flatten, flatten-append, pairs-flatten, pairs-after, take-pairs, join-append, length-join, take-over}
+use Rattle.call_lists.proofs.LatestTime.{refusal-alike}
+use Rattle.call_lists.proofs.InStep.{Matches, matches-first, Kept, loop-kept}
+use Rattle.call_lists.proofs.FlatLists.{length-flatten, flatten-append, pairs-flatten, pairs-after, take-pairs, join-append, length-join, take-over}
 use Rattle.call_lists.proofs.Counted.{Moved, moved, Counted, counted, lines}
 use Rattle.call_lists.proofs.Reach.{all-reach}
 

@@ -8,8 +8,8 @@ use Rattle.call_lists.specs.Generator.{Generator}
 use Rattle.call_lists.specs.PlainRun.{Kind, ignored, ends, reply, kind, replyOf, push, replies}
 use Rattle.call_lists.specs.Laws.{Laws, AllInRange}
 use Rattle.call_lists.specs.Demand3.{Reach, AllReach}
-use Rattle.call_lists.proofs.Plains.{hit-before, hit-behind}
-use Rattle.call_lists.proofs.Says.{reply-start}
+use Rattle.call_lists.proofs.PlainFacts.{hit-before, hit-behind}
+use Rattle.call_lists.proofs.StepFacts.{reply-start}
 use Rattle.call_lists.proofs.Reached.{good-on}
 
 module _ (G : Generator) (L : Laws G) where

@@ -12,8 +12,8 @@ use Rattle.call_lists.specs.Generator.{Generator, Sample, NoisePair, sil
 use Rattle.call_lists.specs.PlainRun.{Kind, ignored, ends, reply, Reply, kind, timeOf, endsBy, ended, replyOf, push, replies, hit, sumFrom, sumAt, samplesFrom, plainSamples, plainRecords}
 use Rattle.call_lists.specs.PlainBench.{Lent, jumpsBack, latest, Bench, bench0}
 use Rattle.call_lists.specs.Laws.{Laws, NotAfter, InRange, GapInRange, AllInRange, NoJump, Accepted}
-use Rattle.call_lists.proofs.Plains.{time-append, ended-append, replies-still, replies-append, sum-append, hit-before, hit-behind, samplesFrom-append, samplesFrom-same}
-use Rattle.call_lists.proofs.Says.{Drains, Dues, Takes, reply-fits, reply-start}
+use Rattle.call_lists.proofs.PlainFacts.{time-append, ended-append, replies-still, replies-append, sum-append, hit-before, hit-behind, samplesFrom-append, samplesFrom-same}
+use Rattle.call_lists.proofs.StepFacts.{Drains, Dues, Takes, reply-fits, reply-start}
 
 module _ (G : Generator) (L : Laws G) where
   open Generator G using (Draw, Time, t0, after, before, start, adds, limit, hold, total)

@@ -13,7 +13,7 @@ use borrow.Author.Tests.{ltb-true, ltb-false}
 use Rattle.call_lists.specs.Generator.{Generator, Sample, NoisePair, silence, add, noisy}
 use Rattle.call_lists.specs.PlainBench.{pairs, flatten}
 use Rattle.call_lists.proofs.Machine.{window, rd, wr, put}
-use Rattle.call_lists.proofs.Flats.{flatten-append, flatten-pairs, pairs-after, length-pairs}
+use Rattle.call_lists.proofs.FlatLists.{flatten-append, flatten-pairs, pairs-after, length-pairs}
 use Rattle.call_lists.proofs.Ring.{rd-other, length-wr}
 use Rattle.call_lists.proofs.Batch.{written, cleared, written-append, cleared-add, length-cleared}
 

@@ -15,8 +15,8 @@ use Rattle.call_lists.specs.Generator.{Generator, Pair, Sample, NoisePai
 use Rattle.call_lists.specs.PlainRun.{Kind, ignored, ends, reply, kind}
 use Rattle.call_lists.specs.PlainBench.{Stop, done, outputFull, wantsNoise, wantsDraws, recordsFull, Answer, ran, pairs, flatten, join, over, Call, Result, drawsOf, Lent, lentOf, Step, halt, drain, due, taking, write, step4, step5, dueBy, step1, fuel, resultOf}
 use Rattle.call_lists.proofs.Machine.{later, State, Ran, stateStep, took, noted, machineOn, machineCall}
-use Rattle.call_lists.proofs.Fuels.{machine-repeats}
-use Rattle.call_lists.proofs.Flats.{length-flatten, flatten-append, draws-none, draws-cons}
+use Rattle.call_lists.proofs.EnoughFuel.{machine-repeats}
+use Rattle.call_lists.proofs.FlatLists.{length-flatten, flatten-append, draws-none, draws-cons}
 use Rattle.call_lists.proofs.Counted.{Counted, counted}
 use Rattle.call_lists.proofs.Batch.{allSteps, lentWith, written, length-written, wroteMany, withSamples, drain-many, due-many}
 

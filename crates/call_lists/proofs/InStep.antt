@@ -14,11 +14,11 @@ use Rattle.call_lists.specs.PlainRun.{Kind, ignored, ends, reply, timeOf
 use Rattle.call_lists.specs.PlainBench.{done, Lent, Step, halt, drain, due, taking, latest, Bench, Benched, bench0, benchStep, benchOn, benchSteps}
 use Rattle.call_lists.proofs.Machine.{window, rd, wr, put, later, State, Ran, opened, stateStep, wrote, sample, took, withSample, noted, machineOn, machineSteps}
 use Rattle.call_lists.specs.Laws.{Laws}
-use Rattle.call_lists.proofs.Plains.{hit-before, hit-at}
+use Rattle.call_lists.proofs.PlainFacts.{hit-before, hit-at}
 use Rattle.call_lists.proofs.Ring.{Fit, fit-blank, rd-blank, fit-wr, fit-put, rd-back, rd-here, put-ahead, put-at}
-use Rattle.call_lists.proofs.Says.{Dues, Takes, Says, step-says, reply-fits}
+use Rattle.call_lists.proofs.StepFacts.{Dues, Takes, Says, step-says, reply-fits}
 use Rattle.call_lists.proofs.Reached.{Reached, Left, samples-more, reached-drain, reached-due, left-drain, left-due, take-time, take-ended, take-sum, left-take, reached-take, take-samples, take-records, take-ahead, good-on, take-short, due-left}
-use Rattle.call_lists.proofs.Marks.{StandsFor, stands-first, stands-later}
+use Rattle.call_lists.proofs.LatestTime.{StandsFor, stands-first, stands-later}
 
 module _ (G : Generator) (L : Laws G) (o : G .Value) where
   open Generator G using (Byte, Draw, Time, t0, after, adds, entry, total)

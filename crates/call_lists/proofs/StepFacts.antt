@@ -1,4 +1,4 @@
--- What a choice of the five steps says of the call and the state.
+-- What the five steps come to says of the call and the state.
 -- Assumes nothing.
 use mathlib.Core.Bool.{Bool, true, false, cond}
 use mathlib.Core.List.{List, [], _∷_}
