@@ -9,10 +9,10 @@ use native.Mathlib.Omega.{arith}
 use lib.ListN.{length, drop}
 use Rattle.call_lists.specs.Generator.{Generator}
 use Rattle.call_lists.specs.PlainRun.{Kind, ignored, ends, reply}
-use Rattle.call_lists.specs.PlainBench.{Stop, wantsDraws, Call, drawsOf, resultOf}
+use Rattle.call_lists.specs.PlainBench.{Stop, wantsDraws, Call, resultOf}
 use Rattle.call_lists.proofs.Machine.{later, State, machineCall}
-use Rattle.call_lists.proofs.FlatLists.{draws-cons, length-draws}
-use Rattle.call_lists.proofs.Turns.{laid, length-laid, Turn, Ended, firstTurn, stopped, restOf, nextTime, wroteTurn, tookTurn, same-length, endResult, call-state, call-result}
+use Rattle.call_lists.proofs.FlatLists.{laid, length-laid, draws-cons, length-draws}
+use Rattle.call_lists.proofs.Turns.{Turn, Ended, firstTurn, stopped, restOf, nextTime, wroteTurn, tookTurn, same-length, endResult, call-state, call-result}
 use Rattle.call_lists.proofs.Plans.{Plan, stopAt, drainMany, dueMany, ignore, endRun, addReply, Within, planOf, Written, Taken, PlanSays, plan-says, afterPlan, plan-right}
 
 module _ (G : Generator) (o : G .Value) (noise : List (G .Value)) where

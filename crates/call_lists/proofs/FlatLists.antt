@@ -6,8 +6,8 @@ use Prim.Native.Nat.{ℕ, zero, suc, _+_, _-_, _*_, _/_, _≤_, _<_}
 use native.Mathlib.Nat.{mul-suc, add-div-right, div-eq-of-lt}
 use native.Mathlib.Numerals.{add-one}
 use native.Mathlib.Omega.{arith}
-use lib.ListN.{length, take, drop, length-append, length-drop, drop-of-length-le}
-use lib.Seq.{take-at, drop-at}
+use lib.ListN.{set, getD, replicate, length, take, drop, length-append, length-drop, drop-of-length-le}
+use lib.Seq.{length-take-le, drop-drop, drop-cons, set-at, getD-append-add, getD-drop, take-at, drop-at}
 use Rattle.call_lists.specs.Generator.{Generator, Pair}
 use Rattle.call_lists.specs.PlainBench.{pairs, flatten, join, over, cut, drawsOf}
 
@@ -85,6 +85,82 @@ module _ {X : Type 0} where
 
   pub length-over : (xs buffer : List X) → length xs ≤ length buffer → length (over xs buffer) ≡ length buffer
   length-over xs buffer h = length-append xs (drop (length xs) buffer) ∙ omega (arith, length-drop (length xs) buffer)
+
+-- ---- a buffer with xs written at a place
+abbrev pub laid : {X : Type 0} → ℕ → List X → List X → List X
+laid at xs buffer = take at buffer ++ (xs ++ drop (at + length xs) buffer)
+
+module _ {X : Type 0} where
+  pub length-laid : (at : ℕ) (xs buffer : List X) → at + length xs ≤ length buffer → length (laid at xs buffer) ≡ length buffer
+  length-laid at xs buffer h =
+      length-append (take at buffer) (xs ++ drop (at + length xs) buffer)
+      ∙ omega (arith, length-take-le at buffer (omega arith), length-append xs (drop (at + length xs) buffer), length-drop (at + length xs) buffer)
+
+  -- one part after another is both at once
+  pub laid-laid : (at n : ℕ) (xs ys buffer : List X) → length xs ≡ n → at + n ≤ length buffer → laid (at + n) ys (laid at xs buffer) ≡ laid at (xs ++ ys) buffer
+  laid-laid at n xs ys buffer e h =
+      (λ i. front i ++ (ys ++ back i))
+      ∙ append-assoc (take at buffer) xs (ys ++ drop (at + length (xs ++ ys)) buffer)
+      ∙ ap (λ (l : List X). take at buffer ++ l) (sym (append-assoc xs ys (drop (at + length (xs ++ ys)) buffer)))
+    where
+      len : length (take at buffer ++ xs) ≡ at + n
+      len = length-append (take at buffer) xs ∙ omega (arith, length-take-le at buffer (omega arith))
+
+      whole : laid at xs buffer ≡ (take at buffer ++ xs) ++ drop (at + length xs) buffer
+      whole = sym (append-assoc (take at buffer) xs (drop (at + length xs) buffer))
+
+      front : take (at + n) (laid at xs buffer) ≡ take at buffer ++ xs
+      front = ap (λ (l : List X). take (at + n) l) whole ∙ take-at (take at buffer ++ xs) (drop (at + length xs) buffer) (at + n) len
+
+      back : drop (at + n + length ys) (laid at xs buffer) ≡ drop (at + length (xs ++ ys)) buffer
+      back =
+          sym (drop-drop (length ys) (at + n) (laid at xs buffer))
+          ∙ ap (λ (l : List X). drop (length ys) l) (ap (λ (l : List X). drop (at + n) l) whole ∙ drop-at (take at buffer ++ xs) (drop (at + length xs) buffer) (at + n) len)
+          ∙ drop-drop (length ys) (at + length xs) buffer
+          ∙ ap (λ (k : ℕ). drop k buffer) {x = at + length xs + length ys} {y = at + length (xs ++ ys)} (omega (arith, length-append xs ys))
+
+  -- the first 2n of numbers, in pairs, and the pairs of the rest
+  pub pairs-split : (n : ℕ) (xs : List X) → 2 * n ≤ length xs → (pairs xs ≡ pairs (take (2 * n) xs) ++ pairs (drop (2 * n) xs)) × (length (pairs (take (2 * n) xs)) ≡ n)
+  pairs-split zero xs h = (refl, refl)
+  pairs-split (suc n) [] h = absurd (omega arith)
+  pairs-split (suc n) (x ∷ []) h = absurd (omega arith)
+  pairs-split (suc n) (x ∷ y ∷ xs) h = on (pairs-split n xs (omega arith))
+    where
+      q : suc (suc (2 * n)) ≡ 2 * suc n
+      q = omega arith
+
+      on : (pairs xs ≡ pairs (take (2 * n) xs) ++ pairs (drop (2 * n) xs)) × (length (pairs (take (2 * n) xs)) ≡ n)
+          → (pairs (x ∷ y ∷ xs) ≡ pairs (take (2 * suc n) (x ∷ y ∷ xs)) ++ pairs (drop (2 * suc n) (x ∷ y ∷ xs))) × (length (pairs (take (2 * suc n) (x ∷ y ∷ xs))) ≡ suc n)
+      on r = (
+        ap (λ (l : List (Pair X)). record { re = x; im = y } ∷ l) (r .0) ∙ (λ i. pairs (take (q i) (x ∷ y ∷ xs)) ++ pairs (drop (q i) (x ∷ y ∷ xs))),
+        (λ i. length (pairs (take (sym q i) (x ∷ y ∷ xs)))) ∙ ap suc (r .1),
+      )
+
+  pub pairs-none : (xs : List X) → length xs < 2 → pairs xs ≡ []
+  pairs-none [] h = refl
+  pairs-none (x ∷ []) h = refl
+  pairs-none (x ∷ y ∷ xs) h = absurd (omega arith)
+
+  -- one more after a part
+  pub laid-snoc : (at n : ℕ) (xs buffer : List X) (v : X) → length xs ≡ n → at + n < length buffer → set (laid at xs buffer) (at + n) v ≡ laid at (xs ++ (v ∷ [])) buffer
+  laid-snoc at n xs buffer v e h =
+      ap (λ (l : List X). set l (at + n) v) (sym (append-assoc (take at buffer) xs (drop (at + length xs) buffer)) ∙ ap (λ (l : List X). (take at buffer ++ xs) ++ l) (ap (λ (k : ℕ). drop (at + k) buffer) e ∙ drop-cons buffer (at + n) v h))
+      ∙ set-at (take at buffer ++ xs) (getD buffer (at + n) v) (drop (suc (at + n)) buffer) v (at + n) (length-append (take at buffer) xs ∙ omega (arith, length-take-le at buffer (omega arith)))
+      ∙ append-assoc (take at buffer) xs (v ∷ drop (suc (at + n)) buffer)
+      ∙ ap (λ (l : List X). take at buffer ++ l) (sym (append-assoc xs (v ∷ []) (drop (suc (at + n)) buffer)))
+      ∙ ap (λ (k : ℕ). take at buffer ++ ((xs ++ (v ∷ [])) ++ drop k buffer)) {x = suc (at + n)} {y = at + length (xs ++ (v ∷ []))} (omega (arith, length-append xs (v ∷ [])))
+
+  -- what is beyond a part is as it was
+  pub laid-beyond : (at n k : ℕ) (xs buffer : List X) (d : X) → length xs ≡ n → at + n ≤ length buffer → getD (laid at xs buffer) (at + n + k) d ≡ getD buffer (at + n + k) d
+  laid-beyond at n k xs buffer d e h =
+      ap (λ (l : List X). getD l (at + n + k) d) (sym (append-assoc (take at buffer) xs (drop (at + length xs) buffer)) ∙ ap (λ (i : ℕ). (take at buffer ++ xs) ++ drop (at + i) buffer) e)
+      ∙ ap (λ (i : ℕ). getD ((take at buffer ++ xs) ++ drop (at + n) buffer) (i + k) d) (sym (length-append (take at buffer) xs ∙ omega (arith, length-take-le at buffer (omega arith))))
+      ∙ getD-append-add (take at buffer ++ xs) (drop (at + n) buffer) k d
+      ∙ getD-drop (at + n) buffer k d
+
+  pub replicate-snoc : (n : ℕ) (a : X) → replicate n a ++ (a ∷ []) ≡ replicate (suc n) a
+  replicate-snoc zero a = refl
+  replicate-snoc (suc n) a = ap (λ (l : List X). a ∷ l) (replicate-snoc n a)
 
 module _ (G : Generator) where
   open Generator G using (Byte, drawBytes, drawAt)

@@ -3,7 +3,7 @@
 use mathlib.Core.Bool.{Bool, true, false, cond}
 use mathlib.Core.List.{List}
 use mathlib.Core.Path.{_≡_, refl}
-use Prim.Native.Nat.{ℕ, zero, suc, _+_, _-_, _*_, _/_, _≤_, _<_, min}
+use Prim.Native.Nat.{ℕ, _+_, _-_, _*_, _/_, _≤_, _<_, min}
 use native.Mathlib.Nat.{mul-add}
 use native.Mathlib.Omega.{arith}
 use lib.Dec.{eqb, leb, ltb}
@@ -13,8 +13,9 @@ use Rattle.call_lists.specs.Generator.{Generator, from}
 use Rattle.call_lists.specs.PlainRun.{Kind, ignored, ends, reply, kindOf}
 use Rattle.call_lists.specs.PlainBench.{Stop, done, outputFull, wantsNoise, wantsDraws, recordsFull}
 use Rattle.call_lists.proofs.Machine.{later}
+use Rattle.call_lists.proofs.FlatLists.{laid}
 use Rattle.call_lists.proofs.StepFacts.{reply-fits}
-use Rattle.call_lists.proofs.Turns.{laid, Turn, Ended, stopped, restOf, nextTime, nextKind, AreDue, after-end, by-start, wroteTurn, tookTurn, turn-done, turn-wants-draws, turn-output-full, turn-wants-noise, turn-writes, turn-ignores, turn-ends, turn-records-full, turn-adds}
+use Rattle.call_lists.proofs.Turns.{Turn, Ended, stopped, restOf, nextTime, nextKind, AreDue, after-end, by-start, wroteTurn, tookTurn, turn-done, turn-wants-draws, turn-output-full, turn-wants-noise, turn-writes, turn-ignores, turn-ends, turn-records-full, turn-adds}
 
 -- of times T: a stop; n samples after the end draw; n samples by the start of the next draw, at its time; a draw taken at its time, ignored, ending the run, or a reply from its start on
 pub data Plan (T : Type 0) : Type 0 where

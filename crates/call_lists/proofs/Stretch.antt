@@ -7,13 +7,13 @@ use Prim.Native.Nat.{ℕ, zero, suc, _+_, _-_, _*_, _%_, _≤_, _<_}
 use native.Mathlib.Nat.{mod-lt, mod-add-mod, suc-mod, mod-eq-of-lt, mod-self, add-zero}
 use native.Mathlib.Omega.{arith}
 use lib.Dec.{ltb}
-use lib.ListN.{length, length-drop, getD, set, take, drop, replicate, length-set, take-append-drop}
-use lib.Seq.{take-add, length-take-le, getD-set-other, drop-cons, take-suc-set, drop-set-lt}
+use lib.ListN.{length-replicate, length, length-drop, getD, set, take, drop, replicate, length-set, take-append-drop}
+use lib.Seq.{getD-drop, take-add, length-take-le, getD-set-other, drop-cons, take-suc-set, drop-set-lt}
 use borrow.Author.Tests.{ltb-true, ltb-false}
 use Rattle.call_lists.specs.Generator.{Generator, Sample, NoisePair, silence, add, noisy}
 use Rattle.call_lists.specs.PlainBench.{pairs, flatten}
 use Rattle.call_lists.proofs.Machine.{window, rd, wr, put}
-use Rattle.call_lists.proofs.FlatLists.{flatten-append, flatten-pairs, pairs-after, length-pairs}
+use Rattle.call_lists.proofs.FlatLists.{laid, laid-snoc, laid-beyond, replicate-snoc, flatten-append, flatten-pairs, pairs-after, length-pairs}
 use Rattle.call_lists.proofs.Ring.{rd-other, length-wr}
 use Rattle.call_lists.proofs.Batch.{written, cleared, written-append, cleared-add, length-cleared}
 
@@ -203,3 +203,48 @@ module _ (G : Generator) (o : G .Value) where
       → cleared G o m w (k + j)
       ≡ take (2 * ((w + k) % window G o)) (cleared G o m w k) ++ (replicate (2 * j) nought ++ drop (2 * ((w + k) % window G o) + 2 * j) (cleared G o m w k))
   cleared-more k j m w fits f = cleared-add G o k j m w ∙ cleared-stretch j (cleared G o m w k) (w + k) fits (length-cleared G o k m w ∙ f)
+
+  -- ---- the tight loop: one number more
+  pub length-mixed : (i : ℕ) (xs vs : List Value) → i ≤ length xs → i ≤ length vs → length (mixed xs (take i vs)) ≡ i
+  length-mixed zero [] vs h k = refl
+  length-mixed zero (x ∷ xs) vs h k = refl
+  length-mixed (suc i) [] vs h k = absurd (omega arith)
+  length-mixed (suc i) (x ∷ xs) [] h k = absurd (omega arith)
+  length-mixed (suc i) (x ∷ xs) (v ∷ vs) h k = ap suc (length-mixed i xs vs (omega arith) (omega arith))
+
+  pub mixed-snoc : (i : ℕ) (xs vs : List Value) → i < length xs → i < length vs → mixed xs (take i vs) ++ (plus (getD xs i o) (scaled (getD vs i o)) ∷ []) ≡ mixed xs (take (suc i) vs)
+  mixed-snoc i [] vs h k = absurd (omega arith)
+  mixed-snoc i (x ∷ xs) [] h k = absurd (omega arith)
+  mixed-snoc zero (x ∷ []) (v ∷ vs) h k = refl
+  mixed-snoc zero (x ∷ y ∷ xs) (v ∷ vs) h k = refl
+  mixed-snoc (suc i) (x ∷ xs) (v ∷ vs) h k = ap (λ (l : List Value). plus x (scaled v) ∷ l) (mixed-snoc i xs vs (omega arith) (omega arith))
+
+  -- after i numbers of a stretch from place p on, output laid from `at` on and memory blanked: the next number goes to output, and its place in memory is blanked
+  module _ (m noise output : List Value) (p from at i : ℕ) (in-memory : p + i < length m) (in-noise : from + i < length noise) (in-output : at + i < length output) where
+    pub stretch-output : set (laid at (mixed (drop p m) (take i (drop from noise))) output) (at + i) (plus (getD (laid p (replicate i nought) m) (p + i) o) (scaled (getD noise (from + i) o)))
+        ≡ laid at (mixed (drop p m) (take (suc i) (drop from noise))) output
+    stretch-output =
+        laid-snoc at i (mixed (drop p m) (take i (drop from noise))) output (plus (getD (laid p (replicate i nought) m) (p + i) o) (scaled (getD noise (from + i) o))) len in-output
+        ∙ ap (λ (l : List Value). laid at l output) (ap (λ (x : Value). mixed (drop p m) (take i (drop from noise)) ++ (x ∷ [])) number ∙ mixed-snoc i (drop p m) (drop from noise) (omega (arith, length-drop p m)) (omega (arith, length-drop from noise)))
+      where
+        len : length (mixed (drop p m) (take i (drop from noise))) ≡ i
+        len = length-mixed i (drop p m) (drop from noise) (omega (arith, length-drop p m)) (omega (arith, length-drop from noise))
+
+        read : getD (laid p (replicate i nought) m) (p + i) o ≡ getD m (p + i) o
+        read =
+            ap (λ (k : ℕ). getD (laid p (replicate i nought) m) k o) {x = p + i} {y = p + i + 0} (omega arith)
+            ∙ laid-beyond p i 0 (replicate i nought) m o (length-replicate i nought) (omega arith)
+            ∙ ap (λ (k : ℕ). getD m k o) {x = p + i + 0} {y = p + i} (omega arith)
+
+        number : plus (getD (laid p (replicate i nought) m) (p + i) o) (scaled (getD noise (from + i) o)) ≡ plus (getD (drop p m) i o) (scaled (getD (drop from noise) i o))
+        number = (λ j. plus ((read ∙ sym (getD-drop p m i o)) j) (scaled (sym (getD-drop from noise i o) j)))
+
+    pub stretch-memory : set (laid p (replicate i nought) m) (p + i) nought ≡ laid p (replicate (suc i) nought) m
+    stretch-memory = laid-snoc p i (replicate i nought) m nought (length-replicate i nought) in-memory ∙ ap (λ (l : List Value). laid p l m) (replicate-snoc i nought)
+
+  -- memory after a stretch, as laid
+  pub cleared-laid : (k j : ℕ) (m : List Value) (w : ℕ) → (w + k) % window G o + j ≤ window G o → length m ≡ 2 * window G o
+      → cleared G o m w (k + j) ≡ laid (2 * ((w + k) % window G o)) (replicate (2 * j) nought) (cleared G o m w k)
+  cleared-laid k j m w fits f =
+      cleared-more k j m w fits f
+      ∙ ap (λ (n : ℕ). take (2 * ((w + k) % window G o)) (cleared G o m w k) ++ (replicate (2 * j) nought ++ drop (2 * ((w + k) % window G o) + n) (cleared G o m w k))) (sym (length-replicate (2 * j) nought))

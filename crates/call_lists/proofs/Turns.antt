@@ -1,79 +1,24 @@
 -- A call on flat buffers, turn by turn, as the code goes: `restOf t` is what the rest of a call comes to from a turn t, and each turn of the code's loop leaves it as it is.
 -- The buffers stay whole; the counts say where the next numbers go. No law of the generator is used but the length of a record. Assumes nothing.
 use mathlib.Core.Bool.{Bool, true, false, cond}
-use mathlib.Core.List.{List, [], _∷_, _++_, append-assoc}
+use mathlib.Core.List.{List, [], _∷_, _++_}
 use mathlib.Core.Option.{none}
 use mathlib.Core.Path.{_≡_, refl, sym, ap, _∙_}
-use Prim.Native.Nat.{ℕ, zero, suc, _+_, _-_, _*_, _/_, _≤_, _<_}
+use Prim.Native.Nat.{ℕ, suc, _+_, _-_, _*_, _/_, _≤_, _<_}
 use native.Mathlib.Nat.{le-div-iff-mul-le, div-lt-iff-lt-mul, mul-comm, mul-add}
 use native.Mathlib.Omega.{arith}
 use lib.Dec.{ltb}
 use lib.ListN.{length, take, drop, length-append, length-drop, take-append-drop}
-use lib.Seq.{take-at, drop-at, drop-drop, length-take-le}
+use lib.Seq.{drop-drop}
 use borrow.Author.Tests.{le-leb, lt-leb, lt-ltb, le-ltb}
-use Rattle.call_lists.specs.Generator.{Generator, Pair, Sample, NoisePair}
+use Rattle.call_lists.specs.Generator.{Generator, Sample, NoisePair}
 use Rattle.call_lists.specs.PlainRun.{Kind, ignored, ends, reply, kind}
 use Rattle.call_lists.specs.PlainBench.{Stop, done, outputFull, wantsNoise, wantsDraws, recordsFull, Answer, ran, pairs, flatten, join, over, Call, Result, drawsOf, Lent, lentOf, Step, halt, drain, due, taking, write, step4, step5, dueBy, step1, fuel, resultOf}
 use Rattle.call_lists.proofs.Machine.{later, State, Ran, stateStep, took, noted, machineOn, machineCall}
 use Rattle.call_lists.proofs.EnoughFuel.{machine-repeats}
-use Rattle.call_lists.proofs.FlatLists.{length-flatten, flatten-append, draws-none, draws-cons}
+use Rattle.call_lists.proofs.FlatLists.{laid, length-laid, laid-laid, pairs-split, pairs-none, length-flatten, flatten-append, draws-none, draws-cons}
 use Rattle.call_lists.proofs.Counted.{Counted, counted}
 use Rattle.call_lists.proofs.Batch.{allSteps, lentWith, written, length-written, wroteMany, withSamples, drain-many, due-many}
-
--- ---- a buffer with xs written at a place
-abbrev pub laid : {X : Type 0} → ℕ → List X → List X → List X
-laid at xs buffer = take at buffer ++ (xs ++ drop (at + length xs) buffer)
-
-module _ {X : Type 0} where
-  pub length-laid : (at : ℕ) (xs buffer : List X) → at + length xs ≤ length buffer → length (laid at xs buffer) ≡ length buffer
-  length-laid at xs buffer h =
-      length-append (take at buffer) (xs ++ drop (at + length xs) buffer)
-      ∙ omega (arith, length-take-le at buffer (omega arith), length-append xs (drop (at + length xs) buffer), length-drop (at + length xs) buffer)
-
-  -- one part after another is both at once
-  pub laid-laid : (at n : ℕ) (xs ys buffer : List X) → length xs ≡ n → at + n ≤ length buffer → laid (at + n) ys (laid at xs buffer) ≡ laid at (xs ++ ys) buffer
-  laid-laid at n xs ys buffer e h =
-      (λ i. front i ++ (ys ++ back i))
-      ∙ append-assoc (take at buffer) xs (ys ++ drop (at + length (xs ++ ys)) buffer)
-      ∙ ap (λ (l : List X). take at buffer ++ l) (sym (append-assoc xs ys (drop (at + length (xs ++ ys)) buffer)))
-    where
-      len : length (take at buffer ++ xs) ≡ at + n
-      len = length-append (take at buffer) xs ∙ omega (arith, length-take-le at buffer (omega arith))
-
-      whole : laid at xs buffer ≡ (take at buffer ++ xs) ++ drop (at + length xs) buffer
-      whole = sym (append-assoc (take at buffer) xs (drop (at + length xs) buffer))
-
-      front : take (at + n) (laid at xs buffer) ≡ take at buffer ++ xs
-      front = ap (λ (l : List X). take (at + n) l) whole ∙ take-at (take at buffer ++ xs) (drop (at + length xs) buffer) (at + n) len
-
-      back : drop (at + n + length ys) (laid at xs buffer) ≡ drop (at + length (xs ++ ys)) buffer
-      back =
-          sym (drop-drop (length ys) (at + n) (laid at xs buffer))
-          ∙ ap (λ (l : List X). drop (length ys) l) (ap (λ (l : List X). drop (at + n) l) whole ∙ drop-at (take at buffer ++ xs) (drop (at + length xs) buffer) (at + n) len)
-          ∙ drop-drop (length ys) (at + length xs) buffer
-          ∙ ap (λ (k : ℕ). drop k buffer) {x = at + length xs + length ys} {y = at + length (xs ++ ys)} (omega (arith, length-append xs ys))
-
-  -- the first 2n of numbers, in pairs, and the pairs of the rest
-  pub pairs-split : (n : ℕ) (xs : List X) → 2 * n ≤ length xs → (pairs xs ≡ pairs (take (2 * n) xs) ++ pairs (drop (2 * n) xs)) × (length (pairs (take (2 * n) xs)) ≡ n)
-  pairs-split zero xs h = (refl, refl)
-  pairs-split (suc n) [] h = absurd (omega arith)
-  pairs-split (suc n) (x ∷ []) h = absurd (omega arith)
-  pairs-split (suc n) (x ∷ y ∷ xs) h = on (pairs-split n xs (omega arith))
-    where
-      q : suc (suc (2 * n)) ≡ 2 * suc n
-      q = omega arith
-
-      on : (pairs xs ≡ pairs (take (2 * n) xs) ++ pairs (drop (2 * n) xs)) × (length (pairs (take (2 * n) xs)) ≡ n)
-          → (pairs (x ∷ y ∷ xs) ≡ pairs (take (2 * suc n) (x ∷ y ∷ xs)) ++ pairs (drop (2 * suc n) (x ∷ y ∷ xs))) × (length (pairs (take (2 * suc n) (x ∷ y ∷ xs))) ≡ suc n)
-      on r = (
-        ap (λ (l : List (Pair X)). record { re = x; im = y } ∷ l) (r .0) ∙ (λ i. pairs (take (q i) (x ∷ y ∷ xs)) ++ pairs (drop (q i) (x ∷ y ∷ xs))),
-        (λ i. length (pairs (take (sym q i) (x ∷ y ∷ xs)))) ∙ ap suc (r .1),
-      )
-
-  pub pairs-none : (xs : List X) → length xs < 2 → pairs xs ≡ []
-  pairs-none [] h = refl
-  pairs-none (x ∷ []) h = refl
-  pairs-none (x ∷ y ∷ xs) h = absurd (omega arith)
 
 module _ (G : Generator) (o : G .Value) where
   open Generator G using (Value, Byte, Draw, Time, after, adds, entry, drawBytes, recordBytes, drawAt, hold, total)
