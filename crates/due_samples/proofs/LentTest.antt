@@ -1,7 +1,7 @@
 -- The test of what is lent, from facts and to facts. Assumes nothing.
-use mathlib.Core.Bool.{Bool, true, false, _&&_, true≢false, false≢true}
+use mathlib.Core.Bool.{Bool, true, false, _&&_, false≢true}
 use mathlib.Core.List.{List}
-use mathlib.Core.Path.{_≡_, refl, sym, ap, _∙_}
+use mathlib.Core.Path.{_≡_, refl, sym}
 use Prim.Native.Nat.{ℕ, _+_, _/_, _%_, _≤_}
 use lib.Dec.{eqb, leb}
 use lib.Ieee.{Float}

@@ -1,7 +1,7 @@
 -- The two loops: a number of a stretch more (`Going`), and a stretch more (`Writing`). Assumes nothing.
 use mathlib.Core.List.{List, [], _∷_, _++_}
-use mathlib.Core.Path.{_≡_, refl, sym, ap, _∙_, subst}
-use Prim.Native.Nat.{ℕ, zero, suc, _+_, _-_, _*_, _/_, _%_, _≤_, _<_, min}
+use mathlib.Core.Path.{_≡_, refl, sym, ap, _∙_}
+use Prim.Native.Nat.{ℕ, _+_, _-_, _*_, _/_, _%_, _≤_, _<_, min}
 use native.Mathlib.Nat.{mod-lt}
 use native.Mathlib.Numerals.{add-one}
 use native.Mathlib.Omega.{arith}
@@ -11,8 +11,7 @@ use Rattle.call_lists.specs.PlainBench.{pairs, flatten}
 use Rattle.call_lists.proofs.Batch.{written, cleared, length-written}
 use lib.Ieee.{Float, nan, binary32, ofBits, add, mul}
 use Rattle.call_lists.proofs.FlatLists.{laid, laid-laid, length-flatten, length-pairs}
-use Rattle.call_lists.proofs.Stretch.{mixed, stretch-output, stretch-memory, place-wraps, written-more, cleared-laid}
-use Rattle.draw_times.specs.FloatGenerator.{nought, noiseScale}
+use Rattle.call_lists.proofs.Stretch.{stretch-output, stretch-memory, place-wraps, written-more, cleared-laid}
 use Rattle.draw_times.proofs.FloatLaws.{scale-bits, nought-bits}
 use Rattle.due_samples.specs.Due.{gen, mix, zeros, samplesOf, clearOf}
 
