@@ -1,3 +1,4 @@
+-- `stretch` meets its contract: each turn writes one number more (`Going`). Assumes nothing.
 use Prim.Native.Nat.{_-_}
 use Rattle.due_samples.proofs.Stretches.{Going, first, next, end}
 use borrow.Author.Needs.{needs}

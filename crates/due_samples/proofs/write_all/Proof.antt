@@ -1,3 +1,4 @@
+-- `write_all` meets its contract: each turn writes one stretch more (`Writing`). Assumes nothing.
 use Prim.Native.Nat.{_-_}
 use Rattle.due_samples.proofs.Stretches.{Writing, starts, goes-on, all-written}
 use borrow.Author.Needs.{needs}

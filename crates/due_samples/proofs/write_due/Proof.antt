@@ -1,3 +1,4 @@
+-- `write_due` meets its contract: nothing is changed where the test fails, else `write_all` writes. Assumes nothing.
 use mathlib.Core.Path.{sym, _∙_}
 use borrow.Author.Tests.{not-true, not-false}
 use Rattle.due_samples.proofs.LentTest.{fits-for, unchanged, changed}
