@@ -1,0 +1,54 @@
+-- Samples that are due, as numbers, and working memory after them, by the theory of lists of calls. Assumes nothing.
+use mathlib.Core.Bool.{Bool, false, cond, _&&_}
+use mathlib.Core.List.{List, []}
+use mathlib.Core.Option.{none}
+use Prim.Native.Nat.{ℕ, _+_, _/_, _%_}
+use lib.Dec.{eqb, leb}
+use lib.ListN.{length, take, drop, replicate}
+use lib.Ieee.{Float, nan}
+use Rattle.call_lists.specs.Generator.{Generator, negative}
+use Rattle.call_lists.specs.PlainBench.{pairs, flatten}
+use Rattle.call_lists.proofs.FlatLists.{laid}
+use Rattle.call_lists.proofs.Batch.{written, cleared}
+use Rattle.call_lists.proofs.Stretch.{mixed}
+use Rattle.constants.specs.Rate.{four, workingMemory}
+use Rattle.draw_times.specs.FloatGenerator.{Draws, nought, generator}
+
+-- no draws: samples that are due do not turn on them
+abbrev pub noDraws : Draws
+noDraws = record { Draw = ℕ; gap = λ d. nought; start = λ t d. negative; adds = λ t d s. []; entry = λ t d s n. []; fault = λ d. none; loud = λ v. false; drawAt = λ bytes. 0 }
+
+abbrev pub gen : Generator
+gen = generator noDraws four 0
+
+-- numbers of memory with their noise
+abbrev pub mix : List Float → List Float → List Float
+mix xs vs = mixed gen nan xs vs
+
+abbrev pub zeros : ℕ → List Float
+zeros n = replicate n nought
+
+-- the numbers of the samples written from memory m on, the next being sample w, with this noise
+unfoldable pub samplesOf : List Float → ℕ → List Float → List Float
+samplesOf m w xs = flatten (written gen nan m w (pairs xs))
+
+-- memory after n of them
+unfoldable pub clearOf : List Float → ℕ → ℕ → List Float
+clearOf m w n = cleared gen nan m w n
+
+-- memory has its length, the numbers are pairs, and noise from `from` on and output from `at` on hold them
+unfoldable pub fitsOf : ℕ → ℕ → ℕ → ℕ → ℕ → ℕ → Bool
+fitsOf memory noise output from at values =
+    eqb memory (workingMemory four) && eqb (values % 2) 0 && leb (from + values) noise && leb (at + values) output
+
+-- what is written
+pub record Lent : Type 0 where
+  pub memory : List Float
+  pub output : List Float
+
+-- the samples that are due, from sample w on, in output from `at` on; where they do not fit, nothing is changed
+unfoldable pub dueOf : List Float → ℕ → ℕ → ℕ → ℕ → Lent → Lent
+dueOf noise w from at values l =
+    cond (fitsOf (length (l .memory)) (length noise) (length (l .output)) from at values)
+    (record { memory = clearOf (l .memory) w (values / 2); output = laid at (samplesOf (l .memory) w (take values (drop from noise))) (l .output) })
+    l

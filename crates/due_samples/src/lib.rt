@@ -1,0 +1,106 @@
+// Samples that are due, written at once from working memory: the memory's numbers with their noise go to output, and their places are cleared. Assumes nothing.
+ghost use mathlib.Core.Path.{_≡_};
+ghost use Prim.Native.Nat.{_+_, _*_, _/_, _%_, _≤_, _<_, min};
+ghost use lib.ListN.{length, drop, take};
+ghost use Rattle.call_lists.proofs.FlatLists.{laid};
+ghost use Rattle.due_samples.specs.Due.{mix, zeros, samplesOf, clearOf, fitsOf, Lent, dueOf};
+
+// Writes a stretch of the memory with its noise, and clears it.
+fn stretch(
+    memory: &mut [f32],
+    noise: &[f32],
+    output: &mut [f32],
+    p: usize,
+    from: usize,
+    at: usize,
+    len: usize,
+)
+    requires { ⌜ (p + len ≤ length (now memory)) × (from + len ≤ length (now noise)) × (at + len ≤ length (now output)) ⌝ }
+    ensures { λ _. ⌜ (now (output .exit) ≡ laid at (mix (drop p (now (memory .entry))) (take len (drop from (now (noise .entry))))) (now (output .entry))) × (now (memory .exit) ≡ laid p (zeros len) (now (memory .entry))) ⌝ }
+{
+    let mut i: usize = 0;
+    while i < len {
+        output[at + i] = memory[p + i] + noise[from + i] * 0.0009765625;
+        memory[p + i] = 0.0;
+        i = i + 1;
+    }
+}
+
+fn least(a: usize, b: usize) -> usize
+    ensures { λ r. ⌜ r ≡ min a b ⌝ }
+{
+    if a < b { a } else { b }
+}
+
+// The place of a sample in the memory.
+fn ring(n: u64) -> usize
+    ensures { λ r. ⌜ r ≡ n % 1126 ⌝ }
+{
+    (n % 1126) as usize
+}
+
+// Writes samples from sample `written` on, two numbers each, stretch by stretch.
+fn write_all(
+    memory: &mut [f32],
+    noise: &[f32],
+    output: &mut [f32],
+    written: u64,
+    from: usize,
+    at: usize,
+    values: usize,
+)
+    requires { ⌜ (length (now memory) ≡ 2252) × (values % 2 ≡ 0) × (from + values ≤ length (now noise)) × (at + values ≤ length (now output)) ⌝ }
+    ensures { λ _. ⌜ (now (output .exit) ≡ laid at (samplesOf (now (memory .entry)) written (take values (drop from (now (noise .entry))))) (now (output .entry))) × (now (memory .exit) ≡ clearOf (now (memory .entry)) written (values / 2)) ⌝ }
+{
+    let mut p = 2 * ring(written);
+    let mut done: usize = 0;
+    while done < values {
+        let len = least(2252 - p, values - done);
+        stretch(memory, noise, output, p, from + done, at + done, len);
+        done = done + len;
+        p = 0;
+    }
+}
+
+// Memory has its length, the numbers are pairs, and noise and output hold them.
+fn fits(memory: usize, noise: usize, output: usize, from: usize, at: usize, values: usize) -> bool
+    ensures { λ r. ⌜ r ≡ fitsOf memory noise output from at values ⌝ }
+{
+    if memory != 2252 {
+        return false;
+    }
+    if values % 2 != 0 {
+        return false;
+    }
+    if noise < from {
+        return false;
+    }
+    if noise - from < values {
+        return false;
+    }
+    if output < at {
+        return false;
+    }
+    if output - at < values {
+        return false;
+    }
+    true
+}
+
+// Writes samples that are due. Where what is lent does not hold them, nothing is changed.
+pub fn write_due(
+    memory: &mut [f32],
+    noise: &[f32],
+    output: &mut [f32],
+    written: u64,
+    from: usize,
+    at: usize,
+    values: usize,
+)
+    ensures { λ _. ⌜ record { memory = now (memory .exit); output = now (output .exit) } ≡ dueOf (now (noise .entry)) written from at values (record { memory = now (memory .entry); output = now (output .entry) }) ⌝ }
+{
+    if !fits(memory.len(), noise.len(), output.len(), from, at, values) {
+        return;
+    }
+    write_all(memory, noise, output, written, from, at, values);
+}
