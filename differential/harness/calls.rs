@@ -17,6 +17,8 @@ pub struct List {
     pub input: Vec<u8>,
     pub expected: Vec<u8>,
     pub calls: usize,
+    /// What came of the opening and of each call, in words.
+    pub seen: Vec<String>,
     calls_at: usize,
     bench: Option<Bench>,
 }
@@ -32,28 +34,31 @@ impl List {
         let calls_at = input.len();
         put_u32(&mut input, 0);
         let mut expected = Vec::new();
-        let opened = Bench::open(s, mode_s, mode_ac, lent);
-        let bench = match opened {
-            Ok(b) => {
+        let bench = Bench::open(s, mode_s, mode_ac, lent);
+        match &bench {
+            Ok(_) => {
                 put_words(&mut expected, [0; 6]);
-                let [a, b_] = crate::judge::prototypes(&[mode_s, mode_ac].concat());
-                put_floats(&mut expected, &a);
-                put_floats(&mut expected, &b_);
+                for p in crate::judge::prototypes(&[mode_s, mode_ac].concat()) {
+                    put_floats(&mut expected, &p);
+                }
                 put_floats(&mut expected, &vec![0.0; lent.memory]);
-                Some(b)
             }
             Err(r) => {
-                put_refusal(&mut expected, r);
+                put_refusal(&mut expected, *r);
                 put_floats(&mut expected, &vec![OPENING_MARK; lent.mode_s + lent.mode_ac + lent.memory]);
-                None
             }
+        }
+        let seen = match &bench {
+            Ok(_) => "opening: accepted".to_string(),
+            Err(r) => format!("opening: refused {}", r.number),
         };
         List {
             input,
             expected,
             calls: 0,
+            seen: vec![seen],
             calls_at,
-            bench,
+            bench: bench.ok(),
         }
     }
 
@@ -69,6 +74,10 @@ impl List {
         put_u32(&mut self.input, c.output);
         put_u32(&mut self.input, c.records);
         let answer = self.bench.as_mut().expect("opened").call(c);
+        self.seen.push(match &answer {
+            Ok(ran) => format!("call: {:?}", ran.counts.stop),
+            Err(r) => format!("call: refused {}", r.number),
+        });
         let mut output = vec![OUTPUT_MARK; c.output];
         let mut records = vec![RECORDS_MARK; c.records];
         match &answer {
@@ -133,52 +142,86 @@ fn put_refusal(b: &mut Vec<u8>, r: Refusal) {
     put_words(b, [1, r.number, held, value(0), value(1), 0]);
 }
 
-/// One call that lends everything.
-pub fn whole(tape: &Tape, samples: usize) -> Call {
+/// A call that lends draws and noise, with room for so many samples and for a record of each draw.
+pub fn lend_all(draws: &[Draw], noise: &[f32], samples: usize) -> Call {
     Call {
         lengths: RIGHT_LENGTHS,
-        draws: tape.draws.iter().flat_map(draw_to_bytes).collect(),
-        noise: tape.noise.clone(),
+        draws: draws.iter().flat_map(draw_to_bytes).collect(),
+        noise: noise.to_vec(),
         output: (2 * samples).max(2),
-        records: RECORD_BYTES * tape.draws.len(),
+        records: RECORD_BYTES * draws.len(),
     }
 }
 
-/// A tape cut into calls at random, some of them refused, until the run is done or stands still.
-pub fn random_cuts(r: &mut Random, tape: &Tape) -> List {
+/// A tape cut into calls: the list, and what the calls wrote in all.
+pub struct Cut {
+    pub list: List,
+    /// The tape's draws as they were lent in the end.
+    pub draws: Vec<Draw>,
+    pub samples: Vec<f32>,
+    pub records: Vec<u8>,
+    taken: usize,
+    used: usize,
+}
+
+impl Cut {
+    /// Makes a call; says whether it took a draw or wrote a sample.
+    fn call(&mut self, c: &Call) -> bool {
+        let Ok(ran) = self.list.call(c) else { return false };
+        let taken = c.draws.chunks(DRAW_BYTES).take(ran.counts.taken).map(draw_from_bytes);
+        self.draws.splice(self.taken..self.taken + ran.counts.taken, taken);
+        self.taken += ran.counts.taken;
+        self.used += ran.counts.noise;
+        self.samples.extend(&ran.output);
+        self.records.extend(&ran.records);
+        ran.counts.taken + ran.counts.samples > 0
+    }
+
+    /// One call that lends all that is left.
+    fn lend_rest(&mut self, tape: &Tape) -> bool {
+        let samples = usize::try_from(tape.settings.samples()).unwrap();
+        let call = lend_all(&self.draws[self.taken..], &tape.noise[self.used..], samples);
+        self.call(&call)
+    }
+}
+
+/// A tape cut into calls at random, some of them refused; the last one lends all that is left.
+pub fn random_cuts(r: &mut Random, tape: &Tape) -> Cut {
     let (mode_s, mode_ac) = tape.taps.split_at(MODE_S_TAPS);
-    let mut list = List::open(&tape.settings, mode_s, mode_ac, RIGHT_LENGTHS);
-    let mut draws = tape.draws.clone();
-    let (mut taken, mut used) = (0, 0);
+    let mut cut = Cut {
+        list: List::open(&tape.settings, mode_s, mode_ac, RIGHT_LENGTHS),
+        draws: tape.draws.clone(),
+        samples: Vec::new(),
+        records: Vec::new(),
+        taken: 0,
+        used: 0,
+    };
+    if !cut.list.opened() {
+        return cut;
+    }
     let coarse = r.pick(&[3, 40, 400, 4000]);
-    let mut still = 0;
-    while list.opened() && list.calls < 400 && still < 30 {
-        let mut call = cut(r, &draws[taken..], &tape.noise[used..], coarse);
+    let (calls, mut still) = (r.between(1, 200), 0);
+    while !cut.list.done() && cut.list.calls < calls && still < 30 {
+        let mut call = part(r, &cut.draws[cut.taken..], &tape.noise[cut.used..], coarse);
         if r.once_in(12) {
             spoil(r, &mut call);
         }
-        let before = list.done();
-        let mut moved = false;
-        if let Ok(ran) = list.call(&call) {
-            let n = ran.counts;
-            taken += n.taken;
-            used += n.noise;
-            moved = n.taken + n.samples > 0;
-            if n.stop != Stop::Done && taken < draws.len() && r.once_in(8) {
-                // The draw that comes next is another one than was lent: it may jump back.
-                draws[taken].gap *= r.pick(&[0.0, 0.5, 0.999, 1.0, 1.5]);
-            }
-        }
-        still = if moved { 0 } else { still + 1 };
-        if before && r.once_in(2) {
-            break;
+        still = if cut.call(&call) { 0 } else { still + 1 };
+        if cut.taken < cut.draws.len() && r.once_in(8) {
+            // The draw that comes next is another one than was lent: it may jump back.
+            cut.draws[cut.taken].gap *= r.pick(&[0.0, 0.5, 0.999, 1.0, 1.5, 3.0, 100.0]);
         }
     }
-    list
+    // A first draw that jumps back is put later and lent again.
+    if !cut.lend_rest(tape) && cut.taken < cut.draws.len() {
+        cut.draws[cut.taken].gap = 1e6;
+        cut.lend_rest(tape);
+    }
+    cut
 }
 
 /// A call that lends a first part of what is left, and some room.
-fn cut(r: &mut Random, draws: &[Draw], noise: &[f32], coarse: usize) -> Call {
+fn part(r: &mut Random, draws: &[Draw], noise: &[f32], coarse: usize) -> Call {
     let lent = r.between(0, 6).min(draws.len());
     let lent = if r.once_in(6) { draws.len().min(60) } else { lent };
     Call {

@@ -64,7 +64,7 @@ pub fn sines(tally: &mut Tally, r: &mut Random) {
 
 /// Every damaged form of a tape.
 pub fn damaged(tally: &mut Tally, ours: &Ours, base: &Tape, seed: &str) {
-    for d in damage::all(base) {
+    for d in damage::some(base, &|_| true) {
         text(tally, ours, &format!("{seed}: {}", d.what), &d.bytes);
     }
 }
@@ -79,13 +79,14 @@ pub fn tape(tally: &mut Tally, ours: &Ours, r: &mut Random, seed: &str) {
             plain(tally, seed, &tape, &bytes, run);
         }
     }
-    let mut all = damage::all(&tape);
-    for _ in 0..3 {
-        let d = all.swap_remove(r.below(all.len()));
+    let damages = damage::count(&tape);
+    let chosen = [r.below(damages), r.below(damages), r.below(damages)];
+    for d in damage::some(&tape, &|k| chosen.contains(&k)) {
         text(tally, ours, &format!("{seed}: {}", d.what), &d.bytes);
     }
-    let list = calls::random_cuts(r, &tape);
-    calls_of_ours(tally, ours, seed, &list);
+    let cut = calls::random_cuts(r, &tape);
+    calls_of_ours(tally, ours, seed, &cut.list);
+    cuts(tally, seed, &tape, &cut);
     if r.once_in(8) {
         calls_of_ours(tally, ours, seed, &calls::random_opening(r, &tape));
     }
@@ -99,6 +100,14 @@ fn text(tally: &mut Tally, ours: &Ours, seed: &str, bytes: &[u8]) -> Option<Outc
         return None;
     }
     tally.compare("tapes through the reference", seed, bytes, None);
+    match &outcome {
+        Outcome::Run(run) => {
+            tally.see("tape: accepted");
+            run.records.chunks(RECORD_BYTES).for_each(|r| tally.see(&format!("reply of type {}", r[48])));
+        }
+        Outcome::Refused(r) => tally.see(&format!("tape: refused {}", r.number)),
+        Outcome::Surprise(_) => {}
+    }
     text_of_ours(tally, ours, seed, bytes, &program::text(&outcome));
     Some(outcome)
 }
@@ -114,7 +123,7 @@ fn text_of_ours(tally: &mut Tally, ours: &Ours, seed: &str, bytes: &[u8], text: 
 }
 
 fn calls_of_ours(tally: &mut Tally, ours: &Ours, seed: &str, list: &calls::List) {
-    tally.compare("lists of calls answered by the bench", seed, &list.input, None);
+    list.seen.iter().for_each(|what| tally.see(what));
     let Some(program) = &ours.calls else { return };
     let wrong = match ours::answer(program, &list.input) {
         Err(why) => Some(why),
@@ -127,11 +136,28 @@ fn calls_of_ours(tally: &mut Tally, ours: &Ours, seed: &str, list: &calls::List)
 fn plain(tally: &mut Tally, seed: &str, tape: &Tape, bytes: &[u8], run: &judge::Run) {
     let (mode_s, mode_ac) = tape.taps.split_at(MODE_S_TAPS);
     let mut bench = Bench::open(&tape.settings, mode_s, mode_ac, RIGHT_LENGTHS).expect("the tape was accepted");
-    let ran = bench.call(&calls::whole(tape, run.samples.len() / 2)).expect("the tape was accepted");
+    let ran = bench.call(&calls::lend_all(&tape.draws, &tape.noise, run.samples.len() / 2)).expect("the tape was accepted");
     let samples = first_difference("samples", &bytes_of(&run.samples), &bytes_of(&ran.output));
     tally.compare("whole runs, reference and bench", seed, bytes, samples);
     let records = first_difference("records", &run.records, &ran.records);
     tally.compare("whole runs, reference and bench", seed, bytes, records);
+}
+
+/// What the bench wrote in all, cut by cut, is what the reference writes of the draws as they were lent in the end.
+fn cuts(tally: &mut Tally, seed: &str, tape: &Tape, cut: &calls::Cut) {
+    if !cut.list.done() {
+        return;
+    }
+    let lent = Tape {
+        draws: cut.draws.clone(),
+        ..tape.clone()
+    };
+    let wrong = match judge::run(&lent) {
+        Err(why) => Some(format!("the reference stops: {why:?}")),
+        Ok(run) => first_difference("samples", &bytes_of(&run.samples), &bytes_of(&cut.samples))
+            .or_else(|| first_difference("records", &run.records, &cut.records)),
+    };
+    tally.compare("cut runs, reference and bench", seed, &cut.list.input, wrong);
 }
 
 /// The rules' refusals 2 to 4 are the reference's errors.

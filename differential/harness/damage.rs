@@ -11,23 +11,35 @@ pub struct Damaged {
     pub bytes: Vec<u8>,
 }
 
+/// Goes through all damages of a tape in a fixed order and makes those whose numbers are wanted.
 struct Maker<'a> {
     base: &'a Tape,
-    all: Vec<Damaged>,
+    wanted: &'a dyn Fn(usize) -> bool,
+    number: usize,
+    made: Vec<Damaged>,
 }
 
 impl Maker<'_> {
     fn change(&mut self, what: String, f: impl FnOnce(&mut Tape)) {
-        let mut t = self.base.clone();
-        f(&mut t);
-        let bytes = t.to_bytes();
-        self.all.push(Damaged { what, bytes });
+        if self.next_is_wanted() {
+            let mut t = self.base.clone();
+            f(&mut t);
+            let bytes = t.to_bytes();
+            self.made.push(Damaged { what, bytes });
+        }
     }
 
     fn bytes(&mut self, what: String, f: impl FnOnce(&mut Vec<u8>)) {
-        let mut bytes = self.base.to_bytes();
-        f(&mut bytes);
-        self.all.push(Damaged { what, bytes });
+        if self.next_is_wanted() {
+            let mut bytes = self.base.to_bytes();
+            f(&mut bytes);
+            self.made.push(Damaged { what, bytes });
+        }
+    }
+
+    fn next_is_wanted(&mut self) -> bool {
+        self.number += 1;
+        (self.wanted)(self.number - 1)
     }
 }
 
@@ -39,11 +51,22 @@ fn around(x: f64) -> [f64; 3] {
     [x, x.next_up(), x.next_down()]
 }
 
-/// Every damage of one tape.
-pub fn all(base: &Tape) -> Vec<Damaged> {
+/// How many damages a tape has.
+pub fn count(base: &Tape) -> usize {
+    go(base, &|_| false).number
+}
+
+/// The damages of a tape whose numbers, from 0, are wanted.
+pub fn some(base: &Tape, wanted: &dyn Fn(usize) -> bool) -> Vec<Damaged> {
+    go(base, wanted).made
+}
+
+fn go<'a>(base: &'a Tape, wanted: &'a dyn Fn(usize) -> bool) -> Maker<'a> {
     let mut m = Maker {
         base,
-        all: Vec::new(),
+        wanted,
+        number: 0,
+        made: Vec::new(),
     };
     durations(&mut m);
     rates(&mut m);
@@ -58,7 +81,7 @@ pub fn all(base: &Tape) -> Vec<Damaged> {
     }
     noise(&mut m);
     counts(&mut m);
-    m.all
+    m
 }
 
 fn durations(m: &mut Maker) {

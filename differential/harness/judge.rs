@@ -6,6 +6,7 @@ use reference::simulation::distributions::*;
 use reference::simulation::{
     MessageConfig, MessageType, MessagesPerSecond, SSRReply, Simulation, open, pulse_shape,
 };
+use std::cell::RefCell;
 use std::panic::{AssertUnwindSafe, catch_unwind};
 use std::time::Duration;
 
@@ -70,13 +71,31 @@ fn rates(s: &Settings) -> MessagesPerSecond {
     }
 }
 
-/// The two prototypes, Mode S and Mode A/C, of lent taps.
+/// Taps, and the prototypes made of them.
+type Made = (Vec<f32>, [Vec<f32>; 2]);
+
+thread_local! {
+    static LAST: RefCell<Option<Made>> = const { RefCell::new(None) };
+}
+
+/// The two prototypes, Mode S and Mode A/C, of lent taps. Those of the taps lent last are kept.
 pub fn prototypes(taps: &[f32]) -> [Vec<f32>; 2] {
     lent::lend_taps(taps);
-    [
-        pulse_shape::open::mode_s_prototype(),
-        pulse_shape::open::mode_ac_prototype(),
-    ]
+    LAST.with_borrow_mut(|last| match last {
+        Some((t, made)) if same_bits(t, taps) => made.clone(),
+        _ => {
+            let made = [
+                pulse_shape::open::mode_s_prototype(),
+                pulse_shape::open::mode_ac_prototype(),
+            ];
+            *last = Some((taps.to_vec(), made.clone()));
+            made
+        }
+    })
+}
+
+fn same_bits(a: &[f32], b: &[f32]) -> bool {
+    a.len() == b.len() && a.iter().zip(b).all(|(x, y)| x.to_bits() == y.to_bits())
 }
 
 /// The message configuration of one draw at its time. The draw stays the one taken last.

@@ -5,6 +5,7 @@ use std::path::PathBuf;
 
 pub struct Tally {
     counts: BTreeMap<&'static str, (u64, u64)>,
+    seen: BTreeMap<String, u64>,
     folder: PathBuf,
     shown: usize,
 }
@@ -13,6 +14,7 @@ impl Tally {
     pub fn new(folder: PathBuf) -> Tally {
         Tally {
             counts: BTreeMap::new(),
+            seen: BTreeMap::new(),
             folder,
             shown: 0,
         }
@@ -37,11 +39,19 @@ impl Tally {
         }
     }
 
+    /// Counts what came about, so that a reader sees what was tried.
+    pub fn see(&mut self, what: &str) {
+        *self.seen.entry(what.to_string()).or_default() += 1;
+    }
+
     pub fn totals(&self) -> (u64, u64) {
         self.counts.values().fold((0, 0), |a, b| (a.0 + b.0, a.1 + b.1))
     }
 
     pub fn print(&self) {
+        for (what, n) in &self.seen {
+            println!("{n:9} times {what}");
+        }
         for (name, (n, wrong)) in &self.counts {
             println!("{n:9} {name}, {wrong} differences");
         }
