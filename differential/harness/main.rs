@@ -1,4 +1,6 @@
 //! The differential harness; README.md says what compares what.
+// What is shared with the other program, parts.rs, is used in part.
+#![allow(dead_code)]
 
 mod bench;
 mod calls;
@@ -10,6 +12,7 @@ mod ours;
 mod program;
 mod random;
 mod rules;
+mod stored;
 mod tally;
 mod tape;
 
@@ -26,6 +29,10 @@ fn main() {
     let code = match words.first().map(String::as_str) {
         Some("text") => text(),
         Some("tape") => write_tape(&words[1..]),
+        Some("stored") => {
+            print!("{}", stored::file());
+            0
+        }
         _ => compare(&words),
     };
     std::process::exit(code);
@@ -75,9 +82,10 @@ struct Options {
     seed: u64,
     ours: Ours,
     folder: PathBuf,
+    stored: Option<PathBuf>,
 }
 
-/// `[COUNT] [SEED] [--ours PROGRAM] [--ours-calls PROGRAM] [--keep FOLDER]`
+/// `[COUNT] [SEED] [--ours PROGRAM] [--ours-calls PROGRAM] [--stored FILE] [--keep FOLDER]`
 fn options(words: &[String]) -> Options {
     let mut o = Options {
         count: 1000,
@@ -87,6 +95,7 @@ fn options(words: &[String]) -> Options {
             calls: None,
         },
         folder: PathBuf::from("differences"),
+        stored: None,
     };
     let mut plain = Vec::new();
     let mut rest = words.iter();
@@ -96,6 +105,7 @@ fn options(words: &[String]) -> Options {
             "--ours" => o.ours.tape = Some(value()),
             "--ours-calls" => o.ours.calls = Some(value()),
             "--keep" => o.folder = value(),
+            "--stored" => o.stored = Some(value()),
             _ => plain.push(number(w)),
         }
     }
@@ -107,10 +117,14 @@ fn options(words: &[String]) -> Options {
 fn compare(words: &[String]) -> i32 {
     let o = options(words);
     let mut tally = Tally::new(o.folder.clone());
+    if let Some(file) = &o.stored {
+        checks::stored(&mut tally, file);
+    }
     checks::worked(&mut tally, &o.ours);
     checks::bench_lines(&mut tally);
     checks::sines(&mut tally, &mut tape_source(o.seed, u64::MAX));
     checks::damaged(&mut tally, &o.ours, &make::worked(), "worked");
+    checks::damaged(&mut tally, &o.ours, &make::worked_drawn(), "worked, drawn");
     for index in 0..o.count {
         let seed = format!("{} {index}", o.seed);
         checks::tape(&mut tally, &o.ours, &mut tape_source(o.seed, index), &seed);
@@ -122,6 +136,6 @@ fn compare(words: &[String]) -> i32 {
     tally.print();
     let (n, wrong) = tally.totals();
     println!("largest distance of the sine steps from sin_cos: {:e}", lent::largest_distance());
-    println!("differential: {n} comparisons, {wrong} differences");
+    println!("tapes: {n} comparisons, {wrong} differences");
     i32::from(wrong > 0)
 }

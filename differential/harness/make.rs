@@ -312,3 +312,16 @@ pub fn worked() -> Tape {
         noise: vec![0.0; 16000],
     }
 }
+
+/// The worked tape with every distribution drawn, and cut short.
+pub fn worked_drawn() -> Tape {
+    let mut t = worked();
+    t.settings.nanoseconds = 250_000;
+    t.settings.carrier = asked(1, 100e3, 1e6);
+    t.settings.phase = asked(1, 0.0, 0.0);
+    t.settings.clock = asked(1, 0.1, 0.0);
+    t.draws[0].amplitude = 1.0;
+    t.draws[1].clock = 0.05;
+    t.noise.truncate(4000);
+    t
+}

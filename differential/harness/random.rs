@@ -64,6 +64,23 @@ impl Random {
             _ => self.pick(&SPECIAL),
         }
     }
+
+    /// Any f64, or one half way between two values of f32, or one near a whole number.
+    pub fn argument(&mut self) -> f64 {
+        match self.below(4) {
+            0 => {
+                let low = f32::from_bits((self.word() as u32) % 0x7f7f_ffff);
+                let middle = (f64::from(low) + f64::from(low.next_up())) / 2.0;
+                let near = self.pick(&[middle, middle.next_up(), middle.next_down()]);
+                if self.once_in(2) { near } else { -near }
+            }
+            1 => {
+                let whole = (self.within(1.0) * 2f64.powi(self.below(66) as i32)).round();
+                self.pick(&[whole, whole.next_up(), whole.next_down()])
+            }
+            _ => self.any_f64(),
+        }
+    }
 }
 
 /// Values of f64 at which rounding, ranges or signs change.

@@ -39,6 +39,13 @@ impl Tally {
         }
     }
 
+    /// One comparison of a function's answer at x.
+    pub fn same<T: PartialEq + std::fmt::Debug>(&mut self, name: &'static str, x: f64, reference: T, ours: T) {
+        let wrong = (reference != ours).then(|| format!("{reference:?} by the reference, {ours:?} by ours"));
+        let bits = x.to_bits();
+        self.compare(name, &format!("{bits:016x}"), &bits.to_le_bytes(), wrong);
+    }
+
     /// Counts what came about, so that a reader sees what was tried.
     pub fn see(&mut self, what: &str) {
         *self.seen.entry(what.to_string()).or_default() += 1;
