@@ -39,6 +39,14 @@ pub fn bench_lines(tally: &mut Tally) {
     }
 }
 
+/// What was found about the Rust still holds.
+pub fn findings(tally: &mut Tally) {
+    for (what, holds) in crate::findings::ALL {
+        let wrong = (!holds()).then(|| "no longer so".to_string());
+        tally.compare("findings about the Rust", what, &[], wrong);
+    }
+}
+
 /// How many records a run of 8,000 samples has with one reply at that start.
 fn last_start(start: u64) -> usize {
     let mut t = make::worked();

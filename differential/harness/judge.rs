@@ -137,11 +137,16 @@ pub fn record(m: &MessageConfig) -> Vec<u8> {
     b
 }
 
-/// Runs the reference. The caller has seen to it that the samples fit in memory.
+/// Runs the reference with one batch that covers the run. The caller has seen to it that the samples fit in memory.
 pub fn run(tape: &Tape) -> Result<Run, Stopped> {
+    let samples = usize::try_from(tape.settings.samples()).unwrap();
+    run_in_batches(tape, samples.max(1))
+}
+
+pub fn run_in_batches(tape: &Tape, batch_size: usize) -> Result<Run, Stopped> {
     lent::lend_taps(&tape.taps);
     lent::lend(&tape.draws, &tape.noise);
-    let done = catch_unwind(AssertUnwindSafe(|| go(tape)));
+    let done = catch_unwind(AssertUnwindSafe(|| go(tape, batch_size)));
     match done {
         Ok(Ok(run)) => Ok(run),
         Ok(Err(text)) => Err(Stopped::Error(text)),
@@ -162,14 +167,13 @@ pub fn panic_text(payload: Box<dyn std::any::Any + Send>) -> String {
     }
 }
 
-fn go(tape: &Tape) -> Result<Run, String> {
+fn go(tape: &Tape, batch_size: usize) -> Result<Run, String> {
     let s = &tape.settings;
-    let samples = usize::try_from(s.samples()).unwrap();
     let simulation = Simulation {
         duration: Duration::new(s.seconds, s.nanoseconds),
         messages_per_second: rates(s),
         message_distributions: distributions(s)?,
-        batch_size: samples.max(1),
+        batch_size,
     };
     let mut written = Vec::new();
     let mut records = Vec::new();

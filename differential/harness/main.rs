@@ -6,6 +6,7 @@ mod bench;
 mod calls;
 mod checks;
 mod damage;
+mod findings;
 mod judge;
 mod make;
 mod ours;
@@ -122,6 +123,7 @@ fn compare(words: &[String]) -> i32 {
     }
     checks::worked(&mut tally, &o.ours);
     checks::bench_lines(&mut tally);
+    checks::findings(&mut tally);
     checks::sines(&mut tally, &mut tape_source(o.seed, u64::MAX));
     checks::damaged(&mut tally, &o.ours, &make::worked(), "worked");
     checks::damaged(&mut tally, &o.ours, &make::worked_drawn(), "worked, drawn");
