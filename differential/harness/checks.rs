@@ -118,13 +118,31 @@ fn text(tally: &mut Tally, ours: &Ours, seed: &str, bytes: &[u8]) -> Option<Outc
     match &outcome {
         Outcome::Run(run) => {
             tally.see("tape: accepted");
-            run.records.chunks(RECORD_BYTES).for_each(|r| tally.see(&format!("reply of type {}", r[48])));
+            reached(tally, &run.records);
         }
         Outcome::Refused(r) => tally.see(&format!("tape: refused {}", r.number)),
         Outcome::Surprise(_) => {}
     }
     text_of_ours(tally, ours, seed, bytes, &program::text(&outcome));
     Some(outcome)
+}
+
+/// Counts the types of the replies, and how far counts and falls of the first sample reach.
+fn reached(tally: &mut Tally, records: &[u8]) {
+    let mut highest = 0;
+    for r in records.chunks(RECORD_BYTES) {
+        tally.see(&format!("reply of type {}", r[48]));
+        let first = u64::from_le_bytes(r[40..48].try_into().unwrap());
+        tally.range("fall of a first sample", first.max(highest) - first);
+        highest = highest.max(first);
+        let name = match (r[51], r[53] & 0x10) {
+            (14, _) => "count of a long reply",
+            (7, _) => "count of a short reply",
+            (_, 0) => "count of a Mode A/C reply",
+            _ => "count of a Mode A/C reply with SPI",
+        };
+        tally.range(name, u64::from(u16::from_le_bytes([r[49], r[50]])));
+    }
 }
 
 fn text_of_ours(tally: &mut Tally, ours: &Ours, seed: &str, bytes: &[u8], text: &str) {

@@ -255,7 +255,42 @@ pub fn noise(r: &mut Random, samples: usize) -> Vec<f32> {
         .collect()
 }
 
+/// A tape on which first samples fall by as much as they can, 32: Mode A/C replies with the earliest taps, and at the same
+/// times Mode S replies with late taps and the slowest clock.
+fn steep(r: &mut Random) -> Tape {
+    let samples = r.between(3000, 6000);
+    let mut s = settings(r, samples);
+    s.rates = [1.0; 7];
+    s.clock = asked(1, 0.1, 0.0);
+    let mut time: f64 = 0.0;
+    let mut draws = Vec::new();
+    for k in 0..r.between(4, 60) {
+        let mut d = fields(r, &s);
+        if k % 2 == 0 {
+            let next = time.ceil() + r.below(120) as f64 + 0.01 + 0.03 * r.unit();
+            (d.kind, d.data, d.spi, d.clock) = (6, d.data % 4096, d.spi % 2, MODE_AC_LIMIT);
+            d.gap = next - time;
+        } else {
+            (d.kind, d.df_pick, d.clock) = (r.pick(&[2, 4]), d.df_pick % 3, -0.1);
+        }
+        time += d.gap;
+        draws.push(d);
+    }
+    let mut last = fields(r, &s);
+    last.gap = 1e6;
+    draws.push(last);
+    Tape {
+        settings: s,
+        taps: [late(MODE_S_TAPS), impulse(MODE_AC_TAPS, 0, 16.0)].concat(),
+        draws,
+        noise: noise(r, samples),
+    }
+}
+
 pub fn tape(r: &mut Random) -> Tape {
+    if r.once_in(30) {
+        return steep(r);
+    }
     let samples = duration(r);
     let settings = loop {
         let s = settings(r, samples);

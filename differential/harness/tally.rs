@@ -6,6 +6,7 @@ use std::path::PathBuf;
 pub struct Tally {
     counts: BTreeMap<&'static str, (u64, u64)>,
     seen: BTreeMap<String, u64>,
+    ranges: BTreeMap<&'static str, (u64, u64)>,
     folder: PathBuf,
     shown: usize,
 }
@@ -15,6 +16,7 @@ impl Tally {
         Tally {
             counts: BTreeMap::new(),
             seen: BTreeMap::new(),
+            ranges: BTreeMap::new(),
             folder,
             shown: 0,
         }
@@ -51,6 +53,12 @@ impl Tally {
         *self.seen.entry(what.to_string()).or_default() += 1;
     }
 
+    /// Keeps the least and the greatest of some number.
+    pub fn range(&mut self, what: &'static str, n: u64) {
+        let r = self.ranges.entry(what).or_insert((n, n));
+        *r = (r.0.min(n), r.1.max(n));
+    }
+
     pub fn totals(&self) -> (u64, u64) {
         self.counts.values().fold((0, 0), |a, b| (a.0 + b.0, a.1 + b.1))
     }
@@ -58,6 +66,9 @@ impl Tally {
     pub fn print(&self) {
         for (what, n) in &self.seen {
             println!("{n:9} times {what}");
+        }
+        for (what, (least, most)) in &self.ranges {
+            println!("{least:9} to {most}: {what}");
         }
         for (name, (n, wrong)) in &self.counts {
             println!("{n:9} {name}, {wrong} differences");
