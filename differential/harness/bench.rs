@@ -120,7 +120,11 @@ impl Bench {
     }
 
     fn check(&self, call: &Call) -> Result<Vec<Draw>, Refusal> {
-        if call.lengths.wrong() || call.output == 0 || call.output % 2 != 0 || call.draws.len() % DRAW_BYTES != 0 {
+        if call.lengths.wrong()
+            || call.output == 0
+            || call.output % 2 != 0
+            || call.draws.len() % DRAW_BYTES != 0
+        {
             return Err(refusal(9));
         }
         let draws: Vec<Draw> = call.draws.chunks(DRAW_BYTES).map(draw_from_bytes).collect();
@@ -162,7 +166,9 @@ impl Bench {
             return Some(Stop::Done);
         }
         let next = draws.get(ran.counts.taken).map(|d| (d, self.config(d)));
-        let start = next.as_ref().map(|(_, m)| i128::from(open::first_sample_index(m)));
+        let start = next
+            .as_ref()
+            .map(|(_, m)| i128::from(open::first_sample_index(m)));
         let total = i128::from(self.total);
         let ends = |s: i128| s >= 0 && s + LONGEST_REPLY >= total;
         let due = self.ended || start.is_some_and(|s| !ends(s) && s - HELD_BACK > i128::from(self.written));
@@ -218,7 +224,10 @@ impl Bench {
     /// Adds and records a reply: step 5.
     fn add(&mut self, draw: &Draw, config: &MessageConfig, ran: &mut Ran) {
         let start = open::first_sample_index(config) as u64;
-        assert!(start >= self.written, "a reply starts before the samples written: the hold-back is broken");
+        assert!(
+            start >= self.written,
+            "a reply starts before the samples written: the hold-back is broken"
+        );
         lent::lend(std::slice::from_ref(draw), &[]);
         lent::gap();
         let samples: Vec<(f32, f32)> = open::samples(config).iter().map(|z| (z.re, z.im)).collect();

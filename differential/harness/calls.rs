@@ -45,7 +45,10 @@ impl List {
             }
             Err(r) => {
                 put_refusal(&mut expected, *r);
-                put_floats(&mut expected, &vec![OPENING_MARK; lent.mode_s + lent.mode_ac + lent.memory]);
+                put_floats(
+                    &mut expected,
+                    &vec![OPENING_MARK; lent.mode_s + lent.mode_ac + lent.memory],
+                );
             }
         }
         let seen = match &bench {
@@ -84,7 +87,10 @@ impl List {
             Ok(ran) => {
                 let n = ran.counts;
                 let words = [n.taken, n.samples, n.noise, n.records].map(|x| x as u64);
-                put_words(&mut self.expected, [0, stop_number(n.stop), words[0], words[1], words[2], words[3]]);
+                put_words(
+                    &mut self.expected,
+                    [0, stop_number(n.stop), words[0], words[1], words[2], words[3]],
+                );
                 output[..ran.output.len()].copy_from_slice(&ran.output);
                 records[..ran.records.len()].copy_from_slice(&ran.records);
             }
@@ -168,8 +174,13 @@ impl Cut {
     /// Makes a call; says whether it took a draw or wrote a sample.
     fn call(&mut self, c: &Call) -> bool {
         let Ok(ran) = self.list.call(c) else { return false };
-        let taken = c.draws.chunks(DRAW_BYTES).take(ran.counts.taken).map(draw_from_bytes);
-        self.draws.splice(self.taken..self.taken + ran.counts.taken, taken);
+        let taken = c
+            .draws
+            .chunks(DRAW_BYTES)
+            .take(ran.counts.taken)
+            .map(draw_from_bytes);
+        self.draws
+            .splice(self.taken..self.taken + ran.counts.taken, taken);
         self.taken += ran.counts.taken;
         self.used += ran.counts.noise;
         self.samples.extend(&ran.output);
@@ -255,7 +266,6 @@ fn spoil(r: &mut Random, c: &mut Call) {
         _ => c.noise.clear(),
     }
 }
-
 
 /// An opening whose lengths, settings or taps may be wrong, with no call after it.
 pub fn random_opening(r: &mut Random, tape: &Tape) -> List {

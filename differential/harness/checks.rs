@@ -32,10 +32,18 @@ pub fn bench_lines(tally: &mut Tally) {
         ("required samples", required == [0, 218, 258, 596, 1094]),
         ("parity of 123456789", parity == 0x054268),
         ("124 and 125 ns", samples(124) == 0 && samples(125) == 1),
-        ("starts 6905 and 6906 of 8,000", last_start(6905) == 1 && last_start(6906) == 0),
+        (
+            "starts 6905 and 6906 of 8,000",
+            last_start(6905) == 1 && last_start(6906) == 0,
+        ),
     ];
     for (what, right) in lines {
-        tally.compare("lines of document 01", what, &[], (!right).then(|| what.to_string()));
+        tally.compare(
+            "lines of document 01",
+            what,
+            &[],
+            (!right).then(|| what.to_string()),
+        );
     }
 }
 
@@ -60,13 +68,21 @@ fn last_start(start: u64) -> usize {
 pub fn sines(tally: &mut Tally, r: &mut Random) {
     use std::f64::consts::PI;
     let edges = [1.5, 0.5, -0.5, -1.5, 2.0, -2.0, 0.0].map(|k| k * (PI / 2.0));
-    let near = edges.iter().flat_map(|e| [*e, e.next_up(), e.next_down()]).filter(|p| p.abs() <= PI);
+    let near = edges
+        .iter()
+        .flat_map(|e| [*e, e.next_up(), e.next_down()])
+        .filter(|p| p.abs() <= PI);
     let some: Vec<f64> = (0..100_000).map(|_| r.within(PI)).collect();
     for p in near.chain(some) {
         let (a, b) = (lent::sin_cos_by_steps(p), p.sin_cos());
         let far = (a.0 - b.0).abs().max((a.1 - b.1).abs());
         let wrong = !(far <= 1.0 / 8_388_608.0);
-        tally.compare("sine steps within 2^-23", &format!("{p:e}"), &[], wrong.then(|| format!("{a:?} and {b:?}")));
+        tally.compare(
+            "sine steps within 2^-23",
+            &format!("{p:e}"),
+            &[],
+            wrong.then(|| format!("{a:?} and {b:?}")),
+        );
     }
 }
 
@@ -150,7 +166,10 @@ fn text_of_ours(tally: &mut Tally, ours: &Ours, seed: &str, bytes: &[u8], text: 
     let wrong = match ours::answer(program, bytes) {
         Err(why) => Some(why),
         Ok(got) if got == text.as_bytes() => None,
-        Ok(got) => Some(format!("the reference has {text:?}, ours {:?}", String::from_utf8_lossy(&got))),
+        Ok(got) => Some(format!(
+            "the reference has {text:?}, ours {:?}",
+            String::from_utf8_lossy(&got)
+        )),
     };
     tally.compare("text of the tape program", seed, bytes, wrong);
 }
@@ -168,8 +187,11 @@ fn calls_of_ours(tally: &mut Tally, ours: &Ours, seed: &str, list: &calls::List)
 /// The plain bench, given everything in one call, writes what the reference writes.
 fn plain(tally: &mut Tally, seed: &str, tape: &Tape, bytes: &[u8], run: &judge::Run) {
     let (mode_s, mode_ac) = tape.taps.split_at(MODE_S_TAPS);
-    let mut bench = Bench::open(&tape.settings, mode_s, mode_ac, RIGHT_LENGTHS).expect("the tape was accepted");
-    let ran = bench.call(&calls::lend_all(&tape.draws, &tape.noise, run.samples.len() / 2)).expect("the tape was accepted");
+    let mut bench =
+        Bench::open(&tape.settings, mode_s, mode_ac, RIGHT_LENGTHS).expect("the tape was accepted");
+    let ran = bench
+        .call(&calls::lend_all(&tape.draws, &tape.noise, run.samples.len() / 2))
+        .expect("the tape was accepted");
     let samples = first_difference("samples", &bytes_of(&run.samples), &bytes_of(&ran.output));
     tally.compare("whole runs, reference and bench", seed, bytes, samples);
     let records = first_difference("records", &run.records, &ran.records);
@@ -207,7 +229,8 @@ fn settings(tally: &mut Tally, r: &mut Random, seed: &str) {
         }
         let ours = rules::settings(&s).is_err();
         let theirs = judge::distributions(&s).is_err() || rates_refused(&s);
-        let wrong = (ours != theirs).then(|| format!("refused by the rules: {ours}, by the reference: {theirs}, {s:?}"));
+        let wrong = (ours != theirs)
+            .then(|| format!("refused by the rules: {ours}, by the reference: {theirs}, {s:?}"));
         tally.compare("settings, rules and reference", seed, &s.to_bytes(), wrong);
     }
 }

@@ -139,16 +139,33 @@ fn distributions(m: &mut Maker) {
     let asked = |kind, first, second| Asked { kind, first, second };
     let nyquist = around(4_000_000.0).into_iter().chain(around(-4_000_000.0));
     for x in nyquist.chain(NOT_FINITE).chain(SIGNS) {
-        m.change(format!("carrier constant {x:e}"), |t| t.settings.carrier = asked(0, x, 0.0));
-        m.change(format!("carrier max {x:e}"), |t| t.settings.carrier = asked(1, 1.0, x));
-        m.change(format!("carrier sigma {x:e}"), |t| t.settings.carrier = asked(1, x, 1.0));
-        m.change(format!("phase constant {x:e}"), |t| t.settings.phase = asked(0, x, x));
-        m.change(format!("phase uniform, ignored {x:e}"), |t| t.settings.phase = asked(1, x, x));
+        m.change(format!("carrier constant {x:e}"), |t| {
+            t.settings.carrier = asked(0, x, 0.0)
+        });
+        m.change(format!("carrier max {x:e}"), |t| {
+            t.settings.carrier = asked(1, 1.0, x)
+        });
+        m.change(format!("carrier sigma {x:e}"), |t| {
+            t.settings.carrier = asked(1, x, 1.0)
+        });
+        m.change(format!("phase constant {x:e}"), |t| {
+            t.settings.phase = asked(0, x, x)
+        });
+        m.change(format!("phase uniform, ignored {x:e}"), |t| {
+            t.settings.phase = asked(1, x, x)
+        });
     }
-    let tenth = around(0.1).into_iter().chain(around(-0.1)).chain(around(MODE_AC_LIMIT));
+    let tenth = around(0.1)
+        .into_iter()
+        .chain(around(-0.1))
+        .chain(around(MODE_AC_LIMIT));
     for x in tenth.chain(NOT_FINITE).chain(SIGNS) {
-        m.change(format!("clock constant {x:e}"), |t| t.settings.clock = asked(0, x, f64::NAN));
-        m.change(format!("clock max {x:e}"), |t| t.settings.clock = asked(1, x, f64::NAN));
+        m.change(format!("clock constant {x:e}"), |t| {
+            t.settings.clock = asked(0, x, f64::NAN)
+        });
+        m.change(format!("clock max {x:e}"), |t| {
+            t.settings.clock = asked(1, x, f64::NAN)
+        });
     }
 }
 
@@ -200,20 +217,33 @@ fn fields(m: &mut Maker, at: usize, kind: u8) {
         put(format!("phase draw {x:e}"), &|d| d.phase = x);
         put(format!("clock draw {x:e}"), &|d| d.clock = x);
     }
-    for x in [1_048_576.0, 1_048_576f32.next_up(), -0.0, -1e-45, f32::NAN, f32::INFINITY] {
+    for x in [
+        1_048_576.0,
+        1_048_576f32.next_up(),
+        -0.0,
+        -1e-45,
+        f32::NAN,
+        f32::INFINITY,
+    ] {
         put(format!("amplitude {x:e}"), &|d| d.amplitude = x);
     }
     for x in around(PI).into_iter().chain(around(-PI)) {
         put(format!("phase draw {x:e}"), &|d| d.phase = x);
     }
-    for x in around(0.1).into_iter().chain(around(-0.1)).chain(around(MODE_AC_LIMIT)) {
+    for x in around(0.1)
+        .into_iter()
+        .chain(around(-0.1))
+        .chain(around(MODE_AC_LIMIT))
+    {
         put(format!("clock draw {x:e}"), &|d| d.clock = x);
     }
     for n in [1, 2, 3, 10, 11, 255] {
         put(format!("DF pick {n}"), &|d| d.df_pick = n);
     }
     for (df, n) in [(0, 4), (0, 5), (1, 4), (1, 5), (1, 6), (2, 5), (0, 255)] {
-        put(format!("DF pick {df}, CA pick {n}"), &|d| (d.df_pick, d.ca_pick) = (df, n));
+        put(format!("DF pick {df}, CA pick {n}"), &|d| {
+            (d.df_pick, d.ca_pick) = (df, n)
+        });
     }
     for n in [0, 127, 128, 255] {
         put(format!("overlay {n}"), &|d| d.overlay = n);
@@ -235,17 +265,29 @@ fn noise(m: &mut Maker) {
     for place in [0, n / 2, n.saturating_sub(1)] {
         if place < n {
             let over = 64f32.next_up();
-            for x in [64.0, -64.0, over, -over, f32::NAN, f32::INFINITY, f32::NEG_INFINITY] {
+            for x in [
+                64.0,
+                -64.0,
+                over,
+                -over,
+                f32::NAN,
+                f32::INFINITY,
+                f32::NEG_INFINITY,
+            ] {
                 m.change(format!("noise {place} is {x:e}"), |t| t.noise[place] = x);
             }
         }
     }
     for x in [64.0, 65.0] {
         m.change(format!("one noise value more, {x}"), |t| t.noise.push(x));
-        m.change(format!("two noise values more, {x}"), |t| t.noise.extend([0.0, x]));
+        m.change(format!("two noise values more, {x}"), |t| {
+            t.noise.extend([0.0, x])
+        });
     }
     for fewer in 1..4 {
-        m.change(format!("{fewer} noise values fewer"), |t| t.noise.truncate(n.saturating_sub(fewer)));
+        m.change(format!("{fewer} noise values fewer"), |t| {
+            t.noise.truncate(n.saturating_sub(fewer))
+        });
     }
     m.change("no noise".into(), |t| t.noise.clear());
     m.change("no draws".into(), |t| t.draws.clear());
@@ -259,16 +301,27 @@ fn counts(m: &mut Maker) {
     for (k, name) in ["settings", "taps", "draws", "noise"].into_iter().enumerate() {
         let right = u32_at(&m.base.to_bytes(), places[k]);
         for n in [0, right.wrapping_sub(1), right + 1, u32::MAX] {
-            m.bytes(format!("{name} count {n}"), |b| b[places[k]..places[k] + 4].copy_from_slice(&n.to_le_bytes()));
+            m.bytes(format!("{name} count {n}"), |b| {
+                b[places[k]..places[k] + 4].copy_from_slice(&n.to_le_bytes())
+            });
         }
     }
     for place in places {
-        for cut in [place.saturating_sub(1), place, place + 1, place + 3, place + 4, place + 5] {
+        for cut in [
+            place.saturating_sub(1),
+            place,
+            place + 1,
+            place + 3,
+            place + 4,
+            place + 5,
+        ] {
             m.bytes(format!("cut at byte {cut}"), |b| b.truncate(cut));
         }
     }
     m.bytes("one byte left over".into(), |b| b.push(0));
-    m.change("a loud value in a short noise section".into(), |t| t.noise.fill(65.0));
+    m.change("a loud value in a short noise section".into(), |t| {
+        t.noise.fill(65.0)
+    });
     m.bytes("a bad noise value, and short".into(), |b| {
         let end = places[4];
         if places[3] + 8 < end {

@@ -10,9 +10,18 @@ use std::panic::catch_unwind;
 
 pub const ALL: [(&str, fn() -> bool); 7] = [
     ("the Rust fills bytes 1 to 3 of an all-call", all_call_bytes),
-    ("smaller batches panic: starts 1102, 1096 with 1,100", small_batches),
-    ("a Mode A/C clock error above the limit panics when samples are made", mode_ac_limit),
-    ("such a draw that is ignored, or ends the run, does not panic", mode_ac_limit_unused),
+    (
+        "smaller batches panic: starts 1102, 1096 with 1,100",
+        small_batches,
+    ),
+    (
+        "a Mode A/C clock error above the limit panics when samples are made",
+        mode_ac_limit,
+    ),
+    (
+        "such a draw that is ignored, or ends the run, does not panic",
+        mode_ac_limit_unused,
+    ),
     ("a prototype that does not cross 0.5 panics", no_crossing),
     ("the Rust takes noise, amplitudes and taps of any size", any_size),
     ("phase_wrap_f64 can give PI", wrap_gives_pi),
@@ -34,7 +43,10 @@ fn all_call_bytes() -> bool {
 fn with_gaps(draws: &[(u8, f64)]) -> Tape {
     let mut t = make::worked();
     let (first, last) = (t.draws[0], t.draws[2]);
-    t.draws = draws.iter().map(|&(kind, gap)| lent::Draw { kind, gap, ..first }).collect();
+    t.draws = draws
+        .iter()
+        .map(|&(kind, gap)| lent::Draw { kind, gap, ..first })
+        .collect();
     t.draws.push(last);
     t
 }

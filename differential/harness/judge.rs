@@ -32,7 +32,9 @@ pub fn distributions(s: &Settings) -> Result<MessageDistributions, String> {
     let text = |e: anyhow::Error| e.0;
     let carrier = |d: Asked| {
         Ok::<_, String>(match d.kind {
-            0 => CarrierFrequencyOffsetDistribution::Constant(ConstantCarrierFrequencyOffset::new(d.first).map_err(text)?),
+            0 => CarrierFrequencyOffsetDistribution::Constant(
+                ConstantCarrierFrequencyOffset::new(d.first).map_err(text)?,
+            ),
             _ => CarrierFrequencyOffsetDistribution::ClampedNormal(
                 ClampedNormalCarrierFrequencyOffset::new(d.first, d.second).map_err(text)?,
             ),
@@ -46,7 +48,9 @@ pub fn distributions(s: &Settings) -> Result<MessageDistributions, String> {
     };
     let clock = |d: Asked| {
         Ok::<_, String>(match d.kind {
-            0 => SymbolClockErrorDistribution::Constant(ConstantSymbolClockError::new(d.first).map_err(text)?),
+            0 => {
+                SymbolClockErrorDistribution::Constant(ConstantSymbolClockError::new(d.first).map_err(text)?)
+            }
             _ => SymbolClockErrorDistribution::Uniform(UniformSymbolClockError::new(d.first).map_err(text)?),
         })
     };
@@ -180,7 +184,11 @@ fn go(tape: &Tape, batch_size: usize) -> Result<Run, String> {
     simulation
         .run(&mut Rng {}, &mut written, |m| {
             let r = record(m);
-            assert_eq!(r[48], lent::draw().kind, "a message of another class than its type");
+            assert_eq!(
+                r[48],
+                lent::draw().kind,
+                "a message of another class than its type"
+            );
             records.extend(r);
             Ok(())
         })

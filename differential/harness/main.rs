@@ -41,7 +41,9 @@ fn main() {
 
 fn standard_input() -> Vec<u8> {
     let mut bytes = Vec::new();
-    std::io::stdin().read_to_end(&mut bytes).expect("standard input can be read");
+    std::io::stdin()
+        .read_to_end(&mut bytes)
+        .expect("standard input can be read");
     bytes
 }
 
@@ -62,7 +64,9 @@ fn write_tape(words: &[String]) -> i32 {
         }
     };
     use std::io::Write;
-    std::io::stdout().write_all(&tape.to_bytes()).expect("standard output can be written");
+    std::io::stdout()
+        .write_all(&tape.to_bytes())
+        .expect("standard output can be written");
     0
 }
 
@@ -132,12 +136,19 @@ fn compare(words: &[String]) -> i32 {
         checks::tape(&mut tally, &o.ours, &mut tape_source(o.seed, index), &seed);
         if (index + 1) % 250 == 0 {
             let (n, wrong) = tally.totals();
-            println!("{} of {} tapes, {n} comparisons, {wrong} differences", index + 1, o.count);
+            println!(
+                "{} of {} tapes, {n} comparisons, {wrong} differences",
+                index + 1,
+                o.count
+            );
         }
     }
     tally.print();
     let (n, wrong) = tally.totals();
-    println!("largest distance of the sine steps from sin_cos: {:e}", lent::largest_distance());
+    println!(
+        "largest distance of the sine steps from sin_cos: {:e}",
+        lent::largest_distance()
+    );
     println!("tapes: {n} comparisons, {wrong} differences");
     i32::from(wrong > 0)
 }

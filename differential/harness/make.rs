@@ -107,7 +107,17 @@ fn carrier(r: &mut Random) -> Asked {
 fn phase(r: &mut Random) -> Asked {
     match r.below(4) {
         0 => {
-            let edge = r.pick(&[PI, -PI, PI.next_down(), (-PI).next_down(), 0.0, -0.0, 1e300, f64::MIN, 3.0 * PI]);
+            let edge = r.pick(&[
+                PI,
+                -PI,
+                PI.next_down(),
+                (-PI).next_down(),
+                0.0,
+                -0.0,
+                1e300,
+                f64::MIN,
+                3.0 * PI,
+            ]);
             asked(0, edge, 0.0)
         }
         1 => asked(0, r.within(100.0), f64::INFINITY),
@@ -117,7 +127,11 @@ fn phase(r: &mut Random) -> Asked {
 
 fn clock(r: &mut Random) -> Asked {
     match r.below(5) {
-        0 => asked(0, r.pick(&[0.0, -0.0, 0.1, -0.1, MODE_AC_LIMIT, MODE_AC_LIMIT.next_up()]), 0.0),
+        0 => asked(
+            0,
+            r.pick(&[0.0, -0.0, 0.1, -0.1, MODE_AC_LIMIT, MODE_AC_LIMIT.next_up()]),
+            0.0,
+        ),
         1 => asked(0, r.within(0.1), f64::NAN),
         2 => asked(1, r.pick(&[0.0, -0.0, 50e-6, MODE_AC_LIMIT]), 7.0),
         _ => asked(1, 0.1, 0.0),
@@ -170,15 +184,39 @@ fn fields(r: &mut Random, s: &Settings) -> Draw {
         kind,
         cn0: r.within(120.0),
         amplitude: r.pick(&[amplitude, amplitude, 1.0, 0.0, -0.0, 1_048_576.0, 1e-45, 1e-20]),
-        carrier: if s.carrier.kind == 0 { wild } else { r.pick(&[angle, 0.0, -0.0, 1e300, -1e300, 5e-324]) },
-        phase: if s.phase.kind == 0 { wild } else { r.pick(&[angle, angle, -PI, PI.next_down(), 0.0, -0.0]) },
+        carrier: if s.carrier.kind == 0 {
+            wild
+        } else {
+            r.pick(&[angle, 0.0, -0.0, 1e300, -1e300, 5e-324])
+        },
+        phase: if s.phase.kind == 0 {
+            wild
+        } else {
+            r.pick(&[angle, angle, -PI, PI.next_down(), 0.0, -0.0])
+        },
         clock: if s.clock.kind == 0 { wild } else { clock },
         df_pick,
         ca_pick,
-        overlay: if kind == 3 { r.between(1, 127) as u8 } else { r.below(256) as u8 },
-        bytes: if r.once_in(8) { [r.pick(&[0, 255]); 14] } else { r.bytes() },
-        data: if kind == 6 { r.below(4096) as u16 } else { r.word() as u16 },
-        spi: if kind == 6 { r.below(2) as u8 } else { r.word() as u8 },
+        overlay: if kind == 3 {
+            r.between(1, 127) as u8
+        } else {
+            r.below(256) as u8
+        },
+        bytes: if r.once_in(8) {
+            [r.pick(&[0, 255]); 14]
+        } else {
+            r.bytes()
+        },
+        data: if kind == 6 {
+            r.below(4096) as u16
+        } else {
+            r.word() as u16
+        },
+        spi: if kind == 6 {
+            r.below(2) as u8
+        } else {
+            r.word() as u8
+        },
     }
 }
 
@@ -295,7 +333,8 @@ pub fn tape(r: &mut Random) -> Tape {
     let settings = loop {
         let s = settings(r, samples);
         // Mode A/C alone with a clock error that it does not have: no draw would be accepted.
-        let none = s.rates[..6].iter().all(|x| !(*x > 0.0)) && s.clock.kind == 0 && s.clock.first > MODE_AC_LIMIT;
+        let none =
+            s.rates[..6].iter().all(|x| !(*x > 0.0)) && s.clock.kind == 0 && s.clock.first > MODE_AC_LIMIT;
         if rules::settings(&s).is_ok() && !none {
             break s;
         }
@@ -340,9 +379,21 @@ pub fn worked() -> Tape {
         },
         taps: [impulse(MODE_S_TAPS, 0, 1.0), impulse(MODE_AC_TAPS, 0, 1.0)].concat(),
         draws: vec![
-            Draw { gap: 100.0, df_pick: 1, ..none },
-            Draw { gap: 50.5, kind: 6, data: 3584, ..none },
-            Draw { gap: 1_000_000.0, ..none },
+            Draw {
+                gap: 100.0,
+                df_pick: 1,
+                ..none
+            },
+            Draw {
+                gap: 50.5,
+                kind: 6,
+                data: 3584,
+                ..none
+            },
+            Draw {
+                gap: 1_000_000.0,
+                ..none
+            },
         ],
         noise: vec![0.0; 16000],
     }

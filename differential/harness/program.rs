@@ -47,7 +47,11 @@ fn read(bytes: &[u8]) -> Result<(Tape, bool), Refusal> {
     let [mode_s, mode_ac] = judge::prototypes(&taps);
     rules::prototypes([&mode_s, &mode_ac])?;
     let n = r.count(|n| n <= MOST_DRAWS)?;
-    let draws: Vec<Draw> = r.take(DRAW_BYTES * n)?.chunks(DRAW_BYTES).map(draw_from_bytes).collect();
+    let draws: Vec<Draw> = r
+        .take(DRAW_BYTES * n)?
+        .chunks(DRAW_BYTES)
+        .map(draw_from_bytes)
+        .collect();
     rules::draws(&settings, &draws)?;
     let n = r.count(|_| true)?;
     let noise = floats(r.take(4 * n)?);
@@ -99,7 +103,10 @@ fn line(r: &[u8]) -> String {
     let count = u16::from_le_bytes([r[49], r[50]]);
     let message = match r[51] {
         2 => format!("{:04x}", u16::from_le_bytes([r[52], r[53]])),
-        n => r[52..52 + usize::from(n)].iter().map(|b| format!("{b:02x}")).collect(),
+        n => r[52..52 + usize::from(n)]
+            .iter()
+            .map(|b| format!("{b:02x}"))
+            .collect(),
     };
     format!("{first} {} {count} {message}\n", r[48])
 }

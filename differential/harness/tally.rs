@@ -32,7 +32,11 @@ impl Tally {
         if self.shown > 50 {
             return;
         }
-        let file = self.folder.join(format!("{}-{}.bin", name.replace(' ', "-"), seed.replace(' ', "-")));
+        let file = self.folder.join(format!(
+            "{}-{}.bin",
+            name.replace(' ', "-"),
+            seed.replace(' ', "-")
+        ));
         let kept = std::fs::create_dir_all(&self.folder).and_then(|()| std::fs::write(&file, input));
         println!("DIFFERENCE {name}, seed {seed}: {text}");
         match kept {
@@ -42,7 +46,13 @@ impl Tally {
     }
 
     /// One comparison of a function's answer at x.
-    pub fn same<T: PartialEq + std::fmt::Debug>(&mut self, name: &'static str, x: f64, reference: T, ours: T) {
+    pub fn same<T: PartialEq + std::fmt::Debug>(
+        &mut self,
+        name: &'static str,
+        x: f64,
+        reference: T,
+        ours: T,
+    ) {
         let wrong = (reference != ours).then(|| format!("{reference:?} by the reference, {ours:?} by ours"));
         let bits = x.to_bits();
         self.compare(name, &format!("{bits:016x}"), &bits.to_le_bytes(), wrong);

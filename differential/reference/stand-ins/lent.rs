@@ -199,7 +199,9 @@ impl<T> OnceLock<T> {
     pub fn get_or_init<F: FnOnce() -> T>(&self, f: F) -> &T {
         let (thread, number) = (std::thread::current().id(), TAPS_NUMBER.get());
         let held = |m: &Vec<(std::thread::ThreadId, u64, &'static T)>| {
-            m.iter().find(|(t, n, _)| *t == thread && *n == number).map(|(_, _, v)| *v)
+            m.iter()
+                .find(|(t, n, _)| *t == thread && *n == number)
+                .map(|(_, _, v)| *v)
         };
         if let Some(v) = held(&self.made.lock().unwrap()) {
             return v;

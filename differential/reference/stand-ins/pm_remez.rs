@@ -9,7 +9,12 @@ pub fn constant(_value: f64) -> Constant {
 }
 
 impl BandSetting {
-    pub fn with_weight(_begin: f64, _end: f64, _response: Constant, _weight: Constant) -> Result<BandSetting, ()> {
+    pub fn with_weight(
+        _begin: f64,
+        _end: f64,
+        _response: Constant,
+        _weight: Constant,
+    ) -> Result<BandSetting, ()> {
         Ok(BandSetting)
     }
 }
@@ -29,7 +34,10 @@ pub struct Design {
 
 pub fn pm_remez(parameters: &Parameters) -> Result<Design, ()> {
     Ok(Design {
-        impulse_response: lent::taps(parameters.num_taps).into_iter().map(f64::from).collect(),
+        impulse_response: lent::taps(parameters.num_taps)
+            .into_iter()
+            .map(f64::from)
+            .collect(),
         flatness: 0.0,
     })
 }

@@ -1,7 +1,7 @@
 //! The part of `rand_distr` that the reference uses; see the stand-in of `rand`.
 
-pub use rand::distr::Distribution;
 use rand::Rng;
+pub use rand::distr::Distribution;
 
 /// The gap to the next message.
 pub struct Exp;
