@@ -32,11 +32,11 @@ impl Tally {
         if self.shown > 50 {
             return;
         }
-        let file = self.folder.join(format!(
-            "{}-{}.bin",
-            name.replace(' ', "-"),
-            seed.replace(' ', "-")
-        ));
+        let plain: String = format!("{name} {seed}")
+            .chars()
+            .map(|c| if c.is_ascii_alphanumeric() { c } else { '-' })
+            .collect();
+        let file = self.folder.join(format!("{plain}.bin"));
         let kept = std::fs::create_dir_all(&self.folder).and_then(|()| std::fs::write(&file, input));
         println!("DIFFERENCE {name}, seed {seed}: {text}");
         match kept {
