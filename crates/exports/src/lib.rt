@@ -1,0 +1,29 @@
+// Functions of the port under C names, for the differential harness to call: each only calls, and promises what it calls promises. Assumes nothing.
+ghost use mathlib.Core.Path.{_≡_};
+ghost use lib.Ieee.{toUnsigned};
+ghost use Rattle.float_bits.specs.Narrow.{narrow as narrowed};
+ghost use Rattle.float_bits.specs.Ceil.{ceilSigned};
+
+// Rust's `x as f32`.
+#[no_mangle]
+pub extern "C" fn port_narrow(x: f64) -> f32
+    ensures { λ r. ⌜ r ≡ narrowed x ⌝ }
+{
+    float_bits::narrow(x)
+}
+
+// Rust's `x.ceil() as i64`.
+#[no_mangle]
+pub extern "C" fn port_ceil_to_i64(x: f64) -> i64
+    ensures { λ r. ⌜ r ≡ ceilSigned 63 x ⌝ }
+{
+    float_bits::ceil_to_i64(x)
+}
+
+// Rust's `x as u64`.
+#[no_mangle]
+pub extern "C" fn port_to_u64(x: f64) -> u64
+    ensures { λ r. ⌜ r ≡ toUnsigned 64 x ⌝ }
+{
+    float_bits::to_u64(x)
+}

@@ -1,0 +1,29 @@
+//! Parts of the port against the reference, function by function: the port's static library (crate `exports`) linked
+//! into this program. A part is one file in parts/ and its two lines here.
+// What is shared with the other program is used in part.
+#![allow(dead_code)]
+
+mod random;
+mod tally;
+mod parts {
+    pub mod floats;
+}
+
+use random::Random;
+use std::path::PathBuf;
+use tally::Tally;
+
+/// `parts [COUNT] [SEED] [FOLDER]`: COUNT arguments for each function.
+fn main() {
+    let words: Vec<String> = std::env::args().skip(1).collect();
+    let number = |k: usize, other: u64| words.get(k).map_or(other, |w| w.parse().expect("a number"));
+    let (count, seed) = (number(0, 100_000), number(1, 1));
+    let folder = words.get(2).map_or("differences", String::as_str);
+    let mut tally = Tally::new(PathBuf::from(folder));
+    let mut r = Random::new(seed);
+    parts::floats::compare(&mut tally, &mut r, count);
+    tally.print();
+    let (n, wrong) = tally.totals();
+    println!("parts: {n} comparisons, {wrong} differences");
+    std::process::exit(i32::from(wrong > 0));
+}
