@@ -1,0 +1,3 @@
+pub mod InRange
+pub mod Bytes
+pub mod Replies
