@@ -25,15 +25,18 @@ typeNumber LongAp = 4
 typeNumber MilitaryExtendedSquitter = 5
 typeNumber ModeAc = 6
 
--- the type of a number; none above 6
-unfoldable pub typeNumbered : ℕ → TypeFound
-typeNumbered n =
-    getD
-    (Of ExtendedSquitter
+-- the types in the order of their numbers
+abbrev pub allTypes : List TypeFound
+allTypes =
+    Of ExtendedSquitter
     ∷ Of AcquisitionSquitter
     ∷ Of ShortAp
     ∷ Of AllCallReply
     ∷ Of LongAp
     ∷ Of MilitaryExtendedSquitter
     ∷ Of ModeAc
-    ∷ []) n Unknown
+    ∷ []
+
+-- the type of a number; none above 6
+unfoldable pub typeNumbered : ℕ → TypeFound
+typeNumbered n = getD allTypes n Unknown

@@ -3,8 +3,8 @@ use mathlib.Core.Path.{_≡_, sym, ap}
 use borrow.Author.Needs.{needs}
 use Prim.Native.Nat.{ℕ, suc, _≤_}
 use native.Mathlib.Omega.{arith}
-use lib.ListN.{List·getD-eq-default}
 use Rattle.message.specs.Types.{typeNumbered}
+use Rattle.message.proofs.Numbers.{none-above}
 use Rattle.message.proofs.message_type.Statement.{statement}
 use Rattle.message.proofs.message_type.Tie as tie
 
@@ -40,7 +40,6 @@ next : (k n : ℕ) → k ≤ n → (n ≡ k → ⊥) → suc k ≤ n
 next k n h e = omega arith
 
 returns-8 : tie.Need-returns-8
-unfolding typeNumbered
 returns-8 c =
     let n = c .before .before .before .before .before .before .before .args .n in
     let h0 : 0 ≤ n = search needs in
@@ -50,7 +49,7 @@ returns-8 c =
     let h4 = next 3 n h3 (c .before .before .before .if4 .left) in
     let h5 = next 4 n h4 (c .before .before .if5 .left) in
     let h6 = next 5 n h5 (c .before .if6 .left) in
-    sym (List·getD-eq-default _ _ (next 6 n h6 (c .if7 .left)))
+    sym (none-above n (next 6 n h6 (c .if7 .left)))
 
 pub message-type-spec : {M : Type 1} → statement M
 message-type-spec =
