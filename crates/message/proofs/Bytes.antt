@@ -1,11 +1,11 @@
 -- A draw of fourteen bytes, byte by byte, and what stores in it make. Assumes nothing.
-use mathlib.Core.Path.{_≡_, refl, sym, ap, _∙_}
+use mathlib.Core.Path.{_≡_, refl, sym, ap, ap₂, _∙_}
 use mathlib.Core.List.{List, [], _∷_, _++_}
-use Prim.Native.Nat.{ℕ, zero, suc, _+_, _<_, _≤_}
-use native.Mathlib.Nat.{add-zero, zero-add, le-of-suc-le-suc, not-suc-le-zero}
+use Prim.Native.Nat.{ℕ, zero, suc, _+_, _/_, _%_, _<_, _≤_}
 use native.Mathlib.Omega.{arith}
 use lib.ListN.{length, getD, set, take, drop}
 use lib.Seq.{drop-cons, take-all}
+use Rattle.mode_s.specs.Parity.{parityOf, parityBytes, sealed}
 
 -- n bytes from place k on, each by itself
 unfoldable pub each : List ℕ → ℕ → ℕ → List ℕ
@@ -36,12 +36,21 @@ module _ (l : List ℕ) (fourteen : length l ≡ 14) where
     unfolding each
     first-set = ap (λ (d : List ℕ). set d 0 v) whole ∙ ap (λ (d : List ℕ). v ∷ d) (sym (taken l 1 13 (omega arith)))
 
-    pub head-set : take 11 (set l 0 v) ≡ v ∷ take 10 (drop 1 l)
+    head-set : take 11 (set l 0 v) ≡ v ∷ take 10 (drop 1 l)
     unfolding each
     head-set = ap (λ (d : List ℕ). take 11 (set d 0 v)) whole ∙ ap (λ (d : List ℕ). v ∷ d) (sym (taken l 1 10 (omega arith)))
 
-    pub end-set : (x y z : ℕ) → set (set (set (set l 0 v) 11 x) 12 y) 13 z ≡ (v ∷ take 10 (drop 1 l)) ++ (x ∷ y ∷ z ∷ [])
+    end-set : (x y z : ℕ) → set (set (set (set l 0 v) 11 x) 12 y) 13 z ≡ (v ∷ take 10 (drop 1 l)) ++ (x ∷ y ∷ z ∷ [])
     unfolding each
     end-set x y z =
         ap (λ (d : List ℕ). set (set (set (set d 0 v) 11 x) 12 y) 13 z) whole
         ∙ ap (λ (d : List ℕ). (v ∷ d) ++ (x ∷ y ∷ z ∷ [])) (sym (taken l 1 10 (omega arith)))
+
+    -- the parity of the first eleven bytes stored behind them, high byte first
+    pub parity-set : (p x y : ℕ) → p ≡ parityOf (take 11 (set l 0 v)) → x ≡ p / 65536 % 256 → y ≡ p / 256 % 256
+        → set (set (set (set l 0 v) 11 x) 12 y) 13 (p % 256) ≡ sealed (v ∷ take 10 (drop 1 l)) 0
+    unfolding sealed parityBytes
+    parity-set p x y e ex ey =
+        end-set x y (p % 256)
+        ∙ ap₂ (λ (a b : ℕ). (v ∷ take 10 (drop 1 l)) ++ (a ∷ b ∷ p % 256 ∷ [])) ex ey
+        ∙ ap (λ (n : ℕ). (v ∷ take 10 (drop 1 l)) ++ parityBytes n 0) (e ∙ ap parityOf head-set)

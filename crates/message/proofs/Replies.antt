@@ -1,12 +1,13 @@
 -- The definition of a reply at each type, in the form in which the code writes its bytes. Assumes nothing.
-use mathlib.Core.Path.{_≡_, refl, sym, ap, _∙_}
+use mathlib.Core.Path.{_≡_, sym, ap, ap₂, _∙_}
 use mathlib.Core.List.{List, [], _∷_, _++_, append-nil}
-use Prim.Native.Nat.{ℕ, _+_, _-_, _*_, _%_}
+use Prim.Native.Nat.{ℕ, _+_, _-_, _*_, _/_, _%_}
 use borrow.Author.Tests.{eq-eqb, ne-eqb}
 use native.Mathlib.Omega.{arith}
+use lib.Bits.{bitXor}
 use lib.ListN.{length, getD, take, drop, replicate, length-append, length-take, length-drop}
 use Rattle.mode_s.specs.Formats.{extendedFormats, shortApFormats, longApFormats, capabilities, controls}
-use Rattle.mode_s.specs.Parity.{parityBytes, sealed}
+use Rattle.mode_s.specs.Parity.{parityOf, parityBytes, sealed}
 use Rattle.message.specs.declared.MessageType.the-variants.{
   ExtendedSquitter,
   AcquisitionSquitter,
@@ -40,6 +41,15 @@ reply k m = record { kind = k; bytes = m }
 filled-whole : (m : List ℕ) → length m ≡ 14 → m ≡ filled m
 unfolding filled
 filled-whole m h = sym (ap (λ (n : ℕ). m ++ replicate (14 - n) 0) h ∙ append-nil m)
+
+-- four bytes, their parity and an overlay, and zeros
+pub sealed-reply : (a b c d o p x y : ℕ) → p ≡ parityOf (a ∷ b ∷ c ∷ d ∷ []) → x ≡ p / 65536 % 256 → y ≡ p / 256 % 256
+    → reply Short (a ∷ b ∷ c ∷ d ∷ x ∷ y ∷ bitXor o (p % 256) ∷ 0 ∷ 0 ∷ 0 ∷ 0 ∷ 0 ∷ 0 ∷ 0 ∷ [])
+    ≡ reply Short (filled (sealed (a ∷ b ∷ c ∷ d ∷ []) o))
+unfolding filled sealed parityBytes
+sealed-reply a b c d o p x y e ex ey =
+    ap₂ (λ (m n : ℕ). reply Short (filled (a ∷ b ∷ c ∷ d ∷ m ∷ n ∷ bitXor o (p % 256) ∷ []))) ex ey
+    ∙ ap (λ (n : ℕ). reply Short (filled ((a ∷ b ∷ c ∷ d ∷ []) ++ parityBytes n o))) e
 
 module _ (p : Picks) (fourteen : length (p .bytes) ≡ 14) where
   pub short-ap-reply

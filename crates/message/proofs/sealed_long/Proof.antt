@@ -1,12 +1,12 @@
 -- `message::sealed_long` meets its contract. Assumes nothing.
-use mathlib.Core.Path.{_≡_, sym}
-use Prim.Native.Nat.{_%_}
+use mathlib.Core.Path.{_≡_, sym, ap}
 use borrow.Author.Needs.{needs}
 use native.Mathlib.Omega.{arith}
 use lib.ListN.{length, length-set, set}
 use lib.Seq.{length-take-le}
-use Rattle.mode_s.specs.Parity.{parityBytes, sealed}
-use Rattle.message.proofs.Bytes.{head-set, end-set}
+use Rattle.message.specs.declared.ReplyKind.the-variants.{Long}
+use Rattle.message.proofs.Bytes.{parity-set}
+use Rattle.message.proofs.Replies.{reply}
 use Rattle.message.proofs.sealed_long.Statement.{statement}
 use Rattle.message.proofs.sealed_long.Tie as tie
 
@@ -44,14 +44,11 @@ array-write-b-4 : tie.Need-array-write-b-4
 array-write-b-4 c = search needs
 
 returns : tie.Need-returns
-unfolding sealed parityBytes
 returns c =
     let a = c .before .before .before .before .args in
     let h : length (a .draw) ≡ 14 = search needs in
-    cc (
-      head-set (a .draw) h (a .first),
-      end-set (a .draw) h (a .first) (c .before .byte-of .result) (c .byte-of2 .result) (c .before .before .parity .result % 256),
-    )
+    ap (reply Long)
+    (parity-set (a .draw) h (a .first) _ _ _ (c .before .before .parity .ensures) (c .before .byte-of .ensures) (c .byte-of2 .ensures))
 
 pub sealed-long-spec : {M : Type 1} → statement M
 sealed-long-spec =

@@ -1,7 +1,6 @@
 -- `message::sealed_short` meets its contract. Assumes nothing.
 use borrow.Author.Needs.{needs}
-use Rattle.mode_s.specs.Parity.{parityBytes, sealed}
-use Rattle.message.specs.Making.{filled}
+use Rattle.message.proofs.Replies.{sealed-reply}
 use Rattle.message.proofs.sealed_short.Statement.{statement}
 use Rattle.message.proofs.sealed_short.Tie as tie
 
@@ -21,8 +20,8 @@ cast-t14 : tie.Need-cast-t14
 cast-t14 c = search needs
 
 returns : tie.Need-returns
-unfolding sealed parityBytes filled
-returns c = cc
+returns c =
+    sealed-reply _ _ _ _ _ _ _ _ (c .before .before .parity .ensures) (c .before .byte-of .ensures) (c .byte-of2 .ensures)
 
 pub sealed-short-spec : {M : Type 1} → statement M
 sealed-short-spec =
