@@ -1,5 +1,5 @@
 -- What fields in range say of each pick, and bounds on the entries of the tables. Assumes nothing.
-use mathlib.Core.Path.{_≡_, refl, sym, subst}
+use mathlib.Core.Path.{_≡_}
 use mathlib.Core.Bool.{Bool, true, false}
 use mathlib.Core.List.{List, [], _∷_}
 use Prim.Native.Nat.{ℕ, zero, suc, _<_}
@@ -8,19 +8,10 @@ use lib.Dec.{T, ltb, eqb, ltb→lt}
 use lib.ListN.{getD}
 use borrow.Author.Tests.{eq-eqb, ne-eqb}
 use Rattle.mode_s.specs.Formats.{extendedFormats, capabilities, controls}
-use Rattle.message.specs.declared.MessageType.{MessageType}
-use Rattle.message.specs.declared.MessageType.the-variants.{
-  ExtendedSquitter,
-  AcquisitionSquitter,
-  ShortAp,
-  AllCallReply,
-  LongAp,
-  MilitaryExtendedSquitter,
-  ModeAc,
-}
+use Rattle.message.specs.declared.MessageType.the-variants.{ExtendedSquitter, AcquisitionSquitter, ShortAp, AllCallReply, LongAp, ModeAc}
 use Rattle.message.specs.declared.Picks.{Picks}
 use Rattle.message.specs.declared.Field.{Field}
-use Rattle.message.specs.declared.Field.the-variants.{Fine, Wrong}
+use Rattle.message.specs.declared.Field.the-variants.{Fine}
 use Rattle.message.specs.Making.{
   formats,
   subfields,

@@ -13,7 +13,6 @@ use Rattle.message.specs.declared.MessageType.the-variants.{
   MilitaryExtendedSquitter,
   ModeAc,
 }
-use Rattle.message.specs.declared.TypeFound.{TypeFound}
 use Rattle.message.specs.declared.TypeFound.the-variants.{Of, Unknown}
 use Rattle.message.specs.Types.{typeNumber, typeNumbered, allTypes}
 

@@ -8,15 +8,7 @@ use lib.Bits.{bitXor}
 use lib.ListN.{length, getD, take, drop, replicate, length-append, length-take, length-drop}
 use Rattle.mode_s.specs.Formats.{extendedFormats, shortApFormats, longApFormats, capabilities, controls}
 use Rattle.mode_s.specs.Parity.{parityOf, parityBytes, sealed}
-use Rattle.message.specs.declared.MessageType.the-variants.{
-  ExtendedSquitter,
-  AcquisitionSquitter,
-  ShortAp,
-  AllCallReply,
-  LongAp,
-  MilitaryExtendedSquitter,
-  ModeAc,
-}
+use Rattle.message.specs.declared.MessageType.the-variants.{ExtendedSquitter, AcquisitionSquitter, ShortAp, LongAp, MilitaryExtendedSquitter}
 use Rattle.message.specs.declared.ReplyKind.{ReplyKind}
 use Rattle.message.specs.declared.ReplyKind.the-variants.{Short, Long}
 use Rattle.message.specs.declared.Reply.{Reply}

@@ -1,8 +1,8 @@
 -- Theorem `made-classed`: every message that is made of fields in range is classed as its type. Assumes nothing.
-use mathlib.Core.Path.{_≡_, refl, sym, ap, _∙_, subst}
+use mathlib.Core.Path.{_≡_, refl, ap, _∙_}
 use mathlib.Core.Bool.{Bool, true, false}
-use mathlib.Core.List.{List, [], _∷_, _++_}
-use Prim.Native.Nat.{ℕ, zero, suc, _+_, _-_, _*_, _/_, _%_, _<_}
+use mathlib.Core.List.{List, [], _∷_}
+use Prim.Native.Nat.{ℕ, zero, suc, _-_, _/_, _<_}
 use borrow.Author.Tests.{eq-eqb, ne-eqb}
 use native.Mathlib.Nat.{mod-lt}
 use native.Mathlib.Omega.{arith}
@@ -25,7 +25,7 @@ use Rattle.message.specs.declared.MessageType.the-variants.{
 use Rattle.message.specs.declared.Picks.{Picks}
 use Rattle.message.specs.declared.Field.{Field}
 use Rattle.message.specs.declared.Field.the-variants.{Fine, Wrong}
-use Rattle.message.specs.declared.TypeFound.the-variants.{Of, Unknown}
+use Rattle.message.specs.declared.TypeFound.the-variants.{Of}
 use Rattle.message.specs.Making.{
   formats,
   choose,

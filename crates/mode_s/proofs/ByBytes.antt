@@ -1,11 +1,11 @@
 -- The long division a byte at a time, and parity in these terms. Assumes nothing.
-use Prim.Native.Nat.{ℕ, zero, suc, _+_, _*_, _/_, _%_, _^_, _<_}
+use Prim.Native.Nat.{ℕ, _+_, _*_, _/_, _%_, _<_}
 use mathlib.Core.Path.{_≡_, refl, sym, ap, ap₂, _∙_}
 use mathlib.Core.List.{List, [], _∷_, _++_}
 use native.Mathlib.Nat.{mod-lt, mod-eq-of-lt}
 use native.Mathlib.Omega.{arith}
-use lib.ListN.{length, replicate}
-use lib.Bits.{bitXor, xor-block, xor-mod, xor-lt, xor-zero-r}
+use lib.ListN.{replicate}
+use lib.Bits.{bitXor, xor-block, xor-mod, xor-lt}
 use Rattle.mode_s.specs.Parity.{divisor, reduced, brought, remainder, bits, parityOf}
 use Rattle.mode_s.proofs.Xor.{bit-lt, xor-swap, xor-bit-mul, xor-bit}
 

@@ -1,6 +1,6 @@
 -- Laws of parity, for messages of any length: below 2^24; the parity of an exclusive or; a message that ends in its parity has parity 0;
 -- and one with an overlay does not. Assumes nothing.
-use Prim.Native.Nat.{ℕ, zero, suc, _+_, _*_, _/_, _%_, _^_, _<_}
+use Prim.Native.Nat.{ℕ, zero, suc, _+_, _*_, _/_, _%_, _<_}
 use mathlib.Core.Path.{_≡_, refl, sym, ap, ap₂, _∙_, subst}
 use mathlib.Core.Bool.{Bool, not}
 use mathlib.Core.List.{List, [], _∷_, _++_}
@@ -12,7 +12,7 @@ use lib.Bits.{bitXor, xor-block, xor-lt, xor-zero-r, xor-comm}
 use Rattle.mode_s.specs.Parity.{reduced, brought, remainder, bits, parityOf, parityBytes, sealed}
 use Rattle.mode_s.proofs.Below.{every, below}
 use Rattle.mode_s.proofs.ByBytes.{byteOver, over, parity-over, over-append, byteOver-xor, byteOver-small, over-lt}
-use Rattle.mode_s.proofs.Xor.{xor-assoc, xor-twice}
+use Rattle.mode_s.proofs.Xor.{xor-twice}
 
 pub parity-lt : (bs : List ℕ) → parityOf bs < 0x1000000
 parity-lt bs = subst (λ (n : ℕ). n < 0x1000000) (sym (parity-over bs)) (over-lt 0 (bs ++ (0 ∷ 0 ∷ 0 ∷ [])) (omega arith))

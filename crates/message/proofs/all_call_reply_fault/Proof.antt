@@ -1,5 +1,5 @@
 -- `message::all_call_reply_fault` meets its contract. Assumes nothing.
-use borrow.Author.Tests.{lt-ltb, le-ltb, eq-eqb, ne-eqb}
+use borrow.Author.Tests.{lt-ltb, le-ltb}
 use borrow.Author.Needs.{needs}
 use native.Mathlib.Omega.{arith}
 use Rattle.message.specs.Making.{fieldFault, formats, subfields, formatOf, overlayFits, modeAcFits}

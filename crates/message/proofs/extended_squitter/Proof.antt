@@ -1,5 +1,5 @@
 -- `message::extended_squitter` meets its contract: the format picked decides the table of the second pick. Assumes nothing.
-use mathlib.Core.Path.{_≡_, sym, _∙_}
+use mathlib.Core.Path.{_≡_, _∙_}
 use borrow.Author.Needs.{needs}
 use native.Mathlib.Omega.{arith}
 use lib.ListN.{length}

@@ -1,6 +1,6 @@
 -- `message::extended_squitter_fault` meets its contract: the format picked decides the list of the second pick. Assumes nothing.
 use mathlib.Core.Path.{_≡_}
-use borrow.Author.Tests.{lt-ltb, le-ltb, eq-eqb, ne-eqb}
+use borrow.Author.Tests.{le-ltb}
 use borrow.Author.Needs.{needs}
 use native.Mathlib.Omega.{arith}
 use Rattle.message.specs.Making.{fieldFault, formats, subfields, formatOf, overlayFits, modeAcFits}

@@ -1,6 +1,5 @@
 -- `message::last_fault` meets its contract. Assumes nothing.
-use borrow.Author.Tests.{lt-ltb, le-ltb, eq-eqb, ne-eqb}
-use borrow.Author.Needs.{needs}
+use borrow.Author.Tests.{lt-ltb, le-ltb}
 use Rattle.message.proofs.last_fault.Statement.{statement}
 use Rattle.message.proofs.last_fault.Tie as tie
 

@@ -1,10 +1,9 @@
 -- `message::make` meets its contract. Assumes nothing.
-use mathlib.Core.Path.{_≡_, sym, ap, _∙_}
+use mathlib.Core.Path.{sym, ap, _∙_}
 use borrow.Author.Needs.{needs}
-use Rattle.message.specs.Making.{fieldFault, replyOf, madeWhere, made}
+use Rattle.message.specs.Making.{replyOf, madeWhere, made}
 use Rattle.message.specs.declared.Field.{Field}
-use Rattle.message.specs.declared.Field.the-variants.{Fine, Wrong}
-use Rattle.message.specs.declared.Reply.{Reply}
+use Rattle.message.specs.declared.Field.the-variants.{Fine}
 use Rattle.message.proofs.make.Statement.{statement}
 use Rattle.message.proofs.make.Tie as tie
 

@@ -1,5 +1,5 @@
 -- `message::military_extended_squitter` meets its contract. Assumes nothing.
-use mathlib.Core.Path.{_≡_, sym, _∙_}
+use mathlib.Core.Path.{_≡_, _∙_}
 use borrow.Author.Needs.{needs}
 use lib.ListN.{length}
 use Rattle.message.proofs.Replies.{military-reply}

@@ -1,5 +1,5 @@
 -- `message::mode_ac_fault` meets its contract. Assumes nothing.
-use borrow.Author.Tests.{lt-ltb, le-ltb, eq-eqb, ne-eqb}
+use borrow.Author.Tests.{lt-ltb, le-ltb}
 use borrow.Author.Needs.{needs}
 use Rattle.message.specs.Making.{fieldFault, formats, subfields, formatOf, overlayFits, modeAcFits}
 use Rattle.message.proofs.mode_ac_fault.Statement.{statement}

@@ -1,5 +1,5 @@
 -- `message_type::from_message` meets its contract: each arm is the definition at its kind. Assumes nothing.
-use mathlib.Core.Path.{_≡_, sym, ap, _∙_}
+use mathlib.Core.Path.{sym, ap, _∙_}
 use borrow.Author.Needs.{needs}
 use Rattle.message_type.specs.Classing.{kindClass, classOf}
 use Rattle.message.specs.declared.ReplyKind.{ReplyKind}

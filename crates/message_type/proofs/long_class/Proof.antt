@@ -1,5 +1,5 @@
 -- `message_type::long_class` meets its contract. Assumes nothing.
-use mathlib.Core.Path.{_≡_, sym, ap, _∙_}
+use mathlib.Core.Path.{sym, ap}
 use Prim.Native.Nat.{_/_, _<_}
 use borrow.Author.Needs.{needs}
 use Rattle.message_type.specs.Classing.{longClass}

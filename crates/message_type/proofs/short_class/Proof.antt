@@ -1,7 +1,7 @@
 -- `message_type::short_class` meets its contract. Assumes nothing.
-use mathlib.Core.Path.{_≡_, sym, ap, _∙_}
+use mathlib.Core.Path.{sym, ap, _∙_}
 use Prim.Native.Nat.{ℕ}
-use borrow.Author.Tests.{eq-eqb, ne-eqb}
+use borrow.Author.Tests.{ne-eqb}
 use borrow.Author.Needs.{needs}
 use lib.ListN.{take}
 use Rattle.message_type.specs.Classing.{shortClass}
