@@ -1,0 +1,3 @@
+pub mod Marked
+pub mod ModeSTurns
+pub mod ModeACTurns
