@@ -2,7 +2,7 @@
 use mathlib.Core.Path.{_≡_, refl, sym, ap, subst, _∙_}
 use mathlib.Core.Bool.{Bool, true, false}
 use mathlib.Core.List.{List, [], _∷_, _++_}
-use Prim.Native.Nat.{ℕ, zero, suc, _+_, _<_}
+use Prim.Native.Nat.{ℕ, zero, suc, _+_, _-_, _<_}
 use native.Mathlib.Nat.{add-zero, zero-add, le-of-suc-le-suc, not-suc-le-zero}
 use native.Mathlib.Omega.{arith}
 use borrow.Author.Tests.{eqb-true, eqb-false}
@@ -29,9 +29,13 @@ or-true : (a : Bool) → or a true ≡ true
 or-true true = refl
 or-true false = refl
 
-or-false : (a : Bool) → or a false ≡ a
+pub or-false : (a : Bool) → or a false ≡ a
 or-false true = refl
 or-false false = refl
+
+pub or-assoc : (a b c : Bool) → or a (or b c) ≡ or (or a b) c
+or-assoc true b c = refl
+or-assoc false b c = refl
 
 -- the place just marked
 hit : (l : List Bool) (p k : ℕ) → k < length l → eqb p k ≡ true → getD (set l p true) k false ≡ true
@@ -83,3 +87,7 @@ marked ps =
     let e : length (mark ps (replicate 240 false)) ≡ 240 = mark-length ps (replicate 240 false) ∙ length-replicate 240 false in
     ext-getD false (mark ps (replicate 240 false)) (mapFrom ps 0 240) (e ∙ sym (map-length ps 0 240))
     (λ k h. marked-at ps k (omega arith))
+
+-- one turn of a loop that marks: of so many turns left, one and the rest
+pub left-suc : (e k : ℕ) → k < e → e - k ≡ suc (e - (k + 1))
+left-suc e k h = omega arith

@@ -1,21 +1,18 @@
 -- The loop of `mode_s_pulses`, one turn and the end: what is left to mark, marked from here, is the whole marked from the start. Assumes nothing.
-use mathlib.Core.Path.{_≡_, refl, sym, ap, _∙_}
+use mathlib.Core.Path.{_≡_, refl}
 use mathlib.Core.Bool.{Bool, true, false}
 use mathlib.Core.List.{List, [], _∷_}
 use Prim.Native.Nat.{ℕ, zero, suc, _+_, _-_, _*_, _≤_, _<_}
 use native.Mathlib.Numerals.{add-one}
 use native.Mathlib.Omega.{arith}
 use lib.ListN.{set, replicate}
-use Rattle.pulses.specs.Map.{mapFrom, mapOf}
+use Rattle.pulses.specs.Map.{mapOf}
 use Rattle.pulses.specs.ModeS.{modeSBits, modeSLength, bitOf, pairPlace, bitPlaces, modeSPlaces, modeSPulses}
-use Rattle.pulses.proofs.Marked.{mark, marked}
+use Rattle.pulses.proofs.Marked.{mark, marked, left-suc}
 
 pub pair-place : (n b : ℕ) → b < 2 → pairPlace n b ≡ 16 + 2 * n + (1 - b)
 pair-place n zero h = refl
 pair-place n (suc b) h = omega arith
-
-left-suc : (e k : ℕ) → k < e → e - k ≡ suc (e - (k + 1))
-left-suc e k h = omega arith
 
 pub turn : (m : List ℕ) (bits n : ℕ) (on : List Bool) → n < bits
     → mark (bitPlaces m (bits - (n + 1)) (n + 1)) (set on (pairPlace n (bitOf m n)) true) ≡ mark (bitPlaces m (bits - n) n) on

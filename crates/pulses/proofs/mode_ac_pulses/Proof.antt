@@ -1,14 +1,13 @@
 -- `pulses::mode_ac_pulses` meets its contract: at every turn, marking what is left gives what marking all gives. Assumes nothing.
-use mathlib.Core.Path.{_≡_, refl, ap, sym, _∙_}
-use mathlib.Core.Bool.{Bool, true, false}
-use mathlib.Core.List.{List}
+use mathlib.Core.Path.{_≡_, refl, sym, _∙_}
+use mathlib.Core.Bool.{true}
 use mathlib.Core.Logic.{⊎-elim}
-use Prim.Native.Nat.{ℕ, _-_, _≤_}
-use lib.ListN.{length, length-set, set, replicate}
+use Prim.Native.Nat.{_-_, _≤_}
+use lib.ListN.{length, length-set}
 use Rattle.mode_ac.proofs.RisingPlaces.{place-below}
-use Rattle.pulses.specs.ModeAC.{dataPlaces, modeACPulses}
+use Rattle.pulses.specs.ModeAC.{dataPlaces}
 use Rattle.pulses.proofs.Marked.{mark}
-use Rattle.pulses.proofs.ModeACTurns.{turn-set, turn-clear, end, whole-spi, whole}
+use Rattle.pulses.proofs.ModeACTurns.{turn-set, turn-clear, end, framed, whole-spi, whole}
 use borrow.Author.Needs.{needs}
 use native.Mathlib.Omega.{arith}
 use Rattle.pulses.proofs.mode_ac_pulses.Statement.{statement}
@@ -18,7 +17,7 @@ abbrev Inv-loop : tie.InvT-loop
 Inv-loop «data» spi on₀ n₀ on n =
     (n ≤ 12)
     × (length on ≡ 240)
-    × (mark (dataPlaces «data» (12 - n) n) on ≡ mark (dataPlaces «data» 12 0) (set (replicate 240 false) 0 true))
+    × (mark (dataPlaces «data» (12 - n) n) on ≡ mark (dataPlaces «data» 12 0) framed)
 
 abbrev μ-loop : tie.MeasureT-loop
 μ-loop «data» spi on₀ n₀ on n = 12 - n
@@ -52,8 +51,8 @@ loop-again c =
       search needs,
       ⊎-elim (λ t. cc (length-set (l .on) (t .1 .result) true)) (λ f. cc) (c .if1 .came),
       ⊎-elim (λ t. cc (turn-set d (l .n) (l .on) h (sym (c .before .bit-of .ensures) ∙ t .0 .taken)))
-      (λ f. cc (turn-clear d (l .n) (l .on) h (sym (c .before .bit-of .ensures) ∙ f .0 .left)))
-      (c .if1 .came),
+          (λ f. cc (turn-clear d (l .n) (l .on) h (sym (c .before .bit-of .ensures) ∙ f .0 .left)))
+          (c .if1 .came),
     )
 
 array-write-on-3 : tie.Need-array-write-on-3 Inv-loop μ-loop

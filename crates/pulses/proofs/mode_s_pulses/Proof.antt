@@ -1,11 +1,9 @@
 -- `pulses::mode_s_pulses` meets its contract: at every turn, marking what is left gives what marking all gives. Assumes nothing.
-use mathlib.Core.Path.{_≡_, refl, ap, sym, _∙_}
-use mathlib.Core.Bool.{Bool}
-use mathlib.Core.List.{List}
+use mathlib.Core.Path.{_≡_, refl, ap}
 use Prim.Native.Nat.{ℕ, _-_, _≤_}
 use native.Mathlib.Nat.{sub-zero}
-use lib.ListN.{length, length-set}
-use Rattle.pulses.specs.ModeS.{bitOf, bitPlaces, modeSBits, modeSLength}
+use lib.ListN.{length}
+use Rattle.pulses.specs.ModeS.{bitOf, bitPlaces, modeSLength}
 use Rattle.pulses.proofs.Marked.{mark}
 use Rattle.pulses.proofs.ModeSTurns.{pair-place, turn, end, preambled, whole}
 use borrow.Author.Needs.{needs}
