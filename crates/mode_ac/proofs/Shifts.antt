@@ -5,16 +5,15 @@ use mathlib.Core.List.{List, [], _∷_, map}
 use Prim.Native.Nat.{ℕ, zero, suc, _/_, _%_, _^_, _<_}
 use native.Mathlib.Nat.{le-of-suc-le-suc, not-suc-le-zero, div-div-eq-div-mul}
 use native.Mathlib.Omega.{arith}
-use lib.Dec.{eqb, ltb, ltb→lt}
+use lib.Dec.{eqb}
 use lib.ListN.{length, getD}
 use Rattle.mode_ac.specs.Data.{bitsOf, bitOf}
-use Rattle.mode_ac.proofs.Below.{below}
 
 abbrev pub shifts : List ℕ
 shifts = 3 ∷ 9 ∷ 4 ∷ 10 ∷ 5 ∷ 11 ∷ 6 ∷ 0 ∷ 7 ∷ 1 ∷ 8 ∷ 2 ∷ []
 
 abbrev shifted : ℕ → ℕ → Bool
-shifted n s = eqb (n / 2 ^ s % 2) 1
+shifted n s = eqb (n / 2 ^ (s % 16) % 2) 1
 
 agree : (f : ℕ → Bool) (xs : List ℕ) (k : ℕ) → k < length xs → f (getD xs k 0) ≡ getD (map f xs) k false
 agree f [] k h = absurd (not-suc-le-zero h)
@@ -42,14 +41,6 @@ bits n =
       div-div-eq-div-mul n 512 4,
     )
 
-pub bit-by-shift : (n k : ℕ) → k < 12 → eqb (n / 2 ^ getD shifts k 0 % 2) 1 ≡ bitOf n k
+pub bit-by-shift : (n k : ℕ) → k < 12 → eqb (n / 2 ^ (getD shifts k 0 % 16) % 2) 1 ≡ bitOf n k
 unfolding bitOf
 bit-by-shift n k h = agree (shifted n) shifts k h ∙ ap (λ (l : List Bool). getD l k false) (bits n)
-
--- each shift is of fewer than 16 bits
-fits : ℕ → Bool
-fits k = ltb (getD shifts k 0) 16
-
-pub shift-below : (k : ℕ) → k < 12 → getD shifts k 0 < 16
-unfolding fits
-shift-below k h = ltb→lt (getD shifts k 0) 16 (below fits 12 tt k h)

@@ -1,5 +1,6 @@
 // Mode A/C replies: their data, its four digits, refusal 10, and the twelve bits with their places. Assumes nothing.
 ghost use mathlib.Core.Path.{_≡_};
+ghost use Prim.Native.Nat.{_%_};
 ghost use Rattle.mode_ac.specs.Data.{digitA, digitB, digitC, digitD, digitsOf, bitOf};
 ghost use Rattle.mode_ac.specs.Places.{placeOf};
 ghost use Rattle.mode_ac.specs.Building.{answerOf, fromData, fromDigits};
@@ -28,6 +29,13 @@ fn wide(x: u8) -> u16
     x as u16
 }
 
+// The lowest octal digit of a number.
+fn octal(x: u16) -> u8
+    ensures { λ r. ⌜ r ≡ x % 8 ⌝ }
+{
+    (x % 8) as u8
+}
+
 // The places of the twelve bits, in the order C1 A1 C2 A2 C4 A4 B1 D1 B2 D2 B4 D4.
 const PLACES: [usize; 12] = [3, 6, 9, 12, 15, 18, 24, 27, 30, 33, 36, 39];
 
@@ -49,7 +57,7 @@ pub fn bit_of(data: u16, n: usize) -> bool
     ensures { λ r. ⌜ r ≡ bitOf «data» n ⌝ }
 {
     if n < 12 {
-        return (data >> SHIFTS[n]) % 2 == 1;
+        return (data >> (SHIFTS[n] % 16)) % 2 == 1;
     }
     false
 }
@@ -88,35 +96,36 @@ impl ModeACReply {
     pub fn a(self) -> u8
         ensures { λ r. ⌜ r ≡ digitA (self .data) ⌝ }
     {
-        (self.data / 512 % 8) as u8
+        octal(self.data / 512)
     }
 
     pub fn b(self) -> u8
         ensures { λ r. ⌜ r ≡ digitB (self .data) ⌝ }
     {
-        (self.data / 64 % 8) as u8
+        octal(self.data / 64)
     }
 
     pub fn c(self) -> u8
         ensures { λ r. ⌜ r ≡ digitC (self .data) ⌝ }
     {
-        (self.data / 8 % 8) as u8
+        octal(self.data / 8)
     }
 
     pub fn d(self) -> u8
         ensures { λ r. ⌜ r ≡ digitD (self .data) ⌝ }
     {
-        (self.data % 8) as u8
+        octal(self.data)
     }
 
     pub fn abcd(self) -> Digits
         ensures { λ r. ⌜ r ≡ digitsOf (self .data) ⌝ }
     {
+        let data = self.data;
         Digits {
-            a: self.a(),
-            b: self.b(),
-            c: self.c(),
-            d: self.d(),
+            a: octal(data / 512),
+            b: octal(data / 64),
+            c: octal(data / 8),
+            d: octal(data),
         }
     }
 }

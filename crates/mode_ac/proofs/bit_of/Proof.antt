@@ -4,7 +4,7 @@ use mathlib.Core.Path.{refl, sym}
 use mathlib.Core.Bool.{false}
 use lib.ListN.{List·getD-eq-default}
 use Rattle.mode_ac.specs.Data.{bitsOf, bitOf}
-use Rattle.mode_ac.proofs.Shifts.{bit-by-shift, shift-below}
+use Rattle.mode_ac.proofs.Shifts.{bit-by-shift}
 use Rattle.mode_ac.proofs.bit_of.Statement.{statement}
 use Rattle.mode_ac.proofs.bit_of.Tie as tie
 
@@ -15,7 +15,7 @@ array-read-result : tie.Need-array-read-result
 array-read-result c = search needs
 
 shr-result : tie.Need-shr-result
-shr-result c = shift-below (c .before .args .n) (c .if1 .taken)
+shr-result c = search needs
 
 returns : tie.Need-returns
 returns c = bit-by-shift (c .before .args .«data») (c .before .args .n) (c .if1 .taken)
