@@ -18,7 +18,7 @@ some zero w h e = absurd (h refl)
 some (suc n) w h e = omega arith
 
 returns : tie.Need-returns
-returns c = none (c .before .args .num-pulses) (c .if1 .taken)
+returns c = none (c .before .args .num-pulses) (omega arith)
 
 wide-requires : tie.Need-wide-requires
 wide-requires c κs = search needs

@@ -19,7 +19,7 @@ shr-result c = search needs
 returns : tie.Need-returns
 unfolding byteBit
 returns c =
-    let k = c .before .args .k in (ap (λ (x : ℕ). x / 2 ^ (7 - k) % 2) (c .wide .ensures), omega arith)
+    let k = c .before .args .k in (cc (ap (λ (x : ℕ). x / 2 ^ (7 - k) % 2) (c .wide .ensures)), omega arith)
 
 pub bit-spec : {M : Type 1} → statement M
 bit-spec = tie.close (tie.spec wide-requires sub-result shr-result returns)

@@ -1,6 +1,6 @@
 -- `pulses::mode_s_pulses` meets its contract: at every turn, marking what is left gives what marking all gives. Assumes nothing.
-use mathlib.Core.Path.{_≡_, refl, ap}
-use Prim.Native.Nat.{ℕ, _-_, _≤_}
+use mathlib.Core.Path.{_≡_, refl}
+use Prim.Native.Nat.{_-_, _≤_}
 use native.Mathlib.Nat.{sub-zero}
 use lib.ListN.{length}
 use Rattle.pulses.specs.ModeS.{bitOf, bitPlaces, modeSLength}
@@ -34,7 +34,7 @@ array-write-on-4 : tie.Need-array-write-on-4 Inv-loop μ-loop
 array-write-on-4 c = search needs
 
 loop-holds : tie.Need-loop-holds Inv-loop μ-loop
-loop-holds c = (search needs, refl, ap (λ (b : ℕ). mark (bitPlaces (c .before .args .t1) b 0) preambled) (sub-zero (c .num-bits .result)))
+loop-holds c = (search needs, refl, cc (sub-zero (c .num-bits .result)))
 
 array-read-bit : tie.Need-array-read-bit Inv-loop μ-loop
 array-read-bit c = search needs
