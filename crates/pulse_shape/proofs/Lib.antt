@@ -1,0 +1,4 @@
+pub mod Whole
+pub mod Delays
+pub mod Fill
+pub mod Turns
