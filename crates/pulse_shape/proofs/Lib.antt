@@ -1,3 +1,5 @@
+pub mod Held
+pub mod DelayWithin
 pub mod Whole
 pub mod Delays
 pub mod Fill
