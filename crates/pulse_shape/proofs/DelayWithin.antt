@@ -128,8 +128,10 @@ module _ (ml : ℕ) (el : ℤ) (ma : ℕ) (ea : ℤ) (mb : ℕ) (eb : ℤ) (nl n
     where
       less : (l a b : ℕ) → a ≤ l → l < b → l - a < b - a
       less l a b h k = omega arith
+
       most-of : (b a u : ℕ) → b ≤ 16 * u → b - a ≤ 32 * u
       most-of b a u h = omega arith
+
       most : (b a : ℕ) → b ≤ 16 * 2 ^ 1074 → b - a ≤ 32 * 2 ^ 1074
       most b a h = most-of b a (2 ^ 1074) h
 
@@ -141,8 +143,10 @@ module _ (ml : ℕ) (el : ℤ) (ma : ℕ) (ea : ℤ) (mb : ℕ) (eb : ℤ) (nl n
     where
       less : (l a b : ℕ) → l < b → l + a < b + a
       less l a b k = omega arith
+
       most-of : (b a u : ℕ) → b ≤ 16 * u → a ≤ 16 * u → b + a ≤ 32 * u
       most-of b a u h k = omega arith
+
       most : (b a : ℕ) → b ≤ 16 * 2 ^ 1074 → a ≤ 16 * 2 ^ 1074 → b + a ≤ 32 * 2 ^ 1074
       most b a h k = most-of b a (2 ^ 1074) h k
 
@@ -213,11 +217,13 @@ sum-at-most j t J h = G-le (j * 2 ^ 1074 + t) (2 ^ 1074) (suc j) 1074 (pow-pos 1
   where
     room : (j : ℕ) → j < 2 ^ 52 → suc j < 2 ^ 53
     room j h = omega arith
+
     at : (u j t : ℕ) → t ≤ 1 * u → j * u + t ≤ suc j * u
     at u j t h = le-trans (more (j * u) t (1 * u) h) (le-of-eq (sym (add-mul j 1 u) ∙ ap (λ (z : ℕ). z * u) (next j)))
       where
         more : (a t u : ℕ) → t ≤ u → a + t ≤ a + u
         more a t u h = omega arith
+
         next : (j : ℕ) → j + 1 ≡ suc j
         next j = omega arith
 
@@ -226,6 +232,7 @@ part-at-most j s J h = G-le s (64 * 2 ^ 1074) (suc j) 1068 (lit< tt) (room j J) 
   where
     room : (j : ℕ) → j < 2 ^ 52 → suc j < 2 ^ 53
     room j h = omega arith
+
     at : (q : ℕ) → q * 2 ^ 1074 * 2 ^ 1074 ≡ q * 2 ^ 1068 * (64 * 2 ^ 1074)
     at q = mul-assoc q (2 ^ 1074) (2 ^ 1074) ∙ sym (mul-assoc q (2 ^ 1068) (64 * 2 ^ 1074))
 
@@ -253,8 +260,10 @@ delay-units sps level j a b S J FL FA FB z a16 b16 t =
   where
     under-53 : (j : ℕ) → j < 2 ^ 40 → j ≤ 2 ^ 53
     under-53 j h = omega arith
+
     under-52 : (j : ℕ) → j < 2 ^ 40 → j < 2 ^ 52
     under-52 j h = omega arith
+
     big : (j : ℕ) → j < 2 ^ 40 → (p : ℕ) → 2 ^ 40 * 2 ^ p < overflow binary64 → suc j * 2 ^ p < overflow binary64
     big j h p l = lt-of-le-of-lt (mul-le-mul-right (2 ^ p) h) l
 
@@ -277,6 +286,7 @@ module _ (sps : ℕ) (level : Float) (S : 0 < sps) (FL : T (fits binary64 level)
     where
       room : (j n : ℕ) → j + 1 < n → n ≤ 2 ^ 40 → j < 2 ^ 40
       room j n h k = omega arith
+
       last : (j n : ℕ) → j + 1 < n → suc j ≤ n - 1
       last j n h = omega arith
 
@@ -288,10 +298,13 @@ module _ (sps : ℕ) (level : Float) (S : 0 < sps) (FL : T (fits binary64 level)
     where
       rest : T (allWithin16 (b ∷ l))
       rest = and-r (within16 a) (within16 b && allWithin16 l) w
+
       inside : (j n m : ℕ) → j + suc (suc n) ≤ m → j + 1 < m
       inside j n m h = omega arith
+
       on : (j n m : ℕ) → j + suc (suc n) ≤ m → j + 1 + suc n ≤ m
       on j n m h = omega arith
+
       go : (t : Bool) → crosses level a b ≡ t → choose t (At (delayAt sps level j a b)) (delayFrom sps level (j + 1) (b ∷ l)) ≡ At d → (delayFrom sps level (j + 1) (b ∷ l) ≡ At d → Reached) → Reached
       go true c f later = found j a b (inside j (length l) places h) (H 0) (H 1) (and-l (within16 a) (within16 b && allWithin16 l) w) (and-l (within16 b) (allWithin16 l) rest) (true-is (crosses level a b) c) (cc)
       go false c f later = later f
@@ -306,10 +319,13 @@ delay-below sps level p d S few FL z H w h e =
   where
     room : (s : ℕ) → s ≤ 2 ^ 30 → 64 * s * 7 ≤ 2 ^ 40
     room s h = omega arith
+
     none : (n : ℕ) → 0 + n ≡ n
     none n = omega arith
+
     less : (s : ℕ) → 0 < s → 64 * s * 7 - 1 < 7 * s * 64
     less s h = omega arith
+
     same : (s : ℕ) → 7 * s * 64 * 2 ^ 1068 ≡ 7 * s * 2 ^ 1074
     same s = mul-assoc (7 * s) 64 (2 ^ 1068)
 

@@ -61,6 +61,7 @@ delay-end sps level (a ∷ l) (suc j) h = last (drop j l) j (omega (arith, short
     last [] j h = refl
     last (a ∷ []) j h = refl
     last (a ∷ b ∷ t) j h = absurd (omega arith)
+
     short : (l : List Float) (j : ℕ) → length l ≤ j + 1 → length (drop j l) ≤ 1
     short l j h = simp length-drop (omega arith)
 

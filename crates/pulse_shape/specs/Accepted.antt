@@ -15,15 +15,12 @@ unfoldable pub within16 : Float → Bool
 within16 x = le (neg sixteen) x && le x sixteen
 
 unfoldable pub allWithin16 : List Float → Bool
-unfolding within16
 allWithin16 [] = true
 allWithin16 (x ∷ xs) = within16 x && allWithin16 xs
 
 -- a Mode S lowpass has 1,486 taps, a Mode A/C lowpass 1,515
 unfoldable pub modeSTapsAccepted : ℕ → List Float → Bool
-unfolding allWithin16
 modeSTapsAccepted sps taps = eqb (length taps) (modeSTaps sps) && allWithin16 taps
 
 unfoldable pub modeACTapsAccepted : ℕ → List Float → Bool
-unfolding allWithin16
 modeACTapsAccepted sps taps = eqb (length taps) (modeACTaps sps) && allWithin16 taps

@@ -23,11 +23,9 @@ choose false a b = b
 
 -- the first pair that the level crosses, the first value standing at place j
 unfoldable pub delayFrom : ℕ → Float → ℕ → List Float → Crossing
-unfolding crosses delayAt
 delayFrom sps level j [] = Nowhere
 delayFrom sps level j (a ∷ []) = Nowhere
 delayFrom sps level j (a ∷ b ∷ rest) = choose (crosses level a b) (At (delayAt sps level j a b)) (delayFrom sps level (j + 1) (b ∷ rest))
 
 unfoldable pub groupDelay : ℕ → Float → List Float → Crossing
-unfolding delayFrom
 groupDelay sps level prototype = delayFrom sps level 0 prototype
