@@ -77,8 +77,10 @@ one-plus (fin false m e) l h =
   where
     more : (d : ℕ) → 0 < d → 0 < 1 * d
     more d h = omega arith
+
     bottom : (x d : ℕ) → 7372 * (1 * d) ≤ 8192 * (1 * 1 * d + x * 1)
     bottom x d = omega arith
+
     top : (x d : ℕ) → x * 2 ^ 55 ≤ 3602879701896397 * 1 * d → 1 * 1 * d + x * 1 ≤ 2 * (1 * d)
     top x d h = omega arith
 one-plus (fin true m e) l h =
@@ -94,12 +96,16 @@ one-plus (fin true m e) l h =
         go true y p q t = le-of-lt (p tt)
         go false true p q t = le-of-eq (sym (q tt))
         go false false p q t = absurd t
+
     more : (d : ℕ) → 0 < d → 0 < 1 * d
     more d h = omega arith
+
     under : (x d : ℕ) → x * 2 ^ 55 ≤ 3602879701896397 * 1 * d → x * 1 ≤ 1 * 1 * d
     under x d h = omega arith
+
     bottom : (x d : ℕ) → x * 2 ^ 55 ≤ 3602879701896397 * 1 * d → 7372 * (1 * d) ≤ 8192 * (1 * 1 * d - x * 1)
     bottom x d h = omega arith
+
     top : (x d : ℕ) → 1 * 1 * d - x * 1 ≤ 2 * (1 * d)
     top x d = omega arith
 

@@ -57,6 +57,7 @@ module _ (g : Grid) (d : Float) (S : Stepping g d) (limit most : ℕ) (m : g .ce
     where
       never : (n m : ℕ) → n < m → m ≤ n + 0 → ⊥
       never n m h k = omega arith
+
       go : (b : Bool) → (b ≡ true → s .index < limit) → b ≡ false
       go true t = absurd (never n most (fewer g n s limit most m v (t refl)) h)
       go false t = refl

@@ -4,3 +4,6 @@ pub mod LateSum
 pub mod Grid
 pub mod ClockAtFour
 pub mod Ends
+pub mod EndsByItself
+pub mod BranchWithin
+pub mod PhaseWithin
