@@ -7,3 +7,4 @@ pub mod Ends
 pub mod EndsByItself
 pub mod BranchWithin
 pub mod PhaseWithin
+pub mod ValueAt
