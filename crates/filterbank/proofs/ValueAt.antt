@@ -5,8 +5,8 @@ use mathlib.Core.Path.{_≡_, refl, sym, ap, _∙_, subst}
 use mathlib.Core.Bool.{Bool, true, false, cond}
 use mathlib.Core.List.{List, [], _∷_}
 use lib.Dec.{eqb}
-use lib.ListN.{length}
-use lib.Ieee.{Float}
+use lib.ListN.{length, replicate}
+use lib.Ieee.{Float, binary32, ofBits}
 use Rattle.constants.specs.Rate.{prototypeLength}
 use Rattle.pulse_shape.proofs.Whole.{length-values}
 use Rattle.filterbank.specs.declared.Clock.{Clock}
@@ -21,18 +21,17 @@ length-between tau [] ys = refl
 length-between tau (x ∷ xs) [] = ap suc (length-between tau xs [])
 length-between tau (x ∷ xs) (y ∷ ys) = ap suc (length-between tau xs ys)
 
+length-branch : (sps : ℕ) (prototype : List Float) (j : ℕ) → length (branch sps prototype j) ≡ 7
+unfolding branch
+length-branch sps prototype j = length-values _ 7 0
+
 -- there are always seven taps
 pub length-taps : (sps : ℕ) (prototype : List Float) (phase : Float) → length (filterTaps sps prototype phase) ≡ 7
 unfolding filterTaps
 length-taps sps prototype phase = go (eqb (length prototype) (prototypeLength sps))
   where
-    a : ℕ
-    a = branchOf sps phase
-    seven : length (branch sps prototype (branchOf sps phase)) ≡ 7
-    unfolding branch
-    seven = length-values _ 7 0
-    go : (b : Bool) → length (cond b (between (tauOf sps phase) (branch sps prototype (branchOf sps phase)) (nextBranch sps prototype (branchOf sps phase))) _) ≡ 7
-    go true = length-between (tauOf sps phase) (branch sps prototype (branchOf sps phase)) (nextBranch sps prototype (branchOf sps phase)) ∙ seven
+    go : (b : Bool) → length (cond b (between (tauOf sps phase) (branch sps prototype (branchOf sps phase)) (nextBranch sps prototype (branchOf sps phase))) (replicate 7 (ofBits binary32 0))) ≡ 7
+    go true = length-between (tauOf sps phase) (branch sps prototype (branchOf sps phase)) (nextBranch sps prototype (branchOf sps phase)) ∙ length-branch sps prototype (branchOf sps phase)
     go false = refl
 
 pub value-late : (sps : ℕ) (prototype : List Float) (pulses : List Bool) (clock : Clock) → length pulses ≤ 240 → lateSum (filterTaps sps prototype (clock .phase)) (late pulses) (clock .index) ≡ valueAt sps prototype pulses clock

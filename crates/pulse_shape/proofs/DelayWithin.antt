@@ -3,7 +3,7 @@
 use mathlib.Core.Path.{_≡_, refl, sym, ap, _∙_, subst}
 use mathlib.Core.Logic.{_⊎_, inl, inr}
 use Prim.Native.Nat.{ℕ, zero, suc, _+_, _-_, _*_, _/_, _%_, _^_, _≤_, _<_, zero-le}
-use native.Mathlib.Nat.{le-trans, le-of-eq, le-of-lt, lt-of-lt-of-le, lt-of-le-of-lt, eq-zero-or-pos, lt-irrefl, mul-pos, mul-one, one-mul, zero-mul, mul-comm, mul-assoc, mul-right-comm, mul-le-mul-right, mul-lt-mul-of-pos-right, add-mul, mul-div-cancel}
+use native.Mathlib.Nat.{le-trans, le-of-eq, le-of-lt, lt-of-lt-of-le, lt-of-le-of-lt, eq-zero-or-pos, lt-irrefl, mul-pos, mul-one, one-mul, zero-mul, mul-comm, mul-assoc, mul-right-comm, mul-le-mul-right, mul-le-mul-left, mul-lt-mul-of-pos-right, add-mul, mul-div-cancel}
 use native.Mathlib.Omega.{arith}
 use mathlib.Core.Bool.{Bool, true, false, not, _&&_, _||_, false≢true}
 use mathlib.Core.List.{List, [], _∷_}
@@ -21,7 +21,7 @@ use Rattle.constants.specs.Rate.{four, branches, prototypeLength}
 use Rattle.pulse_shape.specs.declared.Crossing.{Crossing}
 use Rattle.pulse_shape.specs.declared.Crossing.the-variants.{At, Nowhere}
 use Rattle.pulse_shape.specs.Accepted.{within16, allWithin16, sixteen}
-use Rattle.pulse_shape.specs.GroupDelay.{crosses, delayAt, choose, delayFrom, groupDelay}
+use Rattle.pulse_shape.specs.GroupDelay.{crosses, delayAt, choose, delayFrom, groupDelay, modeACRatio, over, modeACGroupDelay}
 
 abbrev zeroF : Float
 zeroF = fin false 0 (pos 0)
@@ -309,13 +309,18 @@ module _ (sps : ℕ) (level : Float) (S : 0 < sps) (FL : T (fits binary64 level)
       go true c f later = found j a b (inside j (length l) places h) (H 0) (H 1) (and-l (within16 a) (within16 b && allWithin16 l) w) (and-l (within16 b) (allWithin16 l) rest) (true-is (crosses level a b) c) (cc)
       go false c f later = later f
 
--- ---- the law, at any rate: the delay is below 7 * sps samples
-pub delay-below : (sps : ℕ) (level : Float) (p : List Float) (d : Float) → 0 < sps → sps ≤ 2 ^ 30 → T (fits binary32 level) → T (lt zeroF level) → Held p → allWithin16 p ≡ true → length p ≤ prototypeLength sps → groupDelay sps level p ≡ At d
-    → (n : ℕ) × Units d n × (n < 7 * sps * 2 ^ 1074)
+-- ---- the law, at any rate: the delay is at most that of the last two places
+below-7 : (sps n : ℕ) → 0 < sps → n ≤ (prototypeLength sps - 1) * 2 ^ 1068 → n < 7 * sps * 2 ^ 1074
+below-7 sps n S h = lt-of-le-of-lt h (lt-of-lt-of-le (mul-lt-mul-of-pos-right (less sps S) (pow-pos 1068)) (le-of-eq (mul-assoc (7 * sps) 64 (2 ^ 1068))))
+  where
+    less : (s : ℕ) → 0 < s → 64 * s * 7 - 1 < 7 * s * 64
+    less s h = omega arith
+
+pub delay-most : (sps : ℕ) (level : Float) (p : List Float) (d : Float) → 0 < sps → sps ≤ 2 ^ 30 → T (fits binary32 level) → T (lt zeroF level) → Held p → allWithin16 p ≡ true → length p ≤ prototypeLength sps → groupDelay sps level p ≡ At d
+    → (n : ℕ) × Units d n × (n ≤ (prototypeLength sps - 1) * 2 ^ 1068)
 unfolding groupDelay
-delay-below sps level p d S few FL z H w h e =
-    let r = along sps level S (fits-widens level FL) z (prototypeLength sps) (room sps few) d p 0 H (true-is (allWithin16 p) w) (le-trans (le-of-eq (none (length p))) h) e in
-    (r .0, r .1, lt-of-le-of-lt (r .2) (lt-of-lt-of-le (mul-lt-mul-of-pos-right (less sps S) (pow-pos 1068)) (le-of-eq (same sps))))
+delay-most sps level p d S few FL z H w h e =
+    along sps level S (fits-widens level FL) z (prototypeLength sps) (room sps few) d p 0 H (true-is (allWithin16 p) w) (le-trans (le-of-eq (none (length p))) h) e
   where
     room : (s : ℕ) → s ≤ 2 ^ 30 → 64 * s * 7 ≤ 2 ^ 40
     room s h = omega arith
@@ -323,14 +328,46 @@ delay-below sps level p d S few FL z H w h e =
     none : (n : ℕ) → 0 + n ≡ n
     none n = omega arith
 
-    less : (s : ℕ) → 0 < s → 64 * s * 7 - 1 < 7 * s * 64
-    less s h = omega arith
-
-    same : (s : ℕ) → 7 * s * 64 * 2 ^ 1068 ≡ 7 * s * 2 ^ 1074
-    same s = mul-assoc (7 * s) 64 (2 ^ 1068)
-
 -- at document 01's rate: at least 0, and below 28 samples
 pub delay-within : (level : Float) (p : List Float) (d : Float) → T (fits binary32 level) → T (lt zeroF level) → Held p → allWithin16 p ≡ true → length p ≤ 1792 → groupDelay four level p ≡ At d → T (le zeroF d) × T (lt d (fin false 7 (pos 2)))
 delay-within level p d FL z H w h e =
-    let r = delay-below four level p d (lit< tt) (lit≤ tt) FL z H w h e in
-    (nonneg d (r .0) (r .1), lt-from d 7 (pos 2) (r .0) (28 * 2 ^ 1074) (r .1) refl (r .2))
+    let r = delay-most four level p d (lit< tt) (lit≤ tt) FL z H w h e in
+    (nonneg d (r .0) (r .1), lt-from d 7 (pos 2) (r .0) (28 * 2 ^ 1074) (r .1) refl (below-7 four (r .0) (lit< tt) (r .2)))
+
+-- ---- Mode A/C: the ratio is from 1 to 2, so its delay is no larger
+ratio-low : 1 * 2 ^ 1074 ≤ G (1500 * 2 ^ 1074) (1450 * 2 ^ 1074)
+ratio-low = G-ge (1500 * 2 ^ 1074) (1450 * 2 ^ 1074) 1 1074 (lit< tt) (lit< tt) (lit≤ tt)
+
+ratio-high : G (1500 * 2 ^ 1074) (1450 * 2 ^ 1074) ≤ 2 * 2 ^ 1074
+ratio-high = G-le (1500 * 2 ^ 1074) (1450 * 2 ^ 1074) 2 1074 (lit< tt) (lit< tt) (lit≤ tt)
+
+ratio-units : Units modeACRatio (G (1500 * 2 ^ 1074) (1450 * 2 ^ 1074))
+unfolding modeACRatio
+ratio-units = div-units (ofInt binary64 (pos 1500)) (ofInt binary64 (pos 1450)) (1500 * 2 ^ 1074) (1450 * 2 ^ 1074) (of-int 1500 (lit≤ tt)) (of-int 1450 (lit≤ tt)) (lit< tt) (lt-of-le-of-lt ratio-high (lit< {m = 2 * 2 ^ 1074} {n = overflow binary64} tt))
+
+smaller : (x n q k : ℕ) → n ≤ q * x → 1 * 2 ^ 1074 ≤ k → n * 2 ^ 1074 ≤ q * x * k
+smaller x n q k h l = le-trans (mul-le-mul-right (2 ^ 1074) h) (mul-le-mul-left (q * x) (le-trans (le-of-eq (sym (one-mul (2 ^ 1074)))) l))
+
+-- the delay that a Mode A/C delay comes from
+from-ratio : (c : Crossing) (d : Float) → over modeACRatio c ≡ At d → (x : Float) × (c ≡ At x) × (div binary64 x modeACRatio ≡ d)
+from-ratio (At x) d e = (x, refl, cc)
+from-ratio Nowhere d e = let y : _≡_ {A = ℕ} 0 1 = cc in absurd (omega arith)
+
+pub mode-ac-delay-most : (sps : ℕ) (level : Float) (p : List Float) (d : Float) → 0 < sps → sps ≤ 2 ^ 30 → T (fits binary32 level) → T (lt zeroF level) → Held p → allWithin16 p ≡ true → length p ≤ prototypeLength sps → modeACGroupDelay sps level p ≡ At d
+    → (n : ℕ) × Units d n × (n ≤ (prototypeLength sps - 1) * 2 ^ 1068)
+unfolding modeACGroupDelay
+mode-ac-delay-most sps level p d S few FL z H w h e =
+    let f = from-ratio (groupDelay sps level p) d e in
+    let r = delay-most sps level p (f .0) S few FL z H w h (f .1) in
+    let k = G (1500 * 2 ^ 1074) (1450 * 2 ^ 1074) in
+    let K : 0 < k = lt-of-lt-of-le (lit< {m = 0} {n = 1 * 2 ^ 1074} tt) ratio-low in
+    let most : G (r .0) k ≤ (prototypeLength sps - 1) * 2 ^ 1068 = G-le (r .0) k (prototypeLength sps - 1) 1068 K (room sps few) (smaller (2 ^ 1068) (r .0) (prototypeLength sps - 1) k (r .2) ratio-low) in
+    (G (r .0) k, subst (λ (x : Float). Units x (G (r .0) k)) (f .2) (div-units (f .0) modeACRatio (r .0) k (r .1) ratio-units K (lt-of-le-of-lt (le-trans most (mul-le-mul-right (2 ^ 1068) (le-of-lt (room sps few)))) (lit< {m = 2 ^ 53 * 2 ^ 1068} {n = overflow binary64} tt))), most)
+  where
+    room : (s : ℕ) → s ≤ 2 ^ 30 → 64 * s * 7 - 1 < 2 ^ 53
+    room s h = omega arith
+
+pub mode-ac-delay-within : (level : Float) (p : List Float) (d : Float) → T (fits binary32 level) → T (lt zeroF level) → Held p → allWithin16 p ≡ true → length p ≤ 1792 → modeACGroupDelay four level p ≡ At d → T (le zeroF d) × T (lt d (fin false 7 (pos 2)))
+mode-ac-delay-within level p d FL z H w h e =
+    let r = mode-ac-delay-most four level p d (lit< tt) (lit≤ tt) FL z H w h e in
+    (nonneg d (r .0) (r .1), lt-from d 7 (pos 2) (r .0) (28 * 2 ^ 1074) (r .1) refl (below-7 four (r .0) (lit< tt) (r .2)))

@@ -29,3 +29,15 @@ delayFrom sps level j (a ∷ b ∷ rest) = choose (crosses level a b) (At (delay
 
 unfoldable pub groupDelay : ℕ → Float → List Float → Crossing
 groupDelay sps level prototype = delayFrom sps level 0 prototype
+
+-- 1500.0 / 1450.0: how much faster the Mode A/C filterbank runs than the Mode S one
+unfoldable pub modeACRatio : Float
+modeACRatio = div binary64 (ofInt binary64 (pos 1500)) (ofInt binary64 (pos 1450))
+
+abbrev pub over : Float → Crossing → Crossing
+over ratio (At delay) = At (div binary64 delay ratio)
+over ratio Nowhere = Nowhere
+
+-- the delay of a Mode A/C prototype, in samples of the Mode S rate
+unfoldable pub modeACGroupDelay : ℕ → Float → List Float → Crossing
+modeACGroupDelay sps level prototype = over modeACRatio (groupDelay sps level prototype)

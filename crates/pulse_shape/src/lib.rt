@@ -9,7 +9,7 @@ ghost use Rattle.pulse_shape.specs.Trapezoid.{trapezoidAt, modeSTrapezoi
 ghost use Rattle.pulse_shape.specs.Convolve.{productsFrom, firstTerm, convolveAt};
 ghost use Rattle.pulse_shape.specs.Prototype.{prototypeOf, modeSPrototype, modeACPrototype};
 ghost use Rattle.pulse_shape.specs.Accepted.{within16, allWithin16, modeSTapsAccepted, modeACTapsAccepted};
-ghost use Rattle.pulse_shape.specs.GroupDelay.{crosses, delayAt, groupDelay};
+ghost use Rattle.pulse_shape.specs.GroupDelay.{crosses, delayAt, groupDelay, modeACGroupDelay};
 
 // m / n, each taken as an f32.
 fn ratio(m: u32, n: u32) -> f32
@@ -198,4 +198,15 @@ pub fn group_delay(level: f32, prototype: &[f32]) -> Crossing
         j = j + 1;
     }
     Crossing::Nowhere
+}
+
+// The delay of a Mode A/C prototype, whose filterbank runs faster than the Mode S one.
+pub fn mode_ac_group_delay(level: f32, prototype: &[f32]) -> Crossing
+    ensures { λ r. ⌜ r ≡ modeACGroupDelay four level (now (prototype .entry)) ⌝ }
+{
+    let crossing = group_delay(level, prototype);
+    match crossing {
+        Crossing::At(delay) => Crossing::At(delay / (1500.0 / 1450.0)),
+        Crossing::Nowhere => Crossing::Nowhere,
+    }
 }

@@ -1,7 +1,7 @@
 // Prints digests of prototypes, delays, taps and pulse sums of made-up filters. The file `stdout` holds those of the Rust: tools/vectors/shape/main.rs makes it. Assumes nothing.
+use filterbank::Clock;
 use libc::STDOUT_FILENO;
 use pulse_shape::Crossing;
-use filterbank::Clock;
 ghost use Prim.Native.Nat.{_<_, _≤_};
 
 const RANGE: u64 = 0x8000_0000;
