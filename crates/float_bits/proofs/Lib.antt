@@ -1,2 +1,7 @@
+pub mod Nan
 pub mod Narrowing
+pub mod NarrowOrder
 pub mod Ceiling
+pub mod CeilAsFloat
+pub mod Truncation
+pub mod Ranges

@@ -1,4 +1,4 @@
--- `narrow x` is what the pattern of `magnitude` stands for, with x's sign. Assumes nothing.
+-- The `f32` pattern of an `f64` pattern n whose sign is clear: n rounded as a whole in the normal range (`in-range`), its digits rounded below it (`subnormal-pattern`), and 0 further below (`zero-pattern`). Assumes nothing.
 use mathlib.Core.Path.{_≡_, refl, sym, ap, _∙_, subst}
 use mathlib.Core.Logic.{_⊎_, inl, inr}
 use Prim.Native.Nat.{ℕ, zero, suc, _+_, _-_, _*_, _/_, _%_, _^_, _≤_, _<_, min, compare, zero-le}
@@ -6,21 +6,21 @@ use native.Mathlib.Nat.{le-refl, le-trans, le-of-eq, le-of-lt, lt-of-lt-of-le, l
 use native.Mathlib.Omega.{arith}
 use mathlib.Core.Bool.{Bool, true, false, not, cond}
 use lib.Dec.{T, leb, ltb, eqb, leb→le, nleb→lt, le→leb, eqb→eq, ltb→lt, not-T}
-use lib.Arith.{lt→nleb}
+use lib.Arith.{lt→nleb, le→nltb}
 use lib.Pow.{pow-add, pow-pos, pow-mono, pow-lt, shl-lt, shl-exact}
 use lib.Ieee.{Float, nan, inf, fin, binary32, binary64, up, down, size, odd, round, ofBits, toBits, ofFields, fits, isNan, nanBits}
 use lib.Ieee.Digits.{size-le}
 use lib.Ieee.Fits.{down-pos, nearest-le}
 use lib.Ieee.Exact.{HasValue, odd-sign}
-use lib.Ieee.Bits.{is-true, is-false, ofBits-toBits, nanBits-above}
+use lib.Ieee.Bits.{is-true, is-false, nanBits-above, nanBits-is}
 use lib.Ieee.Nearest.{closest, closest-same}
 use lib.Ieee.Order.{drop, kept}
 use lib.Ieee.Scale.{round-same}
 use Rattle.rounding.proofs.Pattern.{round-pattern, size-exact, kept-le}
-use Rattle.rounding.proofs.Half.{closest-zero}
-use Rattle.float_bits.specs.Narrow.{narrow, magnitude}
+use Rattle.rounding.proofs.Half.{closest-zero, closest-even, closest-half}
+use Rattle.float_bits.specs.Narrow.{narrow}
 
-pub narrow-val : (x : Float) (s : Bool) (a c : ℕ) → 0 < c → HasValue x s a c → narrow x ≡ round binary32 s a c
+narrow-val : (x : Float) (s : Bool) (a c : ℕ) → 0 < c → HasValue x s a c → narrow x ≡ round binary32 s a c
 unfolding narrow
 narrow-val nan s a c C v = absurd v
 narrow-val (inf t) s a c C v = absurd v
@@ -115,11 +115,8 @@ module _ (q k i : ℕ) (K : k + i ≡ 925) (L : k < 896) (hi : q < 9007199254740
       plain d x e h = omega arith
 
 -- ---- the pattern, by the two fields
-abbrev signOf : Bool → ℕ
-signOf s = cond s 2147483648 0
-
-from : (s : Bool) (d q k p : ℕ) → min (drop 24 (q * 2 ^ k * 2 ^ 149) (2 ^ 1074) * 8388608 + kept 24 (q * 2 ^ k * 2 ^ 149) (2 ^ 1074)) 2139095040 ≡ p → narrow (odd d s q k 1074) ≡ ofBits binary32 (signOf s + p)
-from s d q k p e = narrow-val (odd d s q k 1074) s (q * 2 ^ k) (2 ^ 1074) (pow-pos 1074) (odd-sign d s q k 1074) ∙ round-pattern s (q * 2 ^ k) (2 ^ 1074) ∙ ap (λ (x : ℕ). ofBits binary32 (signOf s + x)) e
+from : (d q k p : ℕ) → min (drop 24 (q * 2 ^ k * 2 ^ 149) (2 ^ 1074) * 8388608 + kept 24 (q * 2 ^ k * 2 ^ 149) (2 ^ 1074)) 2139095040 ≡ p → narrow (odd d false q k 1074) ≡ ofBits binary32 p
+from d q k p e = narrow-val (odd d false q k 1074) false (q * 2 ^ k) (2 ^ 1074) (pow-pos 1074) (odd-sign d false q k 1074) ∙ round-pattern false (q * 2 ^ k) (2 ^ 1074) ∙ ap (ofBits binary32) (zero-add (min (drop 24 (q * 2 ^ k * 2 ^ 149) (2 ^ 1074) * 8388608 + kept 24 (q * 2 ^ k * 2 ^ 149) (2 ^ 1074)) 2139095040) ∙ e)
 
 half : (q i : ℕ) → q < 9007199254740992 → 55 ≤ i → q * 2 < 2 ^ i
 half q i h l = lt-of-lt-of-le (twice q h) (pow-mono l)
@@ -127,18 +124,24 @@ half q i h l = lt-of-lt-of-le (twice q h) (pow-mono l)
     twice : (q : ℕ) → q < 9007199254740992 → q * 2 < 2 ^ 55
     twice q h = omega arith
 
+-- the `f32` pattern of an `f64` whose sign is clear, by the exponent's field and the digits
+unfoldable magnitude : ℕ → ℕ → ℕ
+magnitude field digits =
+    cond (leb 897 field) (min ((field - 897) * 8388608 + closest (4503599627370496 + digits) 536870912) 2139095040)
+    (cond (leb 872 field) (closest (4503599627370496 + digits) (2 ^ (926 - field))) 0)
+
 -- `magnitude` in its three ranges
-pub mag-high : (f d : ℕ) → 897 ≤ f → magnitude f d ≡ min ((f - 897) * 8388608 + closest (4503599627370496 + d) 536870912) 2139095040
+mag-high : (f d : ℕ) → 897 ≤ f → magnitude f d ≡ min ((f - 897) * 8388608 + closest (4503599627370496 + d) 536870912) 2139095040
 unfolding magnitude
 mag-high f d h = ap (λ (t : Bool). cond t (min ((f - 897) * 8388608 + closest (4503599627370496 + d) 536870912) 2139095040) (cond (leb 872 f) (closest (4503599627370496 + d) (2 ^ (926 - f))) 0)) (is-true (leb 897 f) (le→leb 897 f h))
 
-pub mag-mid : (f d : ℕ) → f < 897 → 872 ≤ f → magnitude f d ≡ closest (4503599627370496 + d) (2 ^ (926 - f))
+mag-mid : (f d : ℕ) → f < 897 → 872 ≤ f → magnitude f d ≡ closest (4503599627370496 + d) (2 ^ (926 - f))
 unfolding magnitude
 mag-mid f d h g =
     ap (λ (t : Bool). cond t (min ((f - 897) * 8388608 + closest (4503599627370496 + d) 536870912) 2139095040) (cond (leb 872 f) (closest (4503599627370496 + d) (2 ^ (926 - f))) 0)) (is-false (leb 897 f) (lt→nleb 897 f h))
     ∙ ap (λ (t : Bool). cond t (closest (4503599627370496 + d) (2 ^ (926 - f))) 0) (is-true (leb 872 f) (le→leb 872 f g))
 
-pub mag-low : (f d : ℕ) → f < 872 → magnitude f d ≡ 0
+mag-low : (f d : ℕ) → f < 872 → magnitude f d ≡ 0
 unfolding magnitude
 mag-low f d h =
     ap (λ (t : Bool). cond t (min ((f - 897) * 8388608 + closest (4503599627370496 + d) 536870912) 2139095040) (cond (leb 872 f) (closest (4503599627370496 + d) (2 ^ (926 - f))) 0)) (is-false (leb 897 f) (lt→nleb 897 f (up2 f h)))
@@ -147,10 +150,6 @@ mag-low f d h =
     up2 : (f : ℕ) → f < 872 → f < 897
     up2 f h = omega arith
 
-mag-top : magnitude 2047 0 ≡ 2139095040
-unfolding magnitude
-mag-top = refl
-
 le-or-lt : (a b : ℕ) → (a ≤ b) ⊎ (b < a)
 le-or-lt a b = go (leb a b) (leb→le a b) (nleb→lt a b)
   where
@@ -158,13 +157,13 @@ le-or-lt a b = go (leb a b) (leb→le a b) (nleb→lt a b)
     go true h g = inl (h tt)
     go false h g = inr (g tt)
 
-normal : (s : Bool) (k d : ℕ) → d < 4503599627370496 → narrow (odd 53 s (4503599627370496 + d) k 1074) ≡ ofBits binary32 (signOf s + magnitude (suc k) d)
-normal s k d D =
+normal : (k d : ℕ) → d < 4503599627370496 → narrow (odd 53 false (4503599627370496 + d) k 1074) ≡ ofBits binary32 (magnitude (suc k) d)
+normal k d D =
     elim (le-or-lt 896 k) [
-      | inl h ↦ from s 53 q k (magnitude (suc k) d) (high q k (suc k - 897) (is k h) (least d) (most d D) ∙ sym (mag-high (suc k) d (up0 k h)))
+      | inl h ↦ from 53 q k (magnitude (suc k) d) (high q k (suc k - 897) (is k h) (least d) (most d D) ∙ sym (mag-high (suc k) d (up0 k h)))
       | inr l ↦ elim (le-or-lt 871 k) [
-        | inl g ↦ from s 53 q k (magnitude (suc k) d) (lower q k (926 - suc k) (is2 k l) l (most d D) ∙ sym (mag-mid (suc k) d (up3 k l) (up2 k g)))
-        | inr g ↦ from s 53 q k (magnitude (suc k) d) (lower q k (926 - suc k) (is2 k l) l (most d D) ∙ closest-zero q (2 ^ (926 - suc k)) (pow-pos (926 - suc k)) (half q (926 - suc k) (most d D) (far k g)) ∙ sym (mag-low (suc k) d (up1 k g)))
+        | inl g ↦ from 53 q k (magnitude (suc k) d) (lower q k (926 - suc k) (is2 k l) l (most d D) ∙ sym (mag-mid (suc k) d (up3 k l) (up2 k g)))
+        | inr g ↦ from 53 q k (magnitude (suc k) d) (lower q k (926 - suc k) (is2 k l) l (most d D) ∙ closest-zero q (2 ^ (926 - suc k)) (pow-pos (926 - suc k)) (half q (926 - suc k) (most d D) (far k g)) ∙ sym (mag-low (suc k) d (up1 k g)))
       ]
     ]
   where
@@ -198,9 +197,9 @@ normal s k d D =
     most : (d : ℕ) → d < 4503599627370496 → 4503599627370496 + d < 9007199254740992
     most d h = omega arith
 
-subnormal : (s : Bool) (d : ℕ) → d < 4503599627370496 → narrow (odd 53 s d 0 1074) ≡ ofBits binary32 (signOf s + magnitude 0 d)
-subnormal s d D =
-    from s 53 d 0 (magnitude 0 d) (lower d 0 925 refl (zero-lt-suc 895) (more d D) ∙ closest-zero d (2 ^ 925) (pow-pos 925) (half d 925 (more d D) (le-by 925)) ∙ sym (mag-low 0 d (zero-lt-suc 871)))
+subnormal : (d : ℕ) → d < 4503599627370496 → narrow (odd 53 false d 0 1074) ≡ ofBits binary32 (magnitude 0 d)
+subnormal d D =
+    from 53 d 0 (magnitude 0 d) (lower d 0 925 refl (zero-lt-suc 895) (more d D) ∙ closest-zero d (2 ^ 925) (pow-pos 925) (half d 925 (more d D) (le-by 925)) ∙ sym (mag-low 0 d (zero-lt-suc 871)))
   where
     more : (d : ℕ) → d < 4503599627370496 → d < 9007199254740992
     more d h = omega arith
@@ -208,45 +207,62 @@ subnormal s d D =
     le-by : (n : ℕ) → 55 ≤ 925
     le-by n = omega arith
 
-infinite : (s : Bool) → narrow (inf s) ≡ ofBits binary32 (signOf s + magnitude 2047 0)
+infinite : narrow (inf false) ≡ ofBits binary32 (magnitude 2047 0)
 unfolding narrow ofBits magnitude
-infinite true = refl
-infinite false = refl
+infinite = refl
 
-fields : (s : Bool) (f d : ℕ) → d < 4503599627370496 → T (not (isNan (ofFields binary64 s f d))) → narrow (ofFields binary64 s f d) ≡ ofBits binary32 (signOf s + magnitude f d)
+fields : (f d : ℕ) → d < 4503599627370496 → T (not (isNan (ofFields binary64 false f d))) → narrow (ofFields binary64 false f d) ≡ ofBits binary32 (magnitude f d)
 unfolding ofFields isNan
-fields s zero d D N = subnormal s d D
-fields s (suc k) d D N = go (eqb (suc k) 2047) (eqb→eq (suc k) 2047) (eqb d 0) (eqb→eq d 0) N
+fields zero d D N = subnormal d D
+fields (suc k) d D N = go (eqb (suc k) 2047) (eqb→eq (suc k) 2047) (eqb d 0) (eqb→eq d 0) N
   where
-    go : (a : Bool) → (T a → suc k ≡ 2047) → (b : Bool) → (T b → d ≡ 0) → T (not (isNan (cond a (cond b (inf s) nan) (odd 53 s (4503599627370496 + d) k 1074))))
-        → narrow (cond a (cond b (inf s) nan) (odd 53 s (4503599627370496 + d) k 1074)) ≡ ofBits binary32 (signOf s + magnitude (suc k) d)
-    go true e true z N = infinite s ∙ ap (λ (x : ℕ). ofBits binary32 (signOf s + magnitude x 0)) (sym (e tt)) ∙ ap (λ (x : ℕ). ofBits binary32 (signOf s + magnitude (suc k) x)) (sym (z tt))
+    go : (a : Bool) → (T a → suc k ≡ 2047) → (b : Bool) → (T b → d ≡ 0) → T (not (isNan (cond a (cond b (inf false) nan) (odd 53 false (4503599627370496 + d) k 1074))))
+        → narrow (cond a (cond b (inf false) nan) (odd 53 false (4503599627370496 + d) k 1074)) ≡ ofBits binary32 (magnitude (suc k) d)
+    go true e true z N = infinite ∙ ap (λ (x : ℕ). ofBits binary32 (magnitude x 0)) (sym (e tt)) ∙ ap (λ (x : ℕ). ofBits binary32 (magnitude (suc k) x)) (sym (z tt))
     go true e false z N = absurd N
-    go false e b z N = normal s k d D
+    go false e b z N = normal k d D
 
-pub narrow-bits : (x : Float) → T (fits binary64 x) → T (not (isNan x))
-    → narrow x ≡ ofBits binary32 (signOf (leb 9223372036854775808 (toBits binary64 x)) + magnitude (toBits binary64 x % 9223372036854775808 / 4503599627370496) (toBits binary64 x % 4503599627370496))
+no-nan-64 : (n : ℕ) → n ≤ 9218868437227405312 → T (not (isNan (ofBits binary64 n)))
+no-nan-64 n h = subst (λ (b : Bool). T (not b)) (sym (nanBits-above binary64 n) ∙ nanBits-is binary64 n) (le→nltb 9218868437227405312 (n % 9223372036854775808) (less n h))
+  where
+    less : (n : ℕ) → n ≤ 9218868437227405312 → n % 9223372036854775808 ≤ 9218868437227405312
+    less n h = omega arith
+
+clear : (n : ℕ) → n ≤ 9218868437227405312 → ofBits binary64 n ≡ ofFields binary64 false (n / 4503599627370496) (n % 4503599627370496)
 unfolding ofBits
-narrow-bits x F N =
-    let b = toBits binary64 x in
-    let e : ofFields binary64 (leb 9223372036854775808 b) (b % 9223372036854775808 / 4503599627370496) (b % 4503599627370496) ≡ x = ofBits-toBits binary64 x F in
-    ap narrow (sym e)
-    ∙ fields (leb 9223372036854775808 b) (b % 9223372036854775808 / 4503599627370496) (b % 4503599627370496) (mod-lt b (pow-pos 52)) (subst (λ (y : Float). T (not (isNan y))) (sym e) N)
-
--- ---- what the code asks
-pub one-shl : (i : ℕ) → i ≤ 54 → 1 * 2 ^ i % 18446744073709551616 ≡ 2 ^ i
-one-shl i h = shl-exact 1 i 64 (pow-lt (zero-lt-suc 0)) (room i h) ∙ one-mul (2 ^ i)
+clear n h =
+    ap (λ (b : Bool). ofFields binary64 b (n % 9223372036854775808 / 4503599627370496) (n % 4503599627370496)) (is-false (leb 9223372036854775808 n) (lt→nleb 9223372036854775808 n (less n h)))
+    ∙ ap (λ (x : ℕ). ofFields binary64 false (x / 4503599627370496) (n % 4503599627370496)) (all n h)
   where
-    room : (i : ℕ) → i ≤ 54 → 1 + i ≤ 64
-    room i h = omega arith
+    less : (n : ℕ) → n ≤ 9218868437227405312 → n < 9223372036854775808
+    less n h = omega arith
 
-pub closest-le : (a b : ℕ) → closest a b ≤ a + 1
-closest-le a b = add1 (closest a b) (a / b) a (nearest-le (a / b) (compare (a % b * 2) b)) (div-le-self a b)
+    all : (n : ℕ) → n ≤ 9218868437227405312 → n % 9223372036854775808 ≡ n
+    all n h = omega arith
+
+narrow-bits : (n : ℕ) → n ≤ 9218868437227405312 → narrow (ofBits binary64 n) ≡ ofBits binary32 (magnitude (n / 4503599627370496) (n % 4503599627370496))
+narrow-bits n h =
+    ap narrow (clear n h)
+    ∙ fields (n / 4503599627370496) (n % 4503599627370496) (mod-lt n (pow-pos 52)) (subst (λ (x : Float). T (not (isNan x))) (clear n h) (no-nan-64 n h))
+
+-- The pattern as a whole: 897 is the field of the least normal `f32`, whose own field is 1, and 896 * 2 ^ 23 is 7516192768.
+whole-pattern : (n : ℕ) → 4039728865751334912 ≤ n → magnitude (n / 4503599627370496) (n % 4503599627370496) ≡ min (closest n 536870912 - 7516192768) 2139095040
+whole-pattern n h =
+    let d = n % 4503599627370496 in
+    let e = (n / 4503599627370496 - 1) * 4194304 in
+    mag-high (n / 4503599627370496) d (omega arith)
+    ∙ ap (λ (x : ℕ). min x 2139095040) (joined (n / 4503599627370496) (closest n 536870912) (closest (4503599627370496 + d) 536870912) (field n h) (ap (λ (x : ℕ). closest x 536870912) (parts n h) ∙ closest-even e (4503599627370496 + d) 536870912 (pow-pos 29)))
   where
-    add1 : (x y a : ℕ) → x ≤ suc y → y ≤ a → x ≤ a + 1
-    add1 x y a h k = omega arith
+    field : (n : ℕ) → 4039728865751334912 ≤ n → 897 ≤ n / 4503599627370496
+    field n h = omega arith
 
-pub mag-le : (f d : ℕ) → d < 4503599627370496 → magnitude f d ≤ 2139095040
+    parts : (n : ℕ) → 4039728865751334912 ≤ n → n ≡ 2 * ((n / 4503599627370496 - 1) * 4194304) * 536870912 + (4503599627370496 + n % 4503599627370496)
+    parts n h = omega arith
+
+    joined : (f x y : ℕ) → 897 ≤ f → x ≡ 2 * ((f - 1) * 4194304) + y → (f - 897) * 8388608 + y ≡ x - 7516192768
+    joined f x y h e = omega arith
+
+mag-le : (f d : ℕ) → d < 4503599627370496 → magnitude f d ≤ 2139095040
 mag-le f d D =
     elim (le-or-lt 897 f) [
       | inl h ↦ le-trans (le-of-eq (mag-high f d h)) (min-le ((f - 897) * 8388608 + closest (4503599627370496 + d) 536870912))
@@ -268,25 +284,52 @@ mag-le f d D =
     most : (d : ℕ) → d < 4503599627370496 → 4503599627370496 + d < 9007199254740992
     most d h = omega arith
 
-pub no-nan : (n : ℕ) → n % 2147483648 ≤ 2139095040 → T (not (nanBits binary32 n))
-no-nan n h = subst (λ (b : Bool). T (not b)) (sym (nanBits-above binary32 n)) (le→nltb 2139095040 (n % 2147483648) h)
+-- ---- what the code asks
+-- in the normal range, and at an infinity's pattern, m being n rounded as a whole
+pub in-range : (n m : ℕ) → n ≤ 9218868437227405312 → 4039728865751334912 ≤ n → m ≡ (n + 268435455 + n / 536870912 % 2) / 536870912 - 7516192768
+    → (2139095040 < m → ofBits binary32 2139095040 ≡ narrow (ofBits binary64 n)) × (m ≤ 2139095040 → ofBits binary32 m ≡ narrow (ofBits binary64 n))
+in-range n m h l e = (λ g. at 2139095040 (capped m g), λ g. at m (kept-as m g))
   where
-    le→nltb : (a b : ℕ) → b ≤ a → T (not (ltb a b))
-    le→nltb a b h = not-T (ltb a b) (λ (t : T (ltb a b)). not-le-of-lt (ltb→lt a b t) h)
+    at : (p : ℕ) → min m 2139095040 ≡ p → ofBits binary32 p ≡ narrow (ofBits binary64 n)
+    at p g = ap (ofBits binary32) (sym g ∙ ap (λ (x : ℕ). min x 2139095040) (e ∙ ap (λ (x : ℕ). x - 7516192768) (closest-half n 268435456 (pow-pos 28))) ∙ sym (whole-pattern n l)) ∙ sym (narrow-bits n h)
 
-pub when-negative : (x : Float) (m : ℕ) → T (fits binary64 x) → T (not (isNan x))
-    → m ≡ magnitude (toBits binary64 x % 9223372036854775808 / 4503599627370496) (toBits binary64 x % 4503599627370496) → 9223372036854775808 ≤ toBits binary64 x → ofBits binary32 (2147483648 + m) ≡ narrow x
-when-negative x m F N e h =
-    let b = toBits binary64 x in
-    ap (λ (y : ℕ). ofBits binary32 (2147483648 + y)) e
-    ∙ ap (λ (t : Bool). ofBits binary32 (signOf t + magnitude (b % 9223372036854775808 / 4503599627370496) (b % 4503599627370496))) (sym (is-true (leb 9223372036854775808 b) (le→leb 9223372036854775808 b h)))
-    ∙ sym (narrow-bits x F N)
+    capped : (m : ℕ) → 2139095040 < m → min m 2139095040 ≡ 2139095040
+    capped m g = omega arith
 
-pub when-positive : (x : Float) (m : ℕ) → T (fits binary64 x) → T (not (isNan x))
-    → m ≡ magnitude (toBits binary64 x % 9223372036854775808 / 4503599627370496) (toBits binary64 x % 4503599627370496) → toBits binary64 x < 9223372036854775808 → ofBits binary32 m ≡ narrow x
-when-positive x m F N e h =
-    let b = toBits binary64 x in
-    ap (ofBits binary32) (sym (zero-add m))
-    ∙ ap (λ (y : ℕ). ofBits binary32 (0 + y)) e
-    ∙ ap (λ (t : Bool). ofBits binary32 (signOf t + magnitude (b % 9223372036854775808 / 4503599627370496) (b % 4503599627370496))) (sym (is-false (leb 9223372036854775808 b) (lt→nleb 9223372036854775808 b h)))
-    ∙ sym (narrow-bits x F N)
+    kept-as : (m : ℕ) → m ≤ 2139095040 → min m 2139095040 ≡ m
+    kept-as m g = omega arith
+
+-- below the normal range, with the exponent's field f, half of the divisor being 1 << (925 - f)
+pub half-shl : (f : ℕ) → 872 ≤ f → f < 897 → (0 < 1 * 2 ^ (925 - f) % 18446744073709551616) × (1 * 2 ^ (925 - f) % 18446744073709551616 ≤ 18014398509481984) × (2 * (1 * 2 ^ (925 - f) % 18446744073709551616) ≡ 2 ^ (926 - f))
+half-shl f lo hi =
+    let e : 1 * 2 ^ (925 - f) % 18446744073709551616 ≡ 2 ^ (925 - f) = shl-exact 1 (925 - f) 64 (pow-lt (zero-lt-suc 0)) (room f lo) ∙ one-mul (2 ^ (925 - f)) in (
+      lt-of-lt-of-le (pow-pos (925 - f)) (le-of-eq (sym e)),
+      le-trans (le-of-eq e) (pow-mono (small f lo)),
+      ap (λ (x : ℕ). 2 * x) e ∙ sym (pow-add 2 1 (925 - f)) ∙ ap (λ (x : ℕ). 2 ^ x) (next f hi),
+    )
+  where
+    room : (f : ℕ) → 872 ≤ f → 1 + (925 - f) ≤ 64
+    room f lo = omega arith
+
+    small : (f : ℕ) → 872 ≤ f → 925 - f ≤ 54
+    small f lo = omega arith
+
+    next : (f : ℕ) → f < 897 → 1 + (925 - f) ≡ 926 - f
+    next f hi = omega arith
+
+pub subnormal-pattern : (n r : ℕ) → 872 ≤ n / 4503599627370496 → n / 4503599627370496 < 897 → r ≡ closest (4503599627370496 + n % 4503599627370496) (2 * (1 * 2 ^ (925 - n / 4503599627370496) % 18446744073709551616))
+    → (r ≤ 2139095040) × (ofBits binary32 r ≡ narrow (ofBits binary64 n))
+subnormal-pattern n r lo hi e =
+    let f = n / 4503599627370496 in
+    let d = n % 4503599627370496 in
+    let m : r ≡ magnitude f d = e ∙ ap (closest (4503599627370496 + d)) (half-shl f lo hi .2) ∙ sym (mag-mid f d hi lo) in
+    (le-trans (le-of-eq m) (mag-le f d (mod-lt n (pow-pos 52))), ap (ofBits binary32) m ∙ sym (narrow-bits n (less n hi)))
+  where
+    less : (n : ℕ) → n / 4503599627370496 < 897 → n ≤ 9218868437227405312
+    less n h = omega arith
+
+pub zero-pattern : (n : ℕ) → n / 4503599627370496 < 872 → ofBits binary32 0 ≡ narrow (ofBits binary64 n)
+zero-pattern n h = ap (ofBits binary32) (sym (mag-low (n / 4503599627370496) (n % 4503599627370496) h)) ∙ sym (narrow-bits n (less n h))
+  where
+    less : (n : ℕ) → n / 4503599627370496 < 872 → n ≤ 9218868437227405312
+    less n h = omega arith

@@ -1,3 +1,3 @@
 pub mod Narrow
 pub mod Ceil
-pub mod AsFloat
+pub mod Range

@@ -1,60 +1,61 @@
-// What the language lacks, worked out from bits: narrowing to `f32`, and the ceiling as a whole number. Assumes nothing.
+// What the language lacks, worked out from bits: `as f32`, `as u64` and the ceiling of an `f64` as Rust has them, bit patterns with a defined answer at a NaN, and tests of range. Assumes nothing.
 ghost use mathlib.Core.Path.{_≡_};
-ghost use mathlib.Core.Bool.{not, false};
+ghost use mathlib.Core.Bool.{false};
 ghost use lib.IntN.{pos};
-ghost use Prim.Native.Nat.{_<_, _≤_};
+ghost use Prim.Native.Nat.{_*_, _<_, _≤_};
 ghost use lib.Dec.{T};
-ghost use lib.Ieee.{isNan, lt, fin};
+ghost use lib.Ieee.{binary32, binary64, lt, fin, ofBits, toBits, toUnsigned};
 ghost use lib.Ieee.Nearest.{closest};
-ghost use Rattle.float_bits.specs.Narrow.{narrow as narrowed, magnitude as magnitudeOf};
+ghost use lib.Ieee.Scale.{finite as isFinite};
+ghost use Rattle.float_bits.specs.Narrow.{narrow as narrowed};
 ghost use Rattle.float_bits.specs.Ceil.{ceilSigned};
+ghost use Rattle.float_bits.specs.Range.{within as isWithin};
 
-// a / b to the nearest whole number, a tie to the even one.
-fn nearest(a: u64, b: u64) -> u64
-    requires { ⌜ (0 < b) × (b ≤ 0x80_0000_0000_0000) × (a < 0x20_0000_0000_0000) ⌝ }
-    ensures { λ r. ⌜ r ≡ closest a b ⌝ }
+// a / (2 * half) to the nearest whole number, a tie to the even one.
+fn nearest(a: u64, half: u64) -> u64
+    requires { ⌜ (0 < half) × (half ≤ 0x40_0000_0000_0000) × (a < 0x20_0000_0000_0000) ⌝ }
+    ensures { λ r. ⌜ r ≡ closest a (2 * half) ⌝ }
 {
-    let q = a / b;
-    let r = a % b * 2;
-    if r < b {
-        q
-    } else if r > b {
-        q + 1
-    } else {
-        q + q % 2
-    }
+    (a + (half - 1) + a / (2 * half) % 2) / (2 * half)
 }
 
-// The `f32` pattern, without its sign, of the `f64` whose exponent's field and digits are given.
-fn magnitude(field: u64, digits: u64) -> u64
-    requires { ⌜ (field < 2048) × (digits < 0x10_0000_0000_0000) ⌝ }
-    ensures { λ r. ⌜ r ≡ magnitudeOf field digits ⌝ }
+// The `f32` pattern of an `f64` pattern n below that of the least normal `f32`, 2^-126.
+fn narrow_small(n: u64) -> u64
+    requires { ⌜ n < 0x3810_0000_0000_0000 ⌝ }
+    ensures { λ r. ⌜ (r ≤ 0x7f80_0000) × (ofBits binary32 r ≡ narrowed (ofBits binary64 n)) ⌝ }
 {
-    if field >= 897 {
-        let m = (field - 897) * 0x80_0000 + nearest(0x10_0000_0000_0000 + digits, 0x2000_0000);
-        if m > 0x7f80_0000 { 0x7f80_0000 } else { m }
-    } else if field >= 872 {
-        nearest(0x10_0000_0000_0000 + digits, 1 << (926 - field))
-    } else {
-        0
+    let field = n / 0x10_0000_0000_0000;
+    if field < 872 {
+        return 0;
     }
+    nearest(
+        0x10_0000_0000_0000 + n % 0x10_0000_0000_0000,
+        1 << (925 - field),
+    )
 }
 
-// x as an `f32`, as Rust's `as` rounds it.
+// The `f32` pattern of an `f64` pattern n whose sign is clear. In the normal range the pattern as a whole is rounded to its upper 35 bits: a carry out of the digits goes into the exponent, as it should.
+fn magnitude(n: u64) -> u64
+    requires { ⌜ n ≤ 0x7ff0_0000_0000_0000 ⌝ }
+    ensures { λ r. ⌜ (r ≤ 0x7f80_0000) × (ofBits binary32 r ≡ narrowed (ofBits binary64 n)) ⌝ }
+{
+    if n < 0x3810_0000_0000_0000 {
+        return narrow_small(n);
+    }
+    let m = (n + 0xfff_ffff + n / 0x2000_0000 % 2) / 0x2000_0000 - 0x1_c000_0000;
+    if m > 0x7f80_0000 { 0x7f80_0000 } else { m }
+}
+
+// Rust's `x as f32`.
 pub fn narrow(x: f64) -> f32
-    requires { ⌜ T (not (isNan x)) ⌝ }
     ensures { λ r. ⌜ r ≡ narrowed x ⌝ }
 {
-    let bits = f64::to_bits(x);
-    let m = magnitude(
-        bits % 0x8000_0000_0000_0000 / 0x10_0000_0000_0000,
-        bits % 0x10_0000_0000_0000,
-    );
-    if bits >= 0x8000_0000_0000_0000 {
-        f32::from_bits((0x8000_0000 + m) as u32)
-    } else {
-        f32::from_bits(m as u32)
+    if x != x {
+        return 0.0 / 0.0;
     }
+    let bits = f64::to_bits(x);
+    let m = magnitude(bits % 0x8000_0000_0000_0000);
+    f32::from_bits((bits / 0x8000_0000_0000_0000 * 0x8000_0000 + m) as u32)
 }
 
 // The least whole number that is no less than x, for an x above 0 and below 2^53.
@@ -91,4 +92,94 @@ pub fn ceil_to_i64(x: f64) -> i64
     } else {
         0
     }
+}
+
+// Rust's `x as u64`.
+pub fn to_u64(x: f64) -> u64
+    ensures { λ r. ⌜ r ≡ toUnsigned 64 x ⌝ }
+{
+    if x >= 1.0 {
+        if x < 18446744073709551616.0 {
+            return std::num::truncating_f64_to_u64(x);
+        }
+        return 18446744073709551615;
+    }
+    0
+}
+
+// Rust's `x as usize`.
+pub fn to_usize(x: f64) -> usize
+    ensures { λ r. ⌜ r ≡ toUnsigned 64 x ⌝ }
+{
+    to_u64(x) as usize
+}
+
+// The `f64` of a pattern. The pattern of any NaN gives the NaN.
+pub fn f64_of(n: u64) -> f64
+    ensures { λ r. ⌜ r ≡ ofBits binary64 n ⌝ }
+{
+    if n % 0x8000_0000_0000_0000 > 0x7ff0_0000_0000_0000 {
+        return 0.0 / 0.0;
+    }
+    f64::from_bits(n)
+}
+
+// The `f32` of a pattern. The pattern of any NaN gives the NaN.
+pub fn f32_of(n: u32) -> f32
+    ensures { λ r. ⌜ r ≡ ofBits binary32 n ⌝ }
+{
+    if n % 0x8000_0000 > 0x7f80_0000 {
+        return 0.0 / 0.0;
+    }
+    f32::from_bits(n)
+}
+
+// The pattern of an `f64`. A NaN gives that of the quiet one with no payload, 0x7ff8_0000_0000_0000.
+pub fn bits_of(x: f64) -> u64
+    ensures { λ r. ⌜ r ≡ toBits binary64 x ⌝ }
+{
+    if x != x {
+        return 0x7ff8_0000_0000_0000;
+    }
+    f64::to_bits(x)
+}
+
+// The pattern of an `f32`. A NaN gives that of the quiet one with no payload, 0x7fc0_0000.
+pub fn bits_of_f32(x: f32) -> u32
+    ensures { λ r. ⌜ r ≡ toBits binary32 x ⌝ }
+{
+    if x != x {
+        return 0x7fc0_0000;
+    }
+    f32::to_bits(x)
+}
+
+// x is neither a NaN nor an infinity.
+pub fn finite(x: f64) -> bool
+    ensures { λ r. ⌜ r ≡ isFinite x ⌝ }
+{
+    if x < 1.0 / 0.0 {
+        return x > -1.0 / 0.0;
+    }
+    false
+}
+
+// The size of x is at most limit. A NaN is within no limit.
+pub fn within(x: f64, limit: f64) -> bool
+    ensures { λ r. ⌜ r ≡ isWithin x limit ⌝ }
+{
+    if x <= limit {
+        return x >= -limit;
+    }
+    false
+}
+
+// The size of x is at most limit. A NaN is within no limit.
+pub fn within_f32(x: f32, limit: f32) -> bool
+    ensures { λ r. ⌜ r ≡ isWithin x limit ⌝ }
+{
+    if x <= limit {
+        return x >= -limit;
+    }
+    false
 }

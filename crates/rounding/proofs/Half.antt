@@ -1,8 +1,8 @@
 -- A fraction rounded to the nearest whole number is off by a half at most. Assumes nothing.
 use mathlib.Core.Path.{_≡_, refl, sym, ap, _∙_, subst}
 use mathlib.Core.Logic.{_⊎_, inl, inr}
-use Prim.Native.Nat.{ℕ, zero, suc, _+_, _*_, _/_, _%_, _≤_, _<_, compare, Ordering, Ordering·lt, Ordering·eq, Ordering·gt}
-use native.Mathlib.Nat.{mod-lt, div-add-mod', suc-mul, zero-mul, mul-comm, mul-assoc, mul-right-comm, mul-le-mul-right, le-trans, le-of-eq, lt-of-le-of-lt, eq-zero-or-pos, lt-irrefl, lt-of-lt-of-le, one-mul}
+use Prim.Native.Nat.{ℕ, zero, suc, _+_, _-_, _*_, _/_, _%_, _≤_, _<_, compare, Ordering, Ordering·lt, Ordering·eq, Ordering·gt}
+use native.Mathlib.Nat.{mul-add-div-right, mul-add-mod-self-right, div-eq-of-lt-le, mod-lt, div-add-mod', suc-mul, zero-mul, mul-comm, mul-assoc, mul-right-comm, mul-le-mul-right, le-trans, le-of-eq, lt-of-le-of-lt, eq-zero-or-pos, lt-irrefl, lt-of-lt-of-le, one-mul, zero-lt-suc}
 use native.Mathlib.Omega.{arith}
 use mathlib.Core.Bool.{not}
 use lib.Dec.{T, isLe, isEq, eqb, leb→le, nleb→lt, eqb→eq, eqb-refl}
@@ -128,3 +128,82 @@ closest-up a b h = sym (pick-gt (a / b) (a % b * 2) b (compare (a % b * 2) b) (c
 
 pub closest-tie : (a b : ℕ) → a % b * 2 ≡ b → a / b + a / b % 2 ≡ closest a b
 closest-tie a b h = sym (pick-eq (a / b) (a % b * 2) b (compare (a % b * 2) b) (cmp (a % b * 2) b) h)
+
+-- With the divisor twice h one division does it: h - 1 is added before it, and 1 more where the quotient is odd.
+pub closest-half : (a h : ℕ) → 0 < h → (a + (h - 1) + a / (2 * h) % 2) / (2 * h) ≡ closest a (2 * h)
+closest-half a h H =
+    half-at a h (a / (2 * h)) (a % (2 * h)) (compare (a % (2 * h) * 2) (2 * h)) H (sym (div-add-mod' a (2 * h))) (mod-lt a (twice h H)) (cmp (a % (2 * h) * 2) (2 * h))
+  where
+    twice : (h : ℕ) → 0 < h → 0 < 2 * h
+    twice h H = omega arith
+
+    -- W is the multiple of b at or below x, N the next one
+    quotient : (w b x : ℕ) → w * b ≤ x → (N : ℕ) → N ≡ w * b + b → x < N → x / b ≡ w
+    quotient w b x lo N e hi = div-eq-of-lt-le b lo (lt-of-lt-of-le hi (le-of-eq (e ∙ sym (ap (λ (k : ℕ). k * b) (one-more w) ∙ suc-mul w b))))
+      where
+        one-more : (w : ℕ) → w + 1 ≡ suc w
+        one-more w = omega arith
+
+    -- the quotient stays at w, or goes to the next
+    stays : (a h w r p : ℕ) → a ≡ w * (2 * h) + r → r + (h - 1) + p < 2 * h → (a + (h - 1) + p) / (2 * h) ≡ w
+    stays a h w r p e l = quotient w (2 * h) (a + (h - 1) + p) (lo (w * (2 * h)) a r h p e) (w * (2 * h) + 2 * h) refl (hi (w * (2 * h)) a r h p e l)
+      where
+        lo : (W a r h p : ℕ) → a ≡ W + r → W ≤ a + (h - 1) + p
+        lo W a r h p e = omega arith
+
+        hi : (W a r h p : ℕ) → a ≡ W + r → r + (h - 1) + p < 2 * h → a + (h - 1) + p < W + 2 * h
+        hi W a r h p e l = omega arith
+
+    goes : (a h w r p : ℕ) → a ≡ w * (2 * h) + r → 2 * h ≤ r + (h - 1) + p → r + (h - 1) + p < 2 * h + 2 * h → (a + (h - 1) + p) / (2 * h) ≡ suc w
+    goes a h w r p e g l =
+        quotient (suc w) (2 * h) (a + (h - 1) + p) (le-trans (le-of-eq (suc-mul w (2 * h))) (lo (w * (2 * h)) a r h p e g)) (suc w * (2 * h) + 2 * h) refl (lt-of-lt-of-le (hi (w * (2 * h)) a r h p e l) (le-of-eq (ap (λ (k : ℕ). k + 2 * h) (sym (suc-mul w (2 * h))))))
+      where
+        lo : (W a r h p : ℕ) → a ≡ W + r → 2 * h ≤ r + (h - 1) + p → W + 2 * h ≤ a + (h - 1) + p
+        lo W a r h p e g = omega arith
+
+        hi : (W a r h p : ℕ) → a ≡ W + r → r + (h - 1) + p < 2 * h + 2 * h → a + (h - 1) + p < W + 2 * h + 2 * h
+        hi W a r h p e l = omega arith
+
+    half-at : (a h w r : ℕ) (o : Ordering) → 0 < h → a ≡ w * (2 * h) + r → r < 2 * h → Cmp o (r * 2) (2 * h) → (a + (h - 1) + w % 2) / (2 * h) ≡ nearest w o
+    half-at a h w r Ordering·lt H e R c = stays a h w r (w % 2) e (less r h (w % 2) (mod-lt w {m = 2} (zero-lt-suc 1)) c)
+      where
+        less : (r h p : ℕ) → p < 2 → r * 2 < 2 * h → r + (h - 1) + p < 2 * h
+        less r h p P c = omega arith
+    half-at a h w r Ordering·gt H e R c = goes a h w r (w % 2) e (more r h (w % 2) c) (less r h (w % 2) (mod-lt w {m = 2} (zero-lt-suc 1)) R H)
+      where
+        more : (r h p : ℕ) → 2 * h < r * 2 → 2 * h ≤ r + (h - 1) + p
+        more r h p c = omega arith
+
+        less : (r h p : ℕ) → p < 2 → r < 2 * h → 0 < h → r + (h - 1) + p < 2 * h + 2 * h
+        less r h p P c H = omega arith
+    half-at a h w r Ordering·eq H e R c = elim (parity w) [
+      | inl z ↦ stays a h w r (w % 2) e (less r h (w % 2) z H c) ∙ sym (plus-none w (w % 2) z)
+      | inr o ↦ goes a h w r (w % 2) e (more r h (w % 2) o H c) (less2 r h (w % 2) o H c) ∙ sym (plus-one w (w % 2) o)
+    ]
+      where
+        less : (r h p : ℕ) → p ≡ 0 → 0 < h → r * 2 ≡ 2 * h → r + (h - 1) + p < 2 * h
+        less r h p z H c = omega arith
+
+        more : (r h p : ℕ) → p ≡ 1 → 0 < h → r * 2 ≡ 2 * h → 2 * h ≤ r + (h - 1) + p
+        more r h p o H c = omega arith
+
+        less2 : (r h p : ℕ) → p ≡ 1 → 0 < h → r * 2 ≡ 2 * h → r + (h - 1) + p < 2 * h + 2 * h
+        less2 r h p o H c = omega arith
+
+-- an even multiple of the divisor goes through: a tie stays a tie, to the same side
+pub closest-even : (e a b : ℕ) → 0 < b → closest (2 * e * b + a) b ≡ 2 * e + closest a b
+closest-even e a b B =
+    ap (λ (x : ℕ). nearest ((2 * e * b + a) / b) (compare (x * 2) b)) (mul-add-mod-self-right (2 * e) b a)
+    ∙ ap (λ (x : ℕ). nearest x (compare (a % b * 2) b)) (mul-add-div-right B (2 * e) a)
+    ∙ go (a / b) (compare (a % b * 2) b)
+  where
+    go : (w : ℕ) (o : Ordering) → nearest (2 * e + w) o ≡ 2 * e + nearest w o
+    go w Ordering·lt = refl
+    go w Ordering·eq = even e w
+      where
+        even : (e w : ℕ) → 2 * e + w + (2 * e + w) % 2 ≡ 2 * e + (w + w % 2)
+        even e w = omega arith
+    go w Ordering·gt = next e w
+      where
+        next : (e w : ℕ) → suc (2 * e + w) ≡ 2 * e + suc w
+        next e w = omega arith

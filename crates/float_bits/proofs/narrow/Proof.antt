@@ -1,74 +1,44 @@
--- `narrow::narrow` meets its contract. Assumes nothing.
-use mathlib.Core.Path.{_≡_, sym, ap, _∙_, subst}
-use Prim.Native.Nat.{ℕ, _+_, _-_, _*_, _%_, _/_, _^_, _≤_, _<_}
-use native.Mathlib.Nat.{le-trans, le-of-eq, mod-lt}
+-- `float_bits::narrow` meets its contract: the pattern of the size, with the sign put before it. Assumes nothing.
+use mathlib.Core.Path.{_≡_, sym, ap, subst}
+use Prim.Native.Nat.{_+_, _*_, _/_}
 use native.Mathlib.Omega.{arith}
 use lib.Dec.{T}
-use lib.Pow.{pow-pos}
-use lib.Ieee.{binary64, fits, toBits}
-use Rattle.float_bits.proofs.Narrowing.{mag-le, no-nan, when-negative, when-positive}
-use borrow.Author.Needs.{needs}
+use lib.Ieee.{binary32, binary64, fits, div, ofBits, toBits}
+use lib.Ieee.Bits.{toBits-lt}
+use Rattle.float_bits.specs.Narrow.{narrow}
+use Rattle.float_bits.proofs.Nan.{is-nan, not-nan, no-nan-bits, size-of-bits}
+use Rattle.float_bits.proofs.NarrowOrder.{with-sign}
 use Rattle.float_bits.proofs.narrow.Statement.{statement}
 use Rattle.float_bits.proofs.narrow.Tie as tie
-use Rattle.float_bits.proofs.narrow.Reads as reads
-use Rattle.float_bits.proofs.narrow.Lts as lts
-use Rattle.float_bits.proofs.magnitude.Reads as magnitude-reads
 
 -- what owning an `f64` tells: the format holds it
 held : (c : tie.Start) → T (fits binary64 (c .args .x))
 held c = subst T (sym (c .good .0 .1)) tt
 
-small : (c : lts.After-magnitude (magnitude-reads.Asked, magnitude-reads.Learnt) reads.Pre reads.Post) → c .magnitude .result ≤ 2139095040
-small c =
-    let b = toBits binary64 (c .before .args .x) in
-    le-trans (le-of-eq (c .magnitude .ensures)) (mag-le (b % 9223372036854775808 / 4503599627370496) (b % 4503599627370496) (mod-lt b (pow-pos 52)))
-
--- src/lib.rt:46:16
-float-to-bits-bits : tie.Need-float-to-bits-bits
-float-to-bits-bits c = search needs
-
--- src/lib.rt:47:9
-magnitude-requires : tie.Need-magnitude-requires
-magnitude-requires c κs = search needs
-
--- src/lib.rt:49:25
-add-result : tie.Need-add-result
-add-result c = omega (arith, small (c .before))
-
--- src/lib.rt:49:24
-cast-result : tie.Need-cast-result
-cast-result c = omega (arith, small (c .before))
-
--- src/lib.rt:49:9
-float-from-bits-result : tie.Need-float-from-bits-result
-float-from-bits-result c = no-nan (2147483648 + c .before .magnitude .result) (omega (arith, small (c .before)))
-
--- src/lib.rt:51:24
-cast-result-2 : tie.Need-cast-result-2
-cast-result-2 c = omega (arith, small (c .before))
-
--- src/lib.rt:51:9
-float-from-bits-result-2 : tie.Need-float-from-bits-result-2
-float-from-bits-result-2 c = no-nan (c .before .magnitude .result) (omega (arith, small (c .before)))
-
--- src/lib.rt:42:1
 returns : tie.Need-returns
-returns c = when-negative (c .before .before .args .x) (c .before .magnitude .result) (held (c .before .before)) (c .before .before .pre) (c .before .magnitude .ensures) (omega arith)
+unfolding div ofBits narrow
+returns c = sym (ap narrow (is-nan (c .before .args .x) (c .if1 .taken)))
 
--- src/lib.rt:42:1
+float-to-bits-bits : tie.Need-float-to-bits-bits
+float-to-bits-bits c = not-nan (c .before .args .x) (c .if1 .left)
+
+magnitude-requires : tie.Need-magnitude-requires
+magnitude-requires c κs = size-of-bits binary64 (c .before .args .x) (held (c .before)) (not-nan (c .before .args .x) (c .if1 .left))
+
+mul-result : tie.Need-mul-result
+mul-result c = omega (arith, toBits-lt binary64 (c .before .before .args .x) (held (c .before .before)))
+
+add-result : tie.Need-add-result
+add-result c = omega (arith, toBits-lt binary64 (c .before .before .args .x) (held (c .before .before)))
+
+cast-result : tie.Need-cast-result
+cast-result c = omega (arith, toBits-lt binary64 (c .before .before .args .x) (held (c .before .before)))
+
+float-from-bits-result : tie.Need-float-from-bits-result
+float-from-bits-result c = no-nan-bits binary32 (toBits binary64 (c .before .before .args .x) / 9223372036854775808 * 2147483648 + c .magnitude .result) (omega (arith, toBits-lt binary64 (c .before .before .args .x) (held (c .before .before))))
+
 returns-2 : tie.Need-returns-2
-returns-2 c = when-positive (c .before .before .args .x) (c .before .magnitude .result) (held (c .before .before)) (c .before .before .pre) (c .before .magnitude .ensures) (omega arith)
+returns-2 c = with-sign (c .before .before .args .x) (c .magnitude .result) (held (c .before .before)) (omega arith) (c .magnitude .ensures .1)
 
 pub narrow-spec : {M : Type 1} → statement M
-narrow-spec =
-    tie.close
-    (tie.spec
-    float-to-bits-bits
-    magnitude-requires
-    add-result
-    cast-result
-    float-from-bits-result
-    cast-result-2
-    float-from-bits-result-2
-    returns
-    returns-2)
+narrow-spec = tie.close (tie.spec returns float-to-bits-bits magnitude-requires mul-result add-result cast-result float-from-bits-result returns-2)

@@ -1,4 +1,4 @@
--- Rust's `x.ceil()` as a float, and that its `as i64` is `ceilSigned`. Assumes nothing.
+-- `ceil-signed`: the ceiling as an `i64` is `as i64` of the ceiling as a float; and `ceil-value`, `floor-value`: that float is the whole number exactly. Assumes nothing.
 use mathlib.Core.Path.{_≡_, refl, sym, ap, _∙_, subst}
 use Prim.Native.Nat.{ℕ, zero, suc, _+_, _-_, _*_, _/_, _%_, _^_, _≤_, _<_, min, zero-le}
 use native.Mathlib.Nat.{le-trans, le-of-eq, le-of-lt, lt-of-lt-of-le, lt-of-le-of-lt, le-of-suc-le-suc, mul-one, one-mul, zero-mul, zero-div, mul-assoc, mul-le-mul-right, mul-div-cancel, div-lt-iff-lt-mul, div-le-self, div-one, suc-mul, zero-lt-suc, mul-lt-mul-of-pos-right, add-zero}
@@ -11,15 +11,7 @@ use lib.Ieee.{Float, nan, inf, fin, binary64, up, down, round, toSigned, fits}
 use lib.Ieee.Fits.{down-pos, up-pos, and-l, and-r}
 use lib.Ieee.Exact.{HasValue, round-exact}
 use lib.Ieee.Back.{round-whole}
-use Rattle.float_bits.specs.Ceil.{ceilSigned, upward}
-
--- the least whole number that is no less than x, as a value of binary64. It keeps the sign of a zero, and -0.5 gives -0
-unfoldable pub ceil : Float → Float
-unfolding round
-ceil nan = nan
-ceil (inf s) = inf s
-ceil (fin false m e) = round binary64 false (upward (m * up e) (down e)) 1
-ceil (fin true m e) = round binary64 true (m * up e / down e) 1
+use Rattle.float_bits.specs.Ceil.{ceil, ceilSigned, upward}
 
 to-signed-pos : (h : ℕ) (x : Float) (c : ℕ) → HasValue x false c 1 → toSigned h x ≡ pos (min c (2 ^ h - 1))
 unfolding toSigned
