@@ -2,3 +2,9 @@ pub mod Literals
 pub mod Horner
 pub mod Order
 pub mod Size
+pub mod Remainder
+pub mod Constants
+pub mod Wrapped
+pub mod Reduction
+pub mod Bounded
+pub mod InRange

@@ -1,7 +1,7 @@
 -- Comparisons of finite values in units of 2 ^ -1074, and what a test that passed or failed says of them. Assumes nothing.
 use mathlib.Core.Path.{_≡_, refl, sym, ap, _∙_, subst}
 use Prim.Native.Nat.{ℕ, _+_, _*_, _^_, _≤_, _<_}
-use native.Mathlib.Nat.{le-of-eq, le-of-lt, le-trans, lt-of-lt-of-le, lt-of-le-of-lt, zero-mul, mul-comm, mul-assoc, mul-right-comm, mul-lt-mul-of-pos-right, lt-of-mul-lt-mul-right, mul-pos, add-mul, eq-of-mul-eq-mul-right}
+use native.Mathlib.Nat.{le-of-eq, le-of-lt, le-trans, lt-of-lt-of-le, lt-of-le-of-lt, zero-mul, mul-comm, mul-assoc, mul-right-comm, mul-lt-mul-of-pos-right, lt-of-mul-lt-mul-right, mul-pos, add-mul, eq-of-mul-eq-mul-right, lt-irrefl}
 use native.Mathlib.Omega.{arith}
 use mathlib.Core.Bool.{Bool, true, false, not, _&&_, _||_, Bool·beq}
 use lib.IntN.{ℤ}
@@ -78,25 +78,42 @@ pub le-val : (x y : Float) (s t : Bool) (n k : ℕ) → Val x s n → Val y t k 
 unfolding le
 le-val x y s t n k p q = ap (λ (b : Bool). b || eq x y) (lt-val x y s t n k p q) ∙ ap (λ (b : Bool). below s n t k || b) (eq-val x y s t n k p q)
 
--- ---- what the tests say. A limit b is not negative; -0 counts as 0 units
-pub below-yes : (n k : ℕ) → T (below true n true k) → k < n
-below-yes n k t = ltb→lt k n t
-
--- n ≤ k as a test
+-- ---- what the tests say of two sizes
 or-le : (n k : ℕ) (b : Bool) → (T b → n ≡ k) → T (ltb n k || b) → n ≤ k
-or-le n k b f t = go (ltb n k) (ltb→lt n k) b f t
+or-le n k b f t = go (ltb n k) (ltb→lt n k) t
   where
-    go : (x : Bool) → (T x → n < k) → (b : Bool) → (T b → n ≡ k) → T (x || b) → n ≤ k
-    go true h b f t = le-of-lt (h tt)
-    go false h b f t = le-of-eq (f t)
+    go : (x : Bool) → (T x → n < k) → T (x || b) → n ≤ k
+    go true h t = le-of-lt (h tt)
+    go false h t = le-of-eq (f t)
 
 and-first : (x y : Bool) → T (x && y) → T x
 and-first true y t = tt
 and-first false y t = t
 
--- 0 ≤ x ≤ b, and -b ≤ x ≤ 0, read off the tests
+-- n ≤ k for two that are not negative
 pub le-above : (n k : ℕ) → T (below false n false k || level false n false k) → n ≤ k
-le-above n k t = or-le n k (level false n false k) (λ u. eqb→eq n k (and-first (eqb n k) (Bool·beq false false || eqb n 0) u)) t
+le-above n k t = or-le n k (level false n false k) (λ u. eqb→eq n k (and-first (eqb n k) true u)) t
 
+pub le-above-no : (n k : ℕ) → T (not (below false n false k || level false n false k)) → k < n
+le-above-no n k t = go (ltb n k) (nltb→le n k) (eqb n k) (λ (e : n ≡ k). subst (λ (x : ℕ). T (eqb n x)) e (eqb-refl n)) t
+  where
+    other : (n k : ℕ) → k ≤ n → (n ≡ k → ⊥) → k < n
+    other n k h g = omega arith
+
+    go : (x : Bool) → (T (not x) → k ≤ n) → (y : Bool) → (n ≡ k → T y) → T (not (x || (y && true))) → k < n
+    go true f y g t = absurd t
+    go false f true g t = absurd t
+    go false f false g t = other n k (f tt) (λ e. g e)
+
+-- -k ≤ -n
 pub le-below : (n k : ℕ) → T (below true k true n || level true k true n) → n ≤ k
-le-below n k t = or-le n k (level true k true n) (λ u. sym (eqb→eq k n (and-first (eqb k n) (Bool·beq true true || eqb k 0) u))) t
+le-below n k t = or-le n k (level true k true n) (λ u. sym (eqb→eq k n (and-first (eqb k n) true u))) t
+
+-- one that is above 0 is no less than a negative one, nor than -0
+pub no-level : (n k : ℕ) → 0 < n → T (below false n true k || level false n true k) → ⊥
+no-level n k h t = go (eqb n k) (eqb n 0) (λ u. lt-irrefl 0 (subst (λ (x : ℕ). 0 < x) (eqb→eq n 0 u) h)) t
+  where
+    go : (x y : Bool) → (T y → ⊥) → T (false || (x && (false || y))) → ⊥
+    go true true f t = f tt
+    go true false f t = t
+    go false y f t = t

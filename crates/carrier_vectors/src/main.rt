@@ -1,0 +1,129 @@
+// Replays stored answers of the Rust: the wraps and document 01's sine and cosine bit for bit, and the two values within 2^-23 of its `sin_cos`.
+// Prints how many rows of each table agree. Assumes nothing.
+mod tables;
+
+ghost use Prim.Native.Nat.{_<_, _≤_};
+
+// The f64 with the bit pattern n; a NaN for any NaN's.
+fn value(n: u64) -> f64 {
+    if n % 0x8000_0000_0000_0000 > 0x7ff0_0000_0000_0000 {
+        return 0.0 / 0.0;
+    }
+    f64::from_bits(n)
+}
+
+// Whether x has the bit pattern n, which the tables write as 0x7ff8_0000_0000_0000 for a NaN.
+fn same(x: f64, n: u64) -> bool {
+    if x == x {
+        return f64::to_bits(x) == n;
+    }
+    n == 0x7ff8_0000_0000_0000
+}
+
+fn near(x: f64, y: f64) -> bool {
+    let d = x - y;
+    if d > 1.1920928955078125e-7 {
+        return false;
+    }
+    -d <= 1.1920928955078125e-7
+}
+
+// One if row i of the wraps agrees.
+fn wrap_agrees(i: usize) -> u64
+    requires { ⌜ i < 1000 ⌝ }
+    ensures { λ r. ⌜ r ≤ 1 ⌝ }
+{
+    let x = value(tables::wraps(3 * i));
+    if !same(math::phase_wrap_f64(x), tables::wraps(3 * i + 1)) {
+        return 0;
+    }
+    if !same(math::phase_wrap_once_f64(x), tables::wraps(3 * i + 2)) {
+        return 0;
+    }
+    1
+}
+
+// One if row i of the phases from -PI to PI agrees.
+fn phase_agrees(i: usize) -> u64
+    requires { ⌜ i < 1000 ⌝ }
+    ensures { λ r. ⌜ r ≤ 1 ⌝ }
+{
+    let y = math::sin_cos(value(tables::phases(5 * i)));
+    if !same(y.sin, tables::phases(5 * i + 1)) {
+        return 0;
+    }
+    if !same(y.cos, tables::phases(5 * i + 2)) {
+        return 0;
+    }
+    if !near(y.sin, value(tables::phases(5 * i + 3))) {
+        return 0;
+    }
+    if !near(y.cos, value(tables::phases(5 * i + 4))) {
+        return 0;
+    }
+    1
+}
+
+// One if row i of the other phases agrees.
+fn other_agrees(i: usize) -> u64
+    requires { ⌜ i < 1000 ⌝ }
+    ensures { λ r. ⌜ r ≤ 1 ⌝ }
+{
+    let y = math::sin_cos(value(tables::others(3 * i)));
+    if !same(y.sin, tables::others(3 * i + 1)) {
+        return 0;
+    }
+    if !same(y.cos, tables::others(3 * i + 2)) {
+        return 0;
+    }
+    1
+}
+
+fn count_wraps() -> u64 {
+    let mut n: u64 = 0;
+    let mut i: usize = 0;
+    while i < tables::WRAPS_ROWS {
+        n += wrap_agrees(i);
+        i += 1;
+    }
+    n
+}
+
+fn count_phases() -> u64 {
+    let mut n: u64 = 0;
+    let mut i: usize = 0;
+    while i < tables::PHASES_ROWS {
+        n += phase_agrees(i);
+        i += 1;
+    }
+    n
+}
+
+fn count_others() -> u64 {
+    let mut n: u64 = 0;
+    let mut i: usize = 0;
+    while i < tables::OTHERS_ROWS {
+        n += other_agrees(i);
+        i += 1;
+    }
+    n
+}
+
+// The last decimal digit of n.
+fn digit(n: u64) -> u8 {
+    (48 + n % 10) as u8
+}
+
+// Three digits of n and the end of the line.
+fn print_count(n: u64) {
+    io::write_all(1, &[digit(n / 100), digit(n / 10), digit(n), b'\n']);
+}
+
+fn main() {
+    io::write_all(1, b"wraps ");
+    print_count(count_wraps());
+    io::write_all(1, b"phases ");
+    print_count(count_phases());
+    io::write_all(1, b"others ");
+    print_count(count_others());
+}
