@@ -1,0 +1,4 @@
+pub mod Numbers
+pub mod InRange
+pub mod Bytes
+pub mod Replies

@@ -1,0 +1,5 @@
+pub mod Below
+pub mod Xor
+pub mod ByBytes
+pub mod Laws
+pub mod ByTable
