@@ -92,19 +92,14 @@ fn pattern(x: f64) -> String {
 fn table(name: &str, about: &str, rows: &[Vec<f64>]) {
     let width = rows[0].len();
     println!("\n// {about}");
-    println!("const {name}: [u64; {}] = [", rows.len() * width);
+    println!("pub const {name}: [u64; {}] = [", rows.len() * width);
     for row in rows {
         for x in row {
             println!("    {},", pattern(*x));
         }
     }
     println!("];");
-    let lower = name.to_lowercase();
     println!("\npub const {name}_ROWS: usize = {};", rows.len());
-    println!("\n// Entry i, and 0 past the end.");
-    println!("pub fn {lower}(i: usize) -> u64 {{");
-    println!("    if i < {} {{ {name}[i] }} else {{ 0 }}", rows.len() * width);
-    println!("}}");
 }
 
 fn main() {

@@ -28,16 +28,29 @@ fn near(x: f64, y: f64) -> bool {
     -d <= 1.1920928955078125e-7
 }
 
+// Entry i of a table, and 0 past its end.
+fn wraps(i: usize) -> u64 {
+    if i < 303 { tables::WRAPS[i] } else { 0 }
+}
+
+fn phases(i: usize) -> u64 {
+    if i < 1070 { tables::PHASES[i] } else { 0 }
+}
+
+fn others(i: usize) -> u64 {
+    if i < 45 { tables::OTHERS[i] } else { 0 }
+}
+
 // One if row i of the wraps agrees.
 fn wrap_agrees(i: usize) -> u64
     requires { ⌜ i < 1000 ⌝ }
     ensures { λ r. ⌜ r ≤ 1 ⌝ }
 {
-    let x = value(tables::wraps(3 * i));
-    if !same(math::phase_wrap_f64(x), tables::wraps(3 * i + 1)) {
+    let x = value(wraps(3 * i));
+    if !same(math::phase_wrap_f64(x), wraps(3 * i + 1)) {
         return 0;
     }
-    if !same(math::phase_wrap_once_f64(x), tables::wraps(3 * i + 2)) {
+    if !same(math::phase_wrap_once_f64(x), wraps(3 * i + 2)) {
         return 0;
     }
     1
@@ -48,17 +61,17 @@ fn phase_agrees(i: usize) -> u64
     requires { ⌜ i < 1000 ⌝ }
     ensures { λ r. ⌜ r ≤ 1 ⌝ }
 {
-    let y = math::sin_cos(value(tables::phases(5 * i)));
-    if !same(y.sin, tables::phases(5 * i + 1)) {
+    let y = math::sin_cos(value(phases(5 * i)));
+    if !same(y.sin, phases(5 * i + 1)) {
         return 0;
     }
-    if !same(y.cos, tables::phases(5 * i + 2)) {
+    if !same(y.cos, phases(5 * i + 2)) {
         return 0;
     }
-    if !near(y.sin, value(tables::phases(5 * i + 3))) {
+    if !near(y.sin, value(phases(5 * i + 3))) {
         return 0;
     }
-    if !near(y.cos, value(tables::phases(5 * i + 4))) {
+    if !near(y.cos, value(phases(5 * i + 4))) {
         return 0;
     }
     1
@@ -69,41 +82,38 @@ fn other_agrees(i: usize) -> u64
     requires { ⌜ i < 1000 ⌝ }
     ensures { λ r. ⌜ r ≤ 1 ⌝ }
 {
-    let y = math::sin_cos(value(tables::others(3 * i)));
-    if !same(y.sin, tables::others(3 * i + 1)) {
+    let y = math::sin_cos(value(others(3 * i)));
+    if !same(y.sin, others(3 * i + 1)) {
         return 0;
     }
-    if !same(y.cos, tables::others(3 * i + 2)) {
+    if !same(y.cos, others(3 * i + 2)) {
         return 0;
     }
     1
 }
 
-fn count_wraps() -> u64 {
-    let mut n: u64 = 0;
-    let mut i: usize = 0;
-    while i < tables::WRAPS_ROWS {
-        n += wrap_agrees(i);
-        i += 1;
+// One if row i of a table agrees: 0 the wraps, 1 the phases, 2 the others.
+fn row_agrees(table: u8, i: usize) -> u64
+    requires { ⌜ i < 1000 ⌝ }
+    ensures { λ r. ⌜ r ≤ 1 ⌝ }
+{
+    if table == 0 {
+        return wrap_agrees(i);
     }
-    n
+    if table == 1 {
+        return phase_agrees(i);
+    }
+    other_agrees(i)
 }
 
-fn count_phases() -> u64 {
+// How many of a table's first rows agree.
+fn count(table: u8, rows: usize) -> u64
+    requires { ⌜ rows ≤ 1000 ⌝ }
+{
     let mut n: u64 = 0;
     let mut i: usize = 0;
-    while i < tables::PHASES_ROWS {
-        n += phase_agrees(i);
-        i += 1;
-    }
-    n
-}
-
-fn count_others() -> u64 {
-    let mut n: u64 = 0;
-    let mut i: usize = 0;
-    while i < tables::OTHERS_ROWS {
-        n += other_agrees(i);
+    while i < rows {
+        n += row_agrees(table, i);
         i += 1;
     }
     n
@@ -121,9 +131,9 @@ fn print_count(n: u64) {
 
 fn main() {
     io::write_all(1, b"wraps ");
-    print_count(count_wraps());
+    print_count(count(0, tables::WRAPS_ROWS));
     io::write_all(1, b"phases ");
-    print_count(count_phases());
+    print_count(count(1, tables::PHASES_ROWS));
     io::write_all(1, b"others ");
-    print_count(count_others());
+    print_count(count(2, tables::OTHERS_ROWS));
 }

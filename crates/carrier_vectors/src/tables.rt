@@ -1,7 +1,7 @@
 // Bit patterns of phases and of the Rust's answers for them, written by tools/vectors/carrier.rs, which says how. Assumes nothing.
 
 // Rows of three: a phase, `phase_wrap_f64` of it, and `phase_wrap_once_f64`.
-const WRAPS: [u64; 303] = [
+pub const WRAPS: [u64; 303] = [
     0x7ff8_0000_0000_0000,
     0x7ff8_0000_0000_0000,
     0x7ff8_0000_0000_0000,
@@ -309,13 +309,8 @@ const WRAPS: [u64; 303] = [
 
 pub const WRAPS_ROWS: usize = 101;
 
-// Entry i, and 0 past the end.
-pub fn wraps(i: usize) -> u64 {
-    if i < 303 { WRAPS[i] } else { 0 }
-}
-
 // Rows of five: a phase from -PI to PI, its sine and cosine by document 01's steps, and by `sin_cos`.
-const PHASES: [u64; 1070] = [
+pub const PHASES: [u64; 1070] = [
     0x0000_0000_0000_0000,
     0x0000_0000_0000_0000,
     0x3ff0_0000_0000_0000,
@@ -1390,13 +1385,8 @@ const PHASES: [u64; 1070] = [
 
 pub const PHASES_ROWS: usize = 214;
 
-// Entry i, and 0 past the end.
-pub fn phases(i: usize) -> u64 {
-    if i < 1070 { PHASES[i] } else { 0 }
-}
-
 // Rows of three: any other f64, its sine and cosine by document 01's steps.
-const OTHERS: [u64; 45] = [
+pub const OTHERS: [u64; 45] = [
     0x7ff8_0000_0000_0000,
     0x7ff8_0000_0000_0000,
     0x7ff8_0000_0000_0000,
@@ -1445,8 +1435,3 @@ const OTHERS: [u64; 45] = [
 ];
 
 pub const OTHERS_ROWS: usize = 15;
-
-// Entry i, and 0 past the end.
-pub fn others(i: usize) -> u64 {
-    if i < 45 { OTHERS[i] } else { 0 }
-}

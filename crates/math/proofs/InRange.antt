@@ -1,18 +1,18 @@
 -- From -b to b by the language's comparisons is finite and at most b units in size (`within-of-tests`, `tests-of-within`), and the laws of the wraps in
 -- those terms: every finite phase wraps to -PI to PI, and so does one from -2 PI to 2 PI once wrapped. Assumes nothing.
 use mathlib.Core.Path.{_≡_, refl, sym, subst}
-use mathlib.Core.Logic.{_⊎_, inl, inr}
-use Prim.Native.Nat.{ℕ, _+_, _*_, _^_, _≤_, _<_}
+use mathlib.Core.Logic.{inl, inr}
+use Prim.Native.Nat.{ℕ, _+_, _*_, _≤_}
 use native.Mathlib.Nat.{eq-or-lt-of-le}
 use native.Mathlib.Omega.{arith}
-use mathlib.Core.Bool.{Bool, true, false, not, _&&_, _||_}
+use mathlib.Core.Bool.{Bool, true, false, _&&_, _||_}
 use lib.Dec.{T, ltb, eqb, lt→ltb, eqb-refl, lit<}
-use lib.Ieee.{Float, nan, inf, fin, binary64, add, neg, lt, eq, le, below, level, fits}
-use lib.Ieee.Scale.{overflow, finite}
+use lib.Ieee.{Float, nan, inf, fin, binary64, add, neg, lt, eq, le, fits}
+use lib.Ieee.Scale.{finite}
 use Rattle.rounding.proofs.Val.{Val, neg-val}
 use Rattle.math.specs.Phase.{pi, twoPi, phaseWrap, phaseWrapOnce}
 use Rattle.math.proofs.Order.{le-val, le-above, le-below}
-use Rattle.math.proofs.Size.{Within, number, Number, sum-within}
+use Rattle.math.proofs.Size.{Within, number, sum-within}
 use Rattle.math.proofs.Constants.{piUnits, twoPiUnits, pi-val, twoPi-val}
 use Rattle.math.proofs.Wrapped.{wrapped, once-wrapped}
 

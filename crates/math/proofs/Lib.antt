@@ -6,5 +6,6 @@ pub mod Remainder
 pub mod Constants
 pub mod Wrapped
 pub mod Reduction
+pub mod Sums
 pub mod Bounded
 pub mod InRange

@@ -1,11 +1,11 @@
 -- The reduction of a phase from -PI to PI: what is left is finite and at most PI / 4 in size, which is below 0.786. Assumes nothing.
-use mathlib.Core.Path.{_≡_, refl, sym, ap, _∙_, subst}
+use mathlib.Core.Path.{_≡_, refl, sym, subst}
 use Prim.Native.Nat.{ℕ, _+_, _*_, _^_, _≤_, _<_}
 use native.Mathlib.Nat.{le-of-lt}
 use native.Mathlib.Omega.{arith}
 use mathlib.Core.Bool.{Bool, true, false, not, cond}
-use lib.Dec.{T, ltb→lt, nltb→le, lit<, lit≤}
-use lib.Ieee.{Float, binary64, add, sub, neg, lt, below}
+use lib.Dec.{T, ltb→lt, nltb→le, lit<}
+use lib.Ieee.{Float, binary64, ofBits, add, sub, mul, div, neg, lt}
 use Rattle.rounding.proofs.Val.{Val, neg-val}
 use Rattle.math.specs.declared.Reduced.{Reduced}
 use Rattle.math.specs.Phase.{pi}
@@ -76,3 +76,8 @@ reduced-within p w = by-sign p (w .1) (w .3) (w .0) (w .2)
 -- PI / 4 is below 0.786
 pub quarter-below : quarterUnits * 1000 < 786 * 2 ^ 1074
 quarter-below = lit< tt
+
+-- PI itself, which `phase_wrap_f64` can give, leaves 0 in quadrant 2
+pub reduced-at-pi : reduced pi ≡ record { r = ofBits binary64 0; q = 2 }
+unfolding reduced pi halfPi outerLimit innerLimit ofBits add sub mul div neg lt
+reduced-at-pi = refl

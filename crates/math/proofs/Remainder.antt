@@ -1,15 +1,15 @@
 -- The remainder of two finite values, in units of 2 ^ -1074: that of their units, rounded. Assumes nothing.
 use mathlib.Core.Path.{_≡_, refl, sym, ap, _∙_, subst}
-use mathlib.Core.Logic.{_⊎_, inl, inr}
+use mathlib.Core.Logic.{inl, inr}
 use Prim.Native.Nat.{ℕ, _+_, _-_, _*_, _/_, _%_, _^_, _≤_, _<_}
-use native.Mathlib.Nat.{le-trans, le-of-eq, lt-of-lt-of-le, lt-of-le-of-lt, eq-zero-or-pos, lt-irrefl, zero-mul, mul-comm, mul-assoc, mul-right-comm, mul-pos, div-add-mod', add-mul, mul-sub, mul-lt-mul-of-pos-right, lt-of-mul-lt-mul-right, le-of-mul-le-mul-right, mul-add-mod-self-right, mod-eq-of-lt, mod-lt}
+use native.Mathlib.Nat.{le-of-eq, lt-of-lt-of-le, lt-of-le-of-lt, eq-zero-or-pos, lt-irrefl, zero-mul, mul-comm, mul-assoc, mul-right-comm, mul-pos, div-add-mod', add-mul, mul-sub, mul-lt-mul-of-pos-right, lt-of-mul-lt-mul-right, le-of-mul-le-mul-right, mul-add-mod-self-right, mod-eq-of-lt, mod-lt}
 use native.Mathlib.Omega.{arith}
 use mathlib.Core.Bool.{Bool, true, false, cond}
 use lib.IntN.{ℤ}
 use lib.Dec.{T, eqb, eqb→eq}
 use lib.Pow.{pow-pos}
 use lib.Ieee.{Float, nan, inf, fin, binary64, up, down, round, rem}
-use lib.Ieee.Fits.{up-pos, down-pos}
+use lib.Ieee.Fits.{down-pos}
 use lib.Ieee.Scale.{overflow, round-same}
 use Rattle.rounding.proofs.Units.{G}
 use Rattle.rounding.proofs.More.{round-value}

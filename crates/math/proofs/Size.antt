@@ -1,22 +1,20 @@
 -- A float that is finite and at most b units of 2 ^ -1074 in size, and how sums, differences and remainders keep to such bounds. Assumes nothing.
 use mathlib.Core.Path.{_≡_, refl, sym, ap, _∙_, subst}
 use mathlib.Core.Logic.{_⊎_, inl, inr}
-use Prim.Native.Nat.{ℕ, zero, suc, _+_, _-_, _*_, _/_, _%_, _^_, _≤_, _<_, zero-le}
-use native.Mathlib.Nat.{le-refl, le-trans, le-of-eq, le-of-lt, lt-of-lt-of-le, lt-of-le-of-lt, lt-of-not-le, not-le-of-lt, eq-or-lt-of-le, mul-one, zero-mul, mul-comm, mul-assoc, mul-right-comm, mul-le-mul-right, mul-le-mul, mul-pos, sub-self, le-antisymm, div-add-mod', add-mul, mul-lt-mul-of-pos-right, lt-of-mul-lt-mul-right, mul-add-mod-self-right, mod-eq-of-lt, mod-lt, eq-of-mul-eq-mul-right, zero-lt-suc, sub-le}
+use Prim.Native.Nat.{ℕ, zero, suc, _+_, _-_, _*_, _%_, _^_, _≤_, _<_, zero-le}
+use native.Mathlib.Nat.{le-refl, le-trans, le-of-eq, le-of-lt, lt-of-lt-of-le, lt-of-le-of-lt, eq-or-lt-of-le, zero-mul, mul-assoc, mul-right-comm, mul-le-mul-right, mul-le-mul, mul-pos, sub-self, le-antisymm, mul-lt-mul-of-pos-right, lt-of-mul-lt-mul-right, zero-lt-suc}
 use native.Mathlib.Omega.{arith}
-use mathlib.Core.Bool.{Bool, true, false, not, _&&_, _||_, Bool·beq, cond, true≢false}
-use lib.IntN.{ℤ, pos, negsuc}
-use lib.Dec.{T, leb, ltb, eqb, leb→le, nleb→lt, ltb→lt, nltb→le, lt→ltb, eqb→eq, lit<, lit≤}
+use mathlib.Core.Bool.{Bool, true, false, not, _&&_, _||_, cond}
+use lib.IntN.{ℤ, pos}
+use lib.Dec.{T, leb, ltb, eqb, leb→le, nleb→lt, ltb→lt, lt→ltb, lit<, lit≤}
 use lib.Pow.{pow-add, pow-pos, pow-mono}
-use lib.Ieee.{Float, nan, inf, fin, binary64, up, down, round, neg, sum, add, sub, rem, lt, le, fits}
+use lib.Ieee.{Float, nan, inf, fin, binary64, up, down, round, neg, sum, add, sub, lt, le, fits}
 use lib.Ieee.Digits.{back}
-use lib.Ieee.Fits.{up-pos, down-pos, and-l, and-r}
-use lib.Ieee.Exact.{HasValue, round-exact}
-use lib.Ieee.Scale.{overflow, finite, round-same}
-use Rattle.rounding.proofs.Units.{G, G-exact, G-le, G-mono, Units, cross, cross-back, units-of}
-use Rattle.rounding.proofs.More.{Rep, G-rep, rep-of, R-error, round-value, sub-all, sub-negative}
-use Rattle.rounding.proofs.Val.{Val, val-units, neg-val, add-same, add-opposite, add-opposite-r}
-use Rattle.math.proofs.Order.{le-val, le-above, le-below}
+use lib.Ieee.Fits.{up-pos, down-pos, and-r}
+use lib.Ieee.Scale.{overflow, finite}
+use Rattle.rounding.proofs.Units.{G, G-exact, G-le, Units, cross, units-of}
+use Rattle.rounding.proofs.More.{Rep, rep-of, R-error, round-value}
+use Rattle.rounding.proofs.Val.{Val, neg-val, add-same, add-opposite, add-opposite-r}
 
 abbrev pub Within : Float → ℕ → Type 0
 Within x b = (s : Bool) × (n : ℕ) × Val x s n × (n ≤ b)

@@ -1,22 +1,22 @@
 -- The wraps keep a finite phase finite and bring it within PI of 0: `wrapped` for every finite phase, `once-wrapped` for one within 2 PI.
 -- PI itself is reached (`wraps-to-pi`), though math.rs says "[-pi, pi)". Assumes nothing.
-use mathlib.Core.Path.{_≡_, refl, sym, ap, _∙_, subst}
-use mathlib.Core.Logic.{_⊎_, inl, inr}
+use mathlib.Core.Path.{_≡_, refl, sym, _∙_, subst}
+use mathlib.Core.Logic.{inl, inr}
 use Prim.Native.Nat.{ℕ, _+_, _-_, _*_, _%_, _^_, _≤_, _<_, zero-le}
-use native.Mathlib.Nat.{le-refl, le-trans, le-of-eq, le-of-lt, lt-of-lt-of-le, lt-of-le-of-lt, eq-or-lt-of-le, zero-mul, mul-pos, mul-le-mul-right, mod-lt, sub-le, not-le-of-lt, eq-zero-or-pos, lt-irrefl, le-antisymm}
+use native.Mathlib.Nat.{le-trans, le-of-lt, lt-of-le-of-lt, eq-or-lt-of-le, zero-mul, mul-pos, mul-le-mul-right, mod-lt, sub-le, eq-zero-or-pos, lt-irrefl}
 use native.Mathlib.Omega.{arith}
 use mathlib.Core.Bool.{Bool, true, false, not, _||_, cond, false≢true}
-use lib.Dec.{T, ltb, eqb, ltb→lt, nltb→le, lit<, lit≤}
+use lib.Dec.{T, ltb→lt, nltb→le, lit<, lit≤}
 use lib.Pow.{pow-pos}
-use lib.Ieee.{Float, nan, inf, fin, binary64, up, down, ofBits, round, add, sub, mul, neg, rem, lt, le, below, level, fits}
+use lib.Ieee.{Float, nan, inf, fin, binary64, up, down, ofBits, add, sub, mul, neg, rem, lt, le, below, level, fits}
 use lib.Ieee.Fits.{up-pos}
-use lib.Ieee.Scale.{overflow, finite}
+use lib.Ieee.Scale.{finite}
 use Rattle.rounding.proofs.Units.{G, G-le, Units}
 use Rattle.rounding.proofs.More.{sub-all, sub-negative}
 use Rattle.rounding.proofs.Val.{Val, val-units, neg-val, add-opposite-r}
 use Rattle.math.specs.Phase.{pi, twoPi, remEuclid, phaseWrap, phaseWrapOnce}
 use Rattle.math.proofs.Order.{lt-val, le-val, le-above, le-above-no, no-level}
-use Rattle.math.proofs.Size.{Within, Number, number, units-within, within-more, apart, add-equal, add-small, le-or-lt, sub-is, largest, rep-largest}
+use Rattle.math.proofs.Size.{Within, Number, number, units-within, apart, add-equal, add-small, le-or-lt, sub-is, largest, rep-largest}
 use Rattle.math.proofs.Remainder.{rem-val}
 use Rattle.math.proofs.Constants.{piUnits, twoPiUnits, pi-val, minus-pi-val, twoPi-val}
 
@@ -143,3 +143,8 @@ once-finite x F h =
 pub wraps-to-pi : phaseWrap (neg (ofBits binary64 0x4009_21fb_5444_2d19)) ≡ pi
 unfolding phaseWrap remEuclid pi twoPi ofBits add sub mul neg rem lt
 wraps-to-pi = refl
+
+-- and -0.0 wraps to +0.0
+pub wraps-minus-zero : phaseWrap (neg (ofBits binary64 0)) ≡ ofBits binary64 0
+unfolding phaseWrap remEuclid pi twoPi ofBits add sub mul neg rem lt
+wraps-minus-zero = refl

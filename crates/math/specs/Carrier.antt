@@ -6,13 +6,15 @@ use Rattle.math.specs.Phase.{pi}
 use Rattle.math.specs.declared.Reduced.{Reduced}
 use Rattle.math.specs.declared.SinCos.{SinCos}
 
--- H = PI / 2, and the limits of the reduction, 1.5 H and 0.5 H
+-- document 01's H, PI / 2
 unfoldable pub halfPi : Float
 halfPi = div binary64 pi (ofBits binary64 0x4000_0000_0000_0000)
 
+-- 1.5H
 unfoldable pub outerLimit : Float
 outerLimit = mul binary64 (ofBits binary64 0x3ff8_0000_0000_0000) halfPi
 
+-- 0.5H
 unfoldable pub innerLimit : Float
 innerLimit = mul binary64 (ofBits binary64 0x3fe0_0000_0000_0000) halfPi
 
