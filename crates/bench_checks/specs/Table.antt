@@ -1,0 +1,71 @@
+-- The lines of document 01's bench checks that it marks P: what the definitions give, beside what document 01 says. Definitions only.
+use Prim.Native.Nat.{ℕ, _^_}
+use mathlib.Core.Bool.{Bool, true, false}
+use mathlib.Core.List.{List, [], _∷_}
+use Rattle.constants.specs.Rate.{four}
+use Rattle.duration.specs.Duration.{durationOf}
+use Rattle.duration.specs.Duration as duration
+use Rattle.mode_ac.specs.Building.{fromData, fromDigits}
+use Rattle.mode_ac.specs.Building as mode-ac
+use Rattle.pulses.specs.ModeAC.{modeACPlaces}
+use Rattle.pulse_length.specs.Length.{modeSNumSamples, modeACNumSamples, requiredSamples}
+
+-- what a line speaks of: a number, a refusal by its number, or the places of pulses
+pub data Value : Type 0 where
+  number : ℕ → Value
+  refusal : ℕ → Value
+  places : List ℕ → Value
+
+-- a line: what the definitions give, and what document 01 says
+pub record Line : Type 0 where
+  pub gives : Value
+  pub says : Value
+
+abbrev pub line : Value → Value → Line
+line g s = record { gives = g; says = s }
+
+abbrev pub ofDuration : duration.Answer → Value
+ofDuration (duration.samples n) = number n
+ofDuration (duration.refusal n) = refusal n
+
+abbrev pub ofReply : mode-ac.Answer → Value
+ofReply (mode-ac.reply n spi) = number n
+ofReply (mode-ac.refusal n) = refusal n
+
+abbrev pub durations : List Line
+durations =
+    line (ofDuration (durationOf four 0 124)) (number 0) ∷
+    line (ofDuration (durationOf four 0 125)) (number 1) ∷
+    line (ofDuration (durationOf four 562949953 421312124)) (number (2 ^ 52)) ∷
+    line (ofDuration (durationOf four 562949953 421312125)) (refusal 1) ∷
+    []
+
+abbrev pub lengths : List Line
+lengths =
+    line (number (requiredSamples four 0)) (number 0) ∷
+    line (number (requiredSamples four 43)) (number 218) ∷
+    line (number (requiredSamples four 52)) (number 258) ∷
+    line (number (requiredSamples four 128)) (number 596) ∷
+    line (number (requiredSamples four 240)) (number 1094) ∷
+    line (number (modeSNumSamples four true)) (number 960) ∷
+    line (number (modeSNumSamples four false)) (number 512) ∷
+    line (number (modeACNumSamples four false)) (number 166) ∷
+    line (number (modeACNumSamples four true)) (number 201) ∷
+    []
+
+abbrev pub replies : List Line
+replies =
+    line (ofReply (fromDigits 7 0 0 0 false)) (number 3584) ∷
+    line (places (modeACPlaces 3584 false)) (places (0 ∷ 6 ∷ 12 ∷ 18 ∷ 42 ∷ [])) ∷
+    line (ofReply (fromData 4095 false)) (number 4095) ∷
+    line (ofReply (fromData 4096 false)) (refusal 10) ∷
+    []
+
+-- the lines, of which every one holds
+abbrev pub gives : List Line → List Value
+gives [] = []
+gives (l ∷ ls) = l .gives ∷ gives ls
+
+abbrev pub says : List Line → List Value
+says [] = []
+says (l ∷ ls) = l .says ∷ says ls

@@ -1,0 +1,4 @@
+pub mod Below
+pub mod DataOfDigits
+pub mod RisingPlaces
+pub mod Shifts

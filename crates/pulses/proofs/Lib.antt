@@ -1,0 +1,5 @@
+pub mod Marked
+pub mod ModeSTurns
+pub mod ModeACTurns
+pub mod ModeSPlaceByPlace
+pub mod ModeACPlaceByPlace
