@@ -1,0 +1,4 @@
+pub mod Halves
+pub mod Decided
+pub mod Numbers
+pub mod RoundTrip

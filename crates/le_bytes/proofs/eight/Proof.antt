@@ -1,0 +1,27 @@
+-- `eight` meets its contract. Two numbers of four bytes are the halves of one. Assumes nothing.
+use Rattle.le_bytes.proofs.Halves.{le-eight}
+use borrow.Author.Needs.{needs}
+use Rattle.le_bytes.proofs.eight.Statement.{statement}
+use Rattle.le_bytes.proofs.eight.Tie as tie
+
+four-requires : tie.Need-four-requires
+four-requires c κs = search needs
+
+add-four : tie.Need-add-four
+add-four c = search needs
+
+four-requires-2 : tie.Need-four-requires-2
+four-requires-2 c κs = search needs
+
+mul-result : tie.Need-mul-result
+mul-result c = search needs
+
+add-result : tie.Need-add-result
+add-result c = search needs
+
+returns : tie.Need-returns
+returns c = cc (le-eight (c .before .before .before .args .s .now) (c .before .before .before .args .at) (c .before .before .before .pre))
+
+pub eight-spec : {M : Type 1} → statement M
+eight-spec =
+    tie.close (tie.spec four-requires add-four four-requires-2 mul-result add-result returns)

@@ -1,0 +1,2 @@
+pub mod LeBytes
+pub mod Reads

@@ -1,0 +1,111 @@
+// Little-endian floats at a place in a byte slice, read and written by their IEEE 754 patterns. Assumes nothing.
+ghost use mathlib.Core.Path.{_≡_};
+ghost use lib.Ieee.{binary32, binary64, ofBits, toBits};
+ghost use Rattle.le_bytes.specs.LeBytes.{inside, numberAt, put};
+ghost use Rattle.le_floats.specs.FloatReads.{floatOf, readF32, readF64};
+use le_bytes::ReadU32;
+use le_bytes::ReadU64;
+
+// What a read at a place finds: the value, or that its bytes are a NaN's, or that they run past the end.
+pub enum ReadF32 {
+    Value(f32),
+    Nan,
+    Past,
+}
+
+pub enum ReadF64 {
+    Value(f64),
+    Nan,
+    Past,
+}
+
+// The float of a pattern, or that the pattern is a NaN's.
+fn f32_read(n: u32) -> ReadF32
+    ensures { λ r. ⌜ r ≡ floatOf binary32 ReadF32.Value ReadF32.Nan n ⌝ }
+{
+    if 0x7f80_0000 < n % 0x8000_0000 {
+        return ReadF32::Nan;
+    }
+    ReadF32::Value(f32::from_bits(n))
+}
+
+fn f64_read(n: u64) -> ReadF64
+    ensures { λ r. ⌜ r ≡ floatOf binary64 ReadF64.Value ReadF64.Nan n ⌝ }
+{
+    if 0x7ff0_0000_0000_0000 < n % 0x8000_0000_0000_0000 {
+        return ReadF64::Nan;
+    }
+    ReadF64::Value(f64::from_bits(n))
+}
+
+// The float at a place, or that it is a NaN or past the end.
+pub fn le_f32(s: &[u8], at: usize) -> ReadF32
+    ensures { λ r. ⌜ r ≡ readF32 (now (s .entry)) at ⌝ }
+{
+    match le_bytes::le_u32(s, at) {
+        ReadU32::Value(n) => f32_read(n),
+        ReadU32::Past => ReadF32::Past,
+    }
+}
+
+pub fn le_f64(s: &[u8], at: usize) -> ReadF64
+    ensures { λ r. ⌜ r ≡ readF64 (now (s .entry)) at ⌝ }
+{
+    match le_bytes::le_u64(s, at) {
+        ReadU64::Value(n) => f64_read(n),
+        ReadU64::Past => ReadF64::Past,
+    }
+}
+
+// The float at a place: a NaN where the bytes are one's, and 0.0 where they run past the end.
+pub fn f32_at(s: &[u8], at: usize) -> f32
+    ensures { λ r. ⌜ r ≡ ofBits binary32 (numberAt 4 (now (s .entry)) at) ⌝ }
+{
+    match le_f32(s, at) {
+        ReadF32::Value(x) => x,
+        ReadF32::Nan => 0.0 / 0.0,
+        ReadF32::Past => 0.0,
+    }
+}
+
+pub fn f64_at(s: &[u8], at: usize) -> f64
+    ensures { λ r. ⌜ r ≡ ofBits binary64 (numberAt 8 (now (s .entry)) at) ⌝ }
+{
+    match le_f64(s, at) {
+        ReadF64::Value(x) => x,
+        ReadF64::Nan => 0.0 / 0.0,
+        ReadF64::Past => 0.0,
+    }
+}
+
+// The pattern of a float; of a NaN, that of the quiet one with no payload.
+fn bits_of_f32(x: f32) -> u32
+    ensures { λ r. ⌜ r ≡ toBits binary32 x ⌝ }
+{
+    if x != x {
+        return 0x7fc0_0000;
+    }
+    f32::to_bits(x)
+}
+
+fn bits_of_f64(x: f64) -> u64
+    ensures { λ r. ⌜ r ≡ toBits binary64 x ⌝ }
+{
+    if x != x {
+        return 0x7ff8_0000_0000_0000;
+    }
+    f64::to_bits(x)
+}
+
+// A float written at a place. False where its bytes would run past the end: then nothing is written.
+pub fn put_f32(d: &mut [u8], at: usize, x: f32) -> bool
+    ensures { λ r. ⌜ (r ≡ inside 4 (now (d .entry)) at) × (now (d .exit) ≡ put 4 (now (d .entry)) at (toBits binary32 x)) ⌝ }
+{
+    le_bytes::put_u32(d, at, bits_of_f32(x))
+}
+
+pub fn put_f64(d: &mut [u8], at: usize, x: f64) -> bool
+    ensures { λ r. ⌜ (r ≡ inside 8 (now (d .entry)) at) × (now (d .exit) ≡ put 8 (now (d .entry)) at (toBits binary64 x)) ⌝ }
+{
+    le_bytes::put_u64(d, at, bits_of_f64(x))
+}
