@@ -1,0 +1,64 @@
+-- Document 01's three distributions as the settings ask for them, a kind byte and two numbers each, and which are accepted. Turned away is document 01's refusal 4, with the distribution's number: 0 for the carrier offset, 1 for the phase, 2 for the clock error. Definitions only.
+use Prim.Native.Nat.{ℕ, zero, suc}
+use mathlib.Core.Bool.{Bool, _&&_, cond}
+use lib.IntN.{pos}
+use lib.Ieee.{Float, binary64, ofBits, ofInt, le}
+use lib.Ieee.Scale.{finite}
+use Rattle.constants.specs.Rate.{largestOffset}
+use Rattle.float_bits.specs.Range.{within}
+use Rattle.math.specs.Phase.{phaseWrap}
+use Rattle.distributions.specs.declared.Asked.{Asked}
+use Rattle.distributions.specs.declared.CarrierOffset as Offset
+use Rattle.distributions.specs.declared.CarrierPhase as Phase
+use Rattle.distributions.specs.declared.ClockError as Clock
+use Rattle.distributions.specs.declared.OffsetAnswer as OffsetAnswer
+use Rattle.distributions.specs.declared.PhaseAnswer as PhaseAnswer
+use Rattle.distributions.specs.declared.ClockAnswer as ClockAnswer
+
+-- x is from 0 to a limit; -0.0 is not negative, and a NaN is in no range
+unfoldable pub upTo : Float → Float → Bool
+upTo x limit = le (ofBits binary64 0) x && le x limit
+
+unfoldable pub finiteNotNegative : Float → Bool
+finiteNotNegative x = le (ofBits binary64 0) x && finite x
+
+-- 4,000,000 at 4 samples per pulse
+unfoldable pub offsetLimit : ℕ → Float
+offsetLimit sps = ofInt binary64 (pos (largestOffset sps))
+
+-- the `f64` nearest to 0.1
+unfoldable pub tenth : Float
+tenth = ofBits binary64 0x3fb9_9999_9999_999a
+
+-- "max 0 to 4,000,000, sigma finite and not negative"
+unfoldable pub clampedNormal : ℕ → Float → Float → OffsetAnswer.OffsetAnswer
+clampedNormal sps sigma max =
+    cond (finiteNotNegative sigma && upTo max (offsetLimit sps)) (OffsetAnswer.the-variants.Accepted (Offset.the-variants.ClampedNormal sigma max))
+    OffsetAnswer.the-variants.Refused
+
+-- what kind 0 gives, what kind 1 gives, and what an unknown kind gives
+unfoldable pub byKind : {X : Type 0} → ℕ → X → X → X → X
+byKind zero a b other = a
+byKind (suc zero) a b other = b
+byKind (suc (suc k)) a b other = other
+
+-- "the carrier offset is constant at a value, or normal with sigma and max; kind 0 or 1, the value at most 4,000,000 in size"
+unfoldable pub carrierOffset : ℕ → Asked → OffsetAnswer.OffsetAnswer
+carrierOffset sps d =
+    byKind (d .kind) (cond (within (d .first) (offsetLimit sps)) (OffsetAnswer.the-variants.Accepted (Offset.the-variants.Constant (d .first))) OffsetAnswer.the-variants.Refused)
+    (clampedNormal sps (d .first) (d .second))
+    OffsetAnswer.the-variants.Refused
+
+-- "Phase: 0 constant at a finite value, 1 uniform." A constant phase is kept wrapped, as the Rust does.
+unfoldable pub carrierPhase : Asked → PhaseAnswer.PhaseAnswer
+carrierPhase d =
+    byKind (d .kind) (cond (finite (d .first)) (PhaseAnswer.the-variants.Accepted (Phase.the-variants.Constant (phaseWrap (d .first)))) PhaseAnswer.the-variants.Refused)
+    (PhaseAnswer.the-variants.Accepted Phase.the-variants.Uniform)
+    PhaseAnswer.the-variants.Refused
+
+-- "Clock error: 0 constant within 0.1 in size, 1 uniform with a max of 0 to 0.1."
+unfoldable pub clockError : Asked → ClockAnswer.ClockAnswer
+clockError d =
+    byKind (d .kind) (cond (within (d .first) tenth) (ClockAnswer.the-variants.Accepted (Clock.the-variants.Constant (d .first))) ClockAnswer.the-variants.Refused)
+    (cond (upTo (d .first) tenth) (ClockAnswer.the-variants.Accepted (Clock.the-variants.Uniform (d .first))) ClockAnswer.the-variants.Refused)
+    ClockAnswer.the-variants.Refused

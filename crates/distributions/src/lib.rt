@@ -1,0 +1,210 @@
+// Distributions of a message's parameters, after distributions.rs: carrier offset, carrier phase and symbol clock error. What each asks of its numbers, and what a draw becomes. Assumes nothing.
+ghost use mathlib.Core.Path.{_≡_};
+ghost use Rattle.constants.specs.Rate.{four};
+ghost use Rattle.distributions.specs.Asked.{upTo, finiteNotNegative, carrierOffset, clampedNormal, carrierPhase, clockError};
+ghost use Rattle.distributions.specs.Drawn.{clamped, offsetOf, phaseOf, errorOf, offsetDrawFits, phaseDrawFits, clockDrawFits};
+
+pub enum CarrierOffset {
+    Constant(f64),
+    ClampedNormal(f64, f64),
+}
+
+pub enum CarrierPhase {
+    Constant(f64),
+    Uniform,
+}
+
+pub enum ClockError {
+    Constant(f64),
+    Uniform(f64),
+}
+
+// A distribution as the settings ask for it: its kind and two numbers.
+pub struct Asked {
+    pub kind: u8,
+    pub first: f64,
+    pub second: f64,
+}
+
+pub enum OffsetAnswer {
+    Accepted(CarrierOffset),
+    Refused,
+}
+
+pub enum PhaseAnswer {
+    Accepted(CarrierPhase),
+    Refused,
+}
+
+pub enum ClockAnswer {
+    Accepted(ClockError),
+    Refused,
+}
+
+// x is from 0 to a limit.
+fn up_to(x: f64, limit: f64) -> bool
+    ensures { λ r. ⌜ r ≡ upTo x limit ⌝ }
+{
+    if x >= 0.0 {
+        return x <= limit;
+    }
+    false
+}
+
+// x is finite and not negative.
+fn finite_not_negative(x: f64) -> bool
+    ensures { λ r. ⌜ r ≡ finiteNotNegative x ⌝ }
+{
+    if x >= 0.0 {
+        return float_bits::finite(x);
+    }
+    false
+}
+
+fn clamped_normal(sigma: f64, max: f64) -> OffsetAnswer
+    ensures { λ r. ⌜ r ≡ clampedNormal four sigma max ⌝ }
+{
+    if finite_not_negative(sigma) {
+        if up_to(max, 4000000.0) {
+            return OffsetAnswer::Accepted(CarrierOffset::ClampedNormal(sigma, max));
+        }
+        return OffsetAnswer::Refused;
+    }
+    OffsetAnswer::Refused
+}
+
+// The distribution of the carrier offset, or a refusal.
+pub fn carrier_offset(d: Asked) -> OffsetAnswer
+    ensures { λ r. ⌜ r ≡ carrierOffset four d ⌝ }
+{
+    let kind = d.kind;
+    if kind == 0 {
+        if float_bits::within(d.first, 4000000.0) {
+            return OffsetAnswer::Accepted(CarrierOffset::Constant(d.first));
+        }
+        return OffsetAnswer::Refused;
+    }
+    if kind == 1 {
+        return clamped_normal(d.first, d.second);
+    }
+    OffsetAnswer::Refused
+}
+
+// The distribution of the carrier phase, or a refusal. A constant phase is wrapped.
+pub fn carrier_phase(d: Asked) -> PhaseAnswer
+    ensures { λ r. ⌜ r ≡ carrierPhase d ⌝ }
+{
+    let kind = d.kind;
+    if kind == 0 {
+        if float_bits::finite(d.first) {
+            return PhaseAnswer::Accepted(CarrierPhase::Constant(math::phase_wrap_f64(d.first)));
+        }
+        return PhaseAnswer::Refused;
+    }
+    if kind == 1 {
+        return PhaseAnswer::Accepted(CarrierPhase::Uniform);
+    }
+    PhaseAnswer::Refused
+}
+
+// The distribution of the symbol clock error, or a refusal.
+pub fn clock_error(d: Asked) -> ClockAnswer
+    ensures { λ r. ⌜ r ≡ clockError d ⌝ }
+{
+    let kind = d.kind;
+    if kind == 0 {
+        if float_bits::within(d.first, 0.1) {
+            return ClockAnswer::Accepted(ClockError::Constant(d.first));
+        }
+        return ClockAnswer::Refused;
+    }
+    if kind == 1 {
+        if up_to(d.first, 0.1) {
+            return ClockAnswer::Accepted(ClockError::Uniform(d.first));
+        }
+        return ClockAnswer::Refused;
+    }
+    ClockAnswer::Refused
+}
+
+// Rust's `x.clamp(-max, max)`.
+fn clamp(x: f64, max: f64) -> f64
+    ensures { λ r. ⌜ r ≡ clamped x max ⌝ }
+{
+    if x < -max {
+        return -max;
+    }
+    if x > max {
+        return max;
+    }
+    x
+}
+
+// The carrier offset that a draw gives.
+pub fn offset_of(d: CarrierOffset, draw: f64) -> f64
+    ensures { λ r. ⌜ r ≡ offsetOf d draw ⌝ }
+{
+    match d {
+        CarrierOffset::Constant(x) => x,
+        CarrierOffset::ClampedNormal(sigma, max) => clamp(draw * sigma, max),
+    }
+}
+
+// The carrier phase that a draw gives.
+pub fn phase_of(d: CarrierPhase, draw: f64) -> f64
+    ensures { λ r. ⌜ r ≡ phaseOf d draw ⌝ }
+{
+    match d {
+        CarrierPhase::Constant(x) => x,
+        CarrierPhase::Uniform => draw,
+    }
+}
+
+// The clock error that a draw gives.
+pub fn error_of(d: ClockError, draw: f64) -> f64
+    ensures { λ r. ⌜ r ≡ errorOf d draw ⌝ }
+{
+    match d {
+        ClockError::Constant(x) => x,
+        ClockError::Uniform(_) => draw,
+    }
+}
+
+// Whether a carrier draw is in range.
+pub fn offset_draw_fits(d: CarrierOffset, draw: f64) -> bool
+    ensures { λ r. ⌜ r ≡ offsetDrawFits d draw ⌝ }
+{
+    match d {
+        CarrierOffset::Constant(_) => true,
+        CarrierOffset::ClampedNormal(_, _) => float_bits::finite(draw),
+    }
+}
+
+fn from_minus_pi_below_pi(x: f64) -> bool
+    ensures { λ r. ⌜ r ≡ Rattle.distributions.specs.Drawn.fromMinusPiBelowPi x ⌝ }
+{
+    if x >= -3.141592653589793 {
+        return x < 3.141592653589793;
+    }
+    false
+}
+
+// Whether a phase draw is in range.
+pub fn phase_draw_fits(d: CarrierPhase, draw: f64) -> bool
+    ensures { λ r. ⌜ r ≡ phaseDrawFits d draw ⌝ }
+{
+    match d {
+        CarrierPhase::Constant(_) => true,
+        CarrierPhase::Uniform => from_minus_pi_below_pi(draw),
+    }
+}
+
+// Whether a clock draw is in range.
+pub fn clock_draw_fits(d: ClockError, draw: f64) -> bool
+    ensures { λ r. ⌜ r ≡ clockDrawFits d draw ⌝ }
+{
+    match d {
+        ClockError::Constant(_) => true,
+        ClockError::Uniform(max) => float_bits::within(draw, max),
+    }
+}

@@ -1,0 +1,3 @@
+pub mod Draw
+pub mod Fault
+pub mod Config

@@ -1,0 +1,18 @@
+-- The numbers that the definitions name are those written in the code, computed. Assumes nothing.
+use mathlib.Core.Path.{_≡_, refl}
+use lib.IntN.{pos}
+use lib.Ieee.{binary64, ofBits, ofInt, div}
+use Rattle.constants.specs.Rate.{four, sampleRate}
+use Rattle.message_config.specs.Timing.{one, modeACRatio}
+
+pub one-is : one ≡ ofBits binary64 0x3ff0_0000_0000_0000
+unfolding ofInt ofBits
+one-is = refl
+
+pub modeACRatio-is : modeACRatio ≡ ofBits binary64 0x3ff0_8d3d_cb08_d3dd
+unfolding modeACRatio ofInt ofBits div
+modeACRatio-is = refl
+
+pub sampleRate-is : ofInt binary64 (pos (sampleRate four)) ≡ ofBits binary64 0x415e_8480_0000_0000
+unfolding ofInt ofBits
+sampleRate-is = refl

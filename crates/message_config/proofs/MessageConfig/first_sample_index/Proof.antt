@@ -1,0 +1,22 @@
+-- `message_config::MessageConfig::first_sample_index` meets its contract. Assumes nothing.
+use borrow.Author.Needs.{needs}
+use mathlib.Core.Path.{ap, _∙_}
+use lib.Ieee.{Float}
+use mir.Facts.{toZ-ofZ}
+use Rattle.message_config.specs.Timing.{startOf}
+use Rattle.message_config.specs.Config.{configStart}
+use Rattle.message_config.proofs.MessageConfig.first_sample_index.Statement.{statement}
+use Rattle.message_config.proofs.MessageConfig.first_sample_index.Tie as tie
+
+group-delay-requires : tie.Need-group-delay-requires
+group-delay-requires c κs = search needs
+
+start-requires : tie.Need-start-requires
+start-requires c κs = search needs
+
+returns : tie.Need-returns
+unfolding configStart
+returns c = toZ-ofZ (record { sfits = c .start .ok }) ∙ c .start .ensures ∙ simp (c .before .group-delay .ensures)
+
+pub first-sample-index-spec : {M : Type 1} → statement M
+first-sample-index-spec = tie.close (tie.spec group-delay-requires start-requires returns)

@@ -1,0 +1,3 @@
+pub mod Timing
+pub mod Carrier
+pub mod Config

@@ -1,0 +1,42 @@
+-- Document 01's delay, start and filter clock error, and the clock's phase at a reply's first sample, each operation rounded once in the Rust's order. Definitions only.
+use lib.IntN.{ℤ, pos}
+use lib.Ieee.{Float, binary64, ofInt, add, sub, mul, div}
+use Rattle.float_bits.specs.Ceil.{ceilSigned}
+use Rattle.message.specs.declared.ReplyKind.{ReplyKind}
+use Rattle.message.specs.declared.ReplyKind.the-variants.{Short, Long, ModeAc}
+use Rattle.message_config.specs.declared.Delays.{Delays}
+
+abbrev pub one : Float
+one = ofInt binary64 (pos 1)
+
+-- 1500.0/1450.0
+unfoldable pub modeACRatio : Float
+modeACRatio = div binary64 (ofInt binary64 (pos 1500)) (ofInt binary64 (pos 1450))
+
+-- "Delay: `compute_group_delay`; for Mode A/C divided by 1500.0/1450.0"
+unfoldable pub modeACDelay : Float → Float
+modeACDelay d = div binary64 d modeACRatio
+
+unfoldable pub delayOf : Delays → ReplyKind → Float
+delayOf delays Short = delays .«mode_s»
+delayOf delays Long = delays .«mode_s»
+delayOf delays ModeAc = delays .«mode_ac»
+
+-- time - delay / (1 + e)
+unfoldable pub unroundedStart : Float → Float → Float → Float
+unroundedStart time delay e = sub binary64 time (div binary64 delay (add binary64 one e))
+
+-- "Start: ceiling of time - delay / (1 + e), e the clock error, converted as `as i64` does, saturating"
+unfoldable pub startOf : Float → Float → Float → ℤ
+startOf time delay e = ceilSigned 63 (unroundedStart time delay e)
+
+-- "Filter clock error: e for Mode S, 1500.0/1450.0 times (1 + e) minus 1 for Mode A/C"
+unfoldable pub filterClockError : ReplyKind → Float → Float
+filterClockError Short e = e
+filterClockError Long e = e
+filterClockError ModeAc e = sub binary64 (mul binary64 modeACRatio (add binary64 one e)) one
+
+-- how far the first sample lies past the unrounded start, times (1 + the filter's clock error)
+unfoldable pub clockPhase : Float → Float → Float → Float → Float
+clockPhase time delay e filterError =
+    mul binary64 (sub binary64 (ofInt binary64 (startOf time delay e)) (unroundedStart time delay e)) (add binary64 one filterError)

@@ -1,0 +1,28 @@
+-- Document 01's table of refusals: what is returned for each cause, a number and its values. Definitions only.
+use Prim.Native.Nat.{ℕ}
+use mathlib.Core.List.{List, [], _∷_}
+use Rattle.refusals.specs.declared.Refusal.{Refusal}
+use Rattle.refusals.specs.declared.Refusal.the-variants.{Duration, Rate, Total, Distribution, Taps, Prototype, Draw, Noise, Lent}
+
+unfoldable pub numberOf : Refusal → ℕ
+numberOf Duration = 1
+numberOf (Rate rate) = 2
+numberOf Total = 3
+numberOf (Distribution distribution) = 4
+numberOf Taps = 5
+numberOf Prototype = 6
+numberOf (Draw draw field) = 7
+numberOf (Noise place) = 8
+numberOf Lent = 9
+
+-- what is returned beside the number: the rate, 0 to 6; the distribution, 0 to 2; the draw and the field; the place
+unfoldable pub valuesOf : Refusal → List ℕ
+valuesOf Duration = []
+valuesOf (Rate rate) = rate ∷ []
+valuesOf Total = []
+valuesOf (Distribution distribution) = distribution ∷ []
+valuesOf Taps = []
+valuesOf Prototype = []
+valuesOf (Draw draw field) = draw ∷ field ∷ []
+valuesOf (Noise place) = place ∷ []
+valuesOf Lent = []

@@ -1,0 +1,41 @@
+// The refusals of opening a run and of run calls. specs/ gives document 01's number and values for each. Assumes nothing.
+ghost use mathlib.Core.Path.{_≡_};
+ghost use Rattle.refusals.specs.Number.{numberOf};
+
+pub enum Refusal {
+    // Nanoseconds out of range, or too long a duration.
+    Duration,
+    // The first rate that is negative or not finite.
+    Rate(u64),
+    // The rates' total is 0 or not finite.
+    Total,
+    // The first distribution of an unknown kind, or with a parameter out of range.
+    Distribution(u64),
+    // A filter list.
+    Taps,
+    // A prototype.
+    Prototype,
+    // The first draw at fault, and its first field at fault.
+    Draw(u64, u64),
+    // The place of the first noise value at fault.
+    Noise(u64),
+    // The length of something that was lent.
+    Lent,
+}
+
+// Document 01's number.
+pub fn number(r: Refusal) -> u64
+    ensures { λ n. ⌜ n ≡ numberOf r ⌝ }
+{
+    match r {
+        Refusal::Duration => 1,
+        Refusal::Rate(_) => 2,
+        Refusal::Total => 3,
+        Refusal::Distribution(_) => 4,
+        Refusal::Taps => 5,
+        Refusal::Prototype => 6,
+        Refusal::Draw(_, _) => 7,
+        Refusal::Noise(_) => 8,
+        Refusal::Lent => 9,
+    }
+}

@@ -1,0 +1,3 @@
+pub mod ReplyPulses
+pub mod Samples
+pub mod Added

@@ -1,0 +1,31 @@
+-- The pulses of a reply by its kind: `message_to_pulses` of the Rust. Definitions only.
+use Prim.Native.Nat.{ℕ, _+_, _*_, _/_, _%_}
+use mathlib.Core.Bool.{Bool, true, false}
+use mathlib.Core.List.{List}
+use lib.Dec.{eqb}
+use lib.ListN.{getD, take}
+use Rattle.message.specs.declared.Reply.{Reply}
+use Rattle.message.specs.declared.ReplyKind.{ReplyKind}
+use Rattle.message.specs.declared.ReplyKind.the-variants.{Short, Long, ModeAc}
+use Rattle.pulses.specs.declared.Pulses.{Pulses}
+use Rattle.pulses.specs.ModeS.{modeSPulses}
+use Rattle.pulses.specs.ModeAC.{modeACPulses}
+
+-- "Mode A/C is 2 bytes, low first, SPI as bit 12"
+unfoldable pub dataOf : List ℕ → ℕ
+dataOf bytes = getD bytes 0 0 + getD bytes 1 0 % 16 * 256
+
+unfoldable pub spiOf : List ℕ → Bool
+spiOf bytes = eqb (getD bytes 1 0 / 16 % 2) 1
+
+abbrev pub pulsesOfKind : ReplyKind → List ℕ → Pulses
+pulsesOfKind Short bytes = modeSPulses bytes false
+pulsesOfKind Long bytes = modeSPulses bytes true
+pulsesOfKind ModeAc bytes = modeACPulses (dataOf bytes) (spiOf bytes)
+
+unfoldable pub pulsesOf : Reply → Pulses
+pulsesOf r = pulsesOfKind (r .kind) (r .bytes)
+
+-- the places that a reply takes, and whether a pulse stands at each
+unfoldable pub placesOf : Reply → List Bool
+placesOf r = take (pulsesOf r .len) (pulsesOf r .on)

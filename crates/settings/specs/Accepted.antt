@@ -1,0 +1,68 @@
+-- Document 01's refusals 1 to 4 of settings, in that order, or what is accepted: the run's samples and its distributions. Definitions only.
+use Prim.Native.Nat.{ℕ, zero, suc}
+use mathlib.Core.Bool.{Bool, true, false, not, _&&_, cond}
+use mathlib.Core.List.{List, [], _∷_}
+use lib.Ieee.{Float, binary64, ofBits, add, lt}
+use lib.Ieee.Scale.{finite}
+use Rattle.distributions.specs.Asked.{finiteNotNegative, carrierOffset, carrierPhase, clockError}
+use Rattle.distributions.specs.declared.CarrierOffset.{CarrierOffset}
+use Rattle.distributions.specs.declared.CarrierPhase.{CarrierPhase}
+use Rattle.distributions.specs.declared.ClockError.{ClockError}
+use Rattle.distributions.specs.declared.OffsetAnswer as OffsetAnswer
+use Rattle.distributions.specs.declared.PhaseAnswer as PhaseAnswer
+use Rattle.distributions.specs.declared.ClockAnswer as ClockAnswer
+use Rattle.duration.specs.Duration.{Answer, samples, refusal, durationOf}
+use Rattle.refusals.specs.declared.Refusal as Refusal
+use Rattle.settings.specs.declared.Settings.{Settings}
+use Rattle.settings.specs.declared.MessagesPerSecond.{MessagesPerSecond}
+use Rattle.settings.specs.declared.Distributions.{Distributions}
+use Rattle.settings.specs.declared.Checked as Checked
+use Rattle.settings.specs.Settings.{ratesOf}
+
+-- the number of the first rate that is negative or not finite, counted from k, or what comes where there is none
+unfoldable pub firstBadRate : {X : Type 0} → ℕ → List Float → (ℕ → X) → X → X
+firstBadRate k [] bad none = none
+firstBadRate k (r ∷ rs) bad none = cond (finiteNotNegative r) (firstBadRate (suc k) rs bad none) (bad k)
+
+-- the rates' total, summed in order as the Rust does: from the first on, with no 0.0 before it
+unfoldable pub sumFrom : Float → List Float → Float
+sumFrom t [] = t
+sumFrom t (r ∷ rs) = sumFrom (add binary64 t r) rs
+
+unfoldable pub totalOf : List Float → Float
+totalOf [] = ofBits binary64 0
+totalOf (r ∷ rs) = sumFrom r rs
+
+-- a total that is above 0 and finite
+unfoldable pub totalFits : Float → Bool
+totalFits t = lt (ofBits binary64 0) t && finite t
+
+-- refusal 4, with the first distribution at fault: 0 the carrier offset, 1 the phase, 2 the clock error
+unfoldable pub withClock : ℕ → CarrierOffset → CarrierPhase → ClockAnswer.ClockAnswer → Checked.Checked
+withClock n carrier phase (ClockAnswer.the-variants.Accepted clock) = Checked.the-variants.Accepted n (record { carrier = carrier; phase = phase; clock = clock })
+withClock n carrier phase ClockAnswer.the-variants.Refused = Checked.the-variants.Refused (Refusal.the-variants.Distribution 2)
+
+unfoldable pub withPhase : ℕ → CarrierOffset → PhaseAnswer.PhaseAnswer → ClockAnswer.ClockAnswer → Checked.Checked
+withPhase n carrier (PhaseAnswer.the-variants.Accepted phase) clock = withClock n carrier phase clock
+withPhase n carrier PhaseAnswer.the-variants.Refused clock = Checked.the-variants.Refused (Refusal.the-variants.Distribution 1)
+
+unfoldable pub withOffset : ℕ → OffsetAnswer.OffsetAnswer → PhaseAnswer.PhaseAnswer → ClockAnswer.ClockAnswer → Checked.Checked
+withOffset n (OffsetAnswer.the-variants.Accepted carrier) phase clock = withPhase n carrier phase clock
+withOffset n OffsetAnswer.the-variants.Refused phase clock = Checked.the-variants.Refused (Refusal.the-variants.Distribution 0)
+
+unfoldable pub distributionsOf : ℕ → ℕ → Settings → Checked.Checked
+distributionsOf sps n s = withOffset n (carrierOffset sps (s .carrier)) (carrierPhase (s .phase)) (clockError (s .clock))
+
+-- refusals 2 and 3, then 4
+unfoldable pub ratesThen : ℕ → ℕ → Settings → Checked.Checked
+ratesThen sps n s =
+    firstBadRate 0 (ratesOf (s .rates)) (λ k. Checked.the-variants.Refused (Refusal.the-variants.Rate k))
+    (cond (totalFits (totalOf (ratesOf (s .rates)))) (distributionsOf sps n s) (Checked.the-variants.Refused Refusal.the-variants.Total))
+
+-- refusal 1 first
+unfoldable pub durationThen : ℕ → Settings → Answer → Checked.Checked
+durationThen sps s (samples n) = ratesThen sps n s
+durationThen sps s (refusal k) = Checked.the-variants.Refused Refusal.the-variants.Duration
+
+unfoldable pub acceptedOf : ℕ → Settings → Checked.Checked
+acceptedOf sps s = durationThen sps s (durationOf sps (s .seconds) (s .nanoseconds))

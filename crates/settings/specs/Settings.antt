@@ -1,0 +1,52 @@
+-- Document 01's settings, read from their 119 bytes: "seconds u64; nanoseconds u32; seven f64 rates in `MessageType::ALL` order; three distributions, each a kind byte and two f64". Definitions only.
+use Prim.Native.Nat.{ℕ, zero, suc, _+_}
+use mathlib.Core.List.{List, [], _∷_}
+use lib.ListN.{getD}
+use lib.Ieee.{Float, binary64, ofBits}
+use Rattle.le_bytes.specs.LeBytes.{leAt}
+use Rattle.distributions.specs.declared.Asked.{Asked}
+use Rattle.settings.specs.declared.MessagesPerSecond.{MessagesPerSecond}
+use Rattle.settings.specs.declared.Settings.{Settings}
+
+unfoldable pub f64At : List ℕ → ℕ → Float
+f64At s at = ofBits binary64 (leAt 8 s at)
+
+unfoldable pub ratesAt : List ℕ → ℕ → MessagesPerSecond
+ratesAt s at = record {
+  «extended_squitter» = f64At s at;
+  «acquisition_squitter» = f64At s (at + 8);
+  «short_ap» = f64At s (at + 16);
+  «all_call_reply» = f64At s (at + 24);
+  «long_ap» = f64At s (at + 32);
+  «military_extended_squitter» = f64At s (at + 40);
+  «mode_ac» = f64At s (at + 48);
+}
+
+unfoldable pub askedAt : List ℕ → ℕ → Asked
+askedAt s at = record { kind = getD s at 0; first = f64At s (at + 1); second = f64At s (at + 9) }
+
+unfoldable pub settingsOf : List ℕ → Settings
+settingsOf s = record {
+  seconds = leAt 8 s 0;
+  nanoseconds = leAt 4 s 8;
+  rates = ratesAt s 12;
+  carrier = askedAt s 68;
+  phase = askedAt s 85;
+  clock = askedAt s 102;
+}
+
+-- the rates in the order of the types
+unfoldable pub ratesOf : MessagesPerSecond → List Float
+ratesOf r =
+    r .«extended_squitter»
+    ∷ r .«acquisition_squitter»
+    ∷ r .«short_ap»
+    ∷ r .«all_call_reply»
+    ∷ r .«long_ap»
+    ∷ r .«military_extended_squitter»
+    ∷ r .«mode_ac»
+    ∷ []
+
+-- the rate of the type with a number; 0.0 for a number that no type has
+unfoldable pub rateOf : MessagesPerSecond → ℕ → Float
+rateOf r n = getD (ratesOf r) n (ofBits binary64 0)

@@ -1,0 +1,45 @@
+// A run's settings: their 119 bytes, and refusals 1 to 4. Each function is equal to a definition of specs/ on every input. Assumes nothing.
+ghost use mathlib.Core.Path.{_≡_};
+ghost use Rattle.constants.specs.Rate.{four};
+ghost use Rattle.settings.specs.Settings.{settingsOf, ratesAt, askedAt, rateOf};
+ghost use Rattle.settings.specs.Accepted.{firstBadRate, totalOf, totalWrong, distributionsOf, acceptedOf};
+use distributions::Asked;
+use distributions::CarrierOffset;
+use distributions::CarrierPhase;
+use distributions::ClockAnswer;
+use distributions::ClockError;
+use distributions::OffsetAnswer;
+use distributions::PhaseAnswer;
+use refusals::Refusal;
+
+// Messages per second for each message type, in the order of the types.
+pub struct MessagesPerSecond {
+    pub extended_squitter: f64,
+    pub acquisition_squitter: f64,
+    pub short_ap: f64,
+    pub all_call_reply: f64,
+    pub long_ap: f64,
+    pub military_extended_squitter: f64,
+    pub mode_ac: f64,
+}
+
+pub struct Settings {
+    pub seconds: u64,
+    pub nanoseconds: u32,
+    pub rates: MessagesPerSecond,
+    pub carrier: Asked,
+    pub phase: Asked,
+    pub clock: Asked,
+}
+
+pub struct Distributions {
+    pub carrier: CarrierOffset,
+    pub phase: CarrierPhase,
+    pub clock: ClockError,
+}
+
+pub enum Checked {
+    // The run's samples, and its distributions.
+    Accepted(u64, Distributions),
+    Refused(Refusal),
+}
