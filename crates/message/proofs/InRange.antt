@@ -8,6 +8,7 @@ use lib.Dec.{T, ltb, eqb, ltb→lt}
 use lib.ListN.{getD}
 use borrow.Author.Tests.{eq-eqb, ne-eqb}
 use Rattle.mode_s.specs.Formats.{extendedFormats, capabilities, controls}
+use Rattle.message.specs.declared.MessageType.{MessageType}
 use Rattle.message.specs.declared.MessageType.the-variants.{ExtendedSquitter, AcquisitionSquitter, ShortAp, AllCallReply, LongAp, ModeAc}
 use Rattle.message.specs.declared.Picks.{Picks}
 use Rattle.message.specs.declared.Field.{Field}
@@ -54,6 +55,25 @@ fits field false rest e = let z : _≡_ {A = ℕ} 0 1 = cc in absurd (omega arit
 pub later-fits : (field : ℕ) (b : Bool) (rest : Field) → checked field b rest ≡ Fine → rest ≡ Fine
 later-fits field true rest e = e
 later-fits field false rest e = let z : _≡_ {A = ℕ} 0 1 = cc in absurd (omega arith)
+
+-- In range, each pick is below the length of its list, or the list uses none: the 0 past the end of a list is never what an entry is.
+module _ (t : MessageType) (p : Picks) where
+  abbrev afterCapability : Field
+  afterCapability =
+      checked 9 (overlayFits t (p .overlay)) (checked 11 (modeAcFits t (p .«data») 4096) (checked 12 (modeAcFits t (p .spi) 2) Fine))
+
+  abbrev afterFormat : Field
+  afterFormat = checked 8 (pickFits (subfields t (formatOf t p)) (p .capability)) afterCapability
+
+  pub format-in-list : fieldFault t p ≡ Fine → T (pickFits (formats t) (p .format))
+  unfolding fieldFault
+  format-in-list e = fits 7 (pickFits (formats t) (p .format)) afterFormat e
+
+  pub capability-in-list : fieldFault t p ≡ Fine → T (pickFits (subfields t (formatOf t p)) (p .capability))
+  unfolding fieldFault
+  capability-in-list e =
+      fits 8 (pickFits (subfields t (formatOf t p)) (p .capability)) afterCapability
+      (later-fits 7 (pickFits (formats t) (p .format)) afterFormat e)
 
 module _ (p : Picks) where
   pub short-ap-format : fieldFault ShortAp p ≡ Fine → p .format < 3
