@@ -1,14 +1,14 @@
 -- `ceil-signed`: the ceiling as an `i64` is `as i64` of the ceiling as a float; and `ceil-value`, `floor-value`: that float is the whole number exactly. Assumes nothing.
 use mathlib.Core.Path.{_≡_, refl, sym, ap, _∙_, subst}
 use Prim.Native.Nat.{ℕ, zero, suc, _+_, _-_, _*_, _/_, _%_, _^_, _≤_, _<_, min, zero-le}
-use native.Mathlib.Nat.{le-trans, le-of-eq, le-of-lt, lt-of-lt-of-le, lt-of-le-of-lt, le-of-suc-le-suc, mul-one, one-mul, zero-mul, zero-div, mul-assoc, mul-le-mul-right, mul-div-cancel, div-lt-iff-lt-mul, div-le-self, div-one, suc-mul, zero-lt-suc, mul-lt-mul-of-pos-right, add-zero}
+use native.Mathlib.Nat.{le-trans, le-of-eq, le-of-lt, lt-of-lt-of-le, lt-of-le-of-lt, le-of-suc-le-suc, mul-one, zero-mul, zero-div, mul-assoc, mul-div-cancel, div-lt-iff-lt-mul, div-le-self, div-one, suc-mul, zero-lt-suc, mul-lt-mul-of-pos-right, add-zero}
 use native.Mathlib.Omega.{arith}
-use mathlib.Core.Bool.{Bool, true, false, not, _&&_, cond, true≢false, false≢true}
+use mathlib.Core.Bool.{Bool, true, false, _&&_, true≢false, false≢true}
 use lib.IntN.{ℤ, pos, negsuc, negℤ}
-use lib.Dec.{T, leb, ltb, eqb, ltb→lt, leb→le}
-use lib.Pow.{pow-add, pow-pos, pow-mono}
+use lib.Dec.{T, leb, ltb, eqb, ltb→lt}
+use lib.Pow.{pow-add, pow-pos}
 use lib.Ieee.{Float, nan, inf, fin, binary64, up, down, round, toSigned, fits}
-use lib.Ieee.Fits.{down-pos, up-pos, and-l, and-r}
+use lib.Ieee.Fits.{down-pos, and-l, and-r}
 use lib.Ieee.Exact.{HasValue, round-exact}
 use lib.Ieee.Back.{round-whole}
 use Rattle.float_bits.specs.Ceil.{ceil, ceilSigned, upward}

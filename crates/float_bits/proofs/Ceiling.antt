@@ -1,29 +1,21 @@
 -- What the branches of `ceil_to_i64` know of x, and that each returns the ceiling. Assumes nothing.
 use mathlib.Core.Path.{_≡_, refl, sym, ap, _∙_, subst}
-use mathlib.Core.Logic.{_⊎_, inl, inr}
-use Prim.Native.Nat.{ℕ, zero, suc, _+_, _-_, _*_, _/_, _%_, _^_, _≤_, _<_, min, zero-le}
-use native.Mathlib.Nat.{le-refl, le-trans, le-of-eq, le-of-lt, lt-of-lt-of-le, lt-of-le-of-lt, not-le-of-lt, mul-one, one-mul, zero-mul, mul-comm, mul-assoc, mul-right-comm, mul-le-mul-right, mul-lt-mul-of-pos-right, lt-of-mul-lt-mul-right, mul-pos, le-div-iff-mul-le, div-lt-iff-lt-mul, zero-lt-suc, div-add-mod', mod-lt, div-one, div-eq-of-lt-le, div-eq-of-lt, suc-mul, div-mul-le-self, zero-div, zero-add, le-of-mul-le-mul-right, le-antisymm, lt-div-mul-add}
+use Prim.Native.Nat.{ℕ, zero, suc, _+_, _-_, _*_, _/_, _%_, _^_, _≤_, _<_, min}
+use native.Mathlib.Nat.{lt-of-not-le, le-trans, le-of-eq, le-of-lt, lt-of-lt-of-le, lt-of-le-of-lt, mul-one, zero-mul, mul-right-comm, lt-of-mul-lt-mul-right, le-div-iff-mul-le, div-lt-iff-lt-mul, div-eq-of-lt-le, div-eq-of-lt, suc-mul, div-mul-le-self, zero-div, zero-add, le-of-mul-le-mul-right, le-antisymm, lt-div-mul-add}
 use native.Mathlib.Omega.{arith}
-use mathlib.Core.Bool.{Bool, true, false, not, _&&_, _||_, cond, true≢false}
+use mathlib.Core.Bool.{Bool, true, false, not, _&&_, true≢false}
 use lib.IntN.{ℤ, pos, negsuc, negℤ}
-use lib.Dec.{T, leb, ltb, eqb, ltb→lt, nltb→le, lt→ltb, eqb→eq, eqb-refl, not-T}
-use lib.Pow.{pow-pos, pow-mono}
-use lib.Ieee.{Float, nan, inf, fin, binary64, up, down, lt, eq, le, ofInt, toSigned, toUnsigned, inFloat, fits, below}
-use lib.Ieee.Fits.{up-pos, down-pos, and-l, and-r}
+use lib.Dec.{T, T-not, leb, ltb, eqb, ltb→lt, nltb→le, lt→ltb}
+use lib.Pow.{pow-pos}
+use lib.Ieee.{Float, nan, inf, fin, binary64, up, down, lt, le, ofInt, toSigned, toUnsigned, fits}
+use lib.Ieee.Fits.{down-pos, and-l, and-r}
 use lib.Ieee.Exact.{HasValue}
-use lib.Ieee.Back.{round-whole}
+use Rattle.rounding.proofs.Order.{le-fin, fin-le}
+use Rattle.float_bits.proofs.Exact.{whole-value}
 use Rattle.float_bits.specs.Ceil.{ceilSigned, upward}
 
 abbrev pub z : Float
 z = fin false 0 (pos 0)
-
-or-l : (a b : Bool) → T a → T (a || b)
-or-l true b t = tt
-or-l false b t = absurd t
-
-or-split : (a b : Bool) → T (a || b) → T a ⊎ T b
-or-split true b t = inl tt
-or-split false b t = inr t
 
 -- ---- upward
 up-zero : (d : ℕ) → 0 < d → upward 0 d ≡ 0
@@ -65,15 +57,11 @@ up-over a d w D lo hi = div-eq-of-lt-le d (le-trans (le-of-eq (next w d)) (le-of
 
 -- ---- what a passed test says of x
 pub pos-above-min : (x : Float) → T (lt z x) → T (le (fin true 1 (pos 63)) x)
-unfolding lt le
-pos-above-min nan t = absurd t
-pos-above-min (inf true) t = absurd t
-pos-above-min (inf false) t = tt
-pos-above-min (fin true m e) t = absurd t
-pos-above-min (fin false m e) t = or-l (ltb 0 (1 * 2 ^ 63 * down e + m * up e * 1)) (eq (fin true 1 (pos 63)) (fin false m e)) (lt→ltb 0 (1 * 2 ^ 63 * down e + m * up e * 1) (more (down e) (m * up e * 1) (down-pos e)))
-  where
-    more : (d n : ℕ) → 0 < d → 0 < 1 * 2 ^ 63 * d + n
-    more d n h = omega arith
+pos-above-min nan t = absurd (unfold lt in t)
+pos-above-min (inf true) t = absurd (unfold lt in t)
+pos-above-min (inf false) t = unfold le in tt
+pos-above-min (fin true m e) t = absurd (unfold lt in t)
+pos-above-min (fin false m e) t = fin-le true 1 (pos 63) false m e tt
 
 pub pos-above-one : (x : Float) → T (lt z x) → T (lt (fin true 1 (pos 0)) x)
 unfolding lt
@@ -86,25 +74,22 @@ pos-above-one (fin false m e) t = lt→ltb 0 (1 * 1 * down e + m * up e * 1) (mo
     more : (d n : ℕ) → 0 < d → 0 < 1 * 1 * d + n
     more d n h = omega arith
 
-zero-of : (n : ℕ) (d : ℕ) → T (ltb (n * 1) (0 * 1 * d) || (eqb (n * 1) (0 * 1 * d) && true)) → n ≡ 0
-zero-of n d t = elim (or-split (ltb (n * 1) (0 * 1 * d)) (eqb (n * 1) (0 * 1 * d) && true) t) [
-  | inl u ↦ absurd (none (n * 1) (0 * 1 * d) (zero-mul d) (ltb→lt (n * 1) (0 * 1 * d) u))
-  | inr u ↦ sym (mul-one n) ∙ eqb→eq (n * 1) (0 * 1 * d) (and-l (eqb (n * 1) (0 * 1 * d)) true u) ∙ zero-mul d
-]
+zero-of : (m : ℕ) (e : ℤ) → T (le (fin false m e) z) → m * up e ≡ 0
+zero-of m e t = none (m * up e) (0 * 1 * down e) (zero-mul (down e)) (le-fin false m e false 0 (pos 0) t)
   where
-    none : (a b : ℕ) → b ≡ 0 → a < b → ⊥
+    none : (a b : ℕ) → b ≡ 0 → a * 1 ≤ b → a ≡ 0
     none a b e h = omega arith
 
 pub nonpos-below-max : (x : Float) → T (le x z) → T (lt x (fin false 1 (pos 63)))
-unfolding lt le eq
-nonpos-below-max nan t = absurd t
+unfolding lt
+nonpos-below-max nan t = absurd (unfold le in t)
 nonpos-below-max (inf true) t = tt
-nonpos-below-max (inf false) t = absurd t
+nonpos-below-max (inf false) t = absurd (unfold le in t)
 nonpos-below-max (fin true m e) t = lt→ltb 0 (m * up e * 1 + 1 * 2 ^ 63 * down e) (more (down e) (m * up e * 1) (down-pos e))
   where
     more : (d n : ℕ) → 0 < d → 0 < n + 1 * 2 ^ 63 * d
     more d n h = omega arith
-nonpos-below-max (fin false m e) t = lt→ltb (m * up e * 1) (1 * 2 ^ 63 * down e) (more (m * up e) (down e) (zero-of (m * up e) (down e) t) (down-pos e))
+nonpos-below-max (fin false m e) t = lt→ltb (m * up e * 1) (1 * 2 ^ 63 * down e) (more (m * up e) (down e) (zero-of m e t) (down-pos e))
   where
     more : (n d : ℕ) → n ≡ 0 → 0 < d → n * 1 < 1 * 2 ^ 63 * d
     more n d e h = omega arith
@@ -161,80 +146,37 @@ huge (fin false m e) p n = ap pos (capped (upward (m * up e) (down e)) (le-div-i
     capped q h = omega arith
 
 pub nonpos : (x : Float) → T (le x z) → toSigned 63 x ≡ ceilSigned 63 x
-unfolding lt le eq toSigned ceilSigned
-nonpos nan t = absurd t
+unfolding toSigned ceilSigned
+nonpos nan t = absurd (unfold le in t)
 nonpos (inf true) t = refl
-nonpos (inf false) t = absurd t
+nonpos (inf false) t = absurd (unfold le in t)
 nonpos (fin true m e) t = refl
 nonpos (fin false m e) t =
-    let N : m * up e ≡ 0 = zero-of (m * up e) (down e) t in
+    let N : m * up e ≡ 0 = zero-of m e t in
     ap (λ (q : ℕ). pos (min q (2 ^ 63 - 1))) (ap (λ (x : ℕ). x / down e) N ∙ zero-div (down e) ∙ sym (ap (λ (x : ℕ). upward x (down e)) N ∙ up-zero (down e) (down-pos e)))
 
 pub low-end : (x : Float) → T (le x z) → T (not (le (fin true 1 (pos 63)) x)) → negsuc 9223372036854775807 ≡ ceilSigned 63 x
-unfolding lt le eq ceilSigned
-low-end nan t n = absurd t
+unfolding ceilSigned
+low-end nan t n = absurd (unfold le in t)
 low-end (inf true) t n = refl
-low-end (inf false) t n = absurd t
-low-end (fin false m e) t n = absurd (T-not' (ltb 0 (1 * 2 ^ 63 * down e + m * up e * 1)) (eq (fin true 1 (pos 63)) (fin false m e)) n (lt→ltb 0 (1 * 2 ^ 63 * down e + m * up e * 1) (more (down e) (m * up e * 1) (down-pos e))))
-  where
-    more : (d n : ℕ) → 0 < d → 0 < 1 * 2 ^ 63 * d + n
-    more d n h = omega arith
-
-    T-not' : (a b : Bool) → T (not (a || b)) → T a → ⊥
-    T-not' true b n t = n
-    T-not' false b n t = t
+low-end (inf false) t n = absurd (unfold le in t)
+low-end (fin false m e) t n = absurd (T-not (le (fin true 1 (pos 63)) (fin false m e)) n (fin-le true 1 (pos 63) false m e tt))
 low-end (fin true m e) t n =
-    ap (λ (q : ℕ). negℤ (pos q)) (capped (m * up e / down e) (le-div-iff-mul-le (down-pos e) .1 (more (m * up e) (down e) (nltb→le (m * up e * 1) (1 * 2 ^ 63 * down e) (first (ltb (m * up e * 1) (1 * 2 ^ 63 * down e)) (eq (fin true 1 (pos 63)) (fin true m e)) n)))))
+    ap (λ (q : ℕ). negℤ (pos q)) (capped (m * up e / down e) (le-div-iff-mul-le (down-pos e) .1 (more (m * up e) (down e) (lt-of-not-le (λ (g : m * up e * 1 ≤ 1 * 2 ^ 63 * down e). T-not (le (fin true 1 (pos 63)) (fin true m e)) n (fin-le true 1 (pos 63) true m e g))))))
   where
-    first : (a b : Bool) → T (not (a || b)) → T (not a)
-    first true b n = n
-    first false b n = tt
-
-    more : (a d : ℕ) → 1 * 2 ^ 63 * d ≤ a * 1 → 2 ^ 63 * d ≤ a
+    more : (a d : ℕ) → 1 * 2 ^ 63 * d < a * 1 → 2 ^ 63 * d ≤ a
     more a d h = omega arith
 
     capped : (q : ℕ) → 2 ^ 63 ≤ q → 2 ^ 63 ≡ min q (2 ^ 63)
     capped q h = omega arith
 
 pub no-number : (x : Float) → T (not (lt z x)) → T (not (le x z)) → pos 0 ≡ ceilSigned 63 x
-unfolding lt le eq ceilSigned
+unfolding ceilSigned
 no-number nan p n = refl
-no-number (inf true) p n = absurd n
-no-number (inf false) p n = absurd p
-no-number (fin false m e) p n = absurd (clash (m * up e * 1) (0 * 1 * down e) (zero-mul (down e)) (nltb→le (0 * 1 * down e) (m * up e * 1) p) n)
-  where
-    is-zero : (a b : ℕ) → b ≡ 0 → a ≤ b → a ≡ b
-    is-zero a b e h = omega arith
-
-    out : (x y : Bool) → T y → T (not (x || (y && true))) → ⊥
-    out true y t n = n
-    out false true t n = n
-    out false false t n = t
-
-    clash : (a b : ℕ) → b ≡ 0 → a ≤ b → T (not (ltb a b || (eqb a b && true))) → ⊥
-    clash a b e h n = out (ltb a b) (eqb a b) (subst (λ (w : ℕ). T (eqb a w)) (is-zero a b e h) (eqb-refl a)) n
-no-number (fin true m e) p n = absurd (clash (m * up e * 1) (0 * 1 * down e) (zero-mul (down e)) n)
-  where
-    is-zero : (a b : ℕ) → a + b ≤ 0 → a ≡ 0
-    is-zero a b h = omega arith
-
-    first : (a b : Bool) → T (not (a || b)) → T (not a)
-    first true b n = n
-    first false b n = tt
-
-    out : (x y : Bool) → T x → T y → T (not (x && y)) → ⊥
-    out true true t u n = n
-    out true false t u n = u
-    out false y t u n = t
-
-    second : (a b : Bool) → T (not (a || b)) → T (not b)
-    second true b n = absurd n
-    second false b n = n
-
-    clash : (a b : ℕ) → b ≡ 0 → T (not (ltb 0 (a + b) || (eqb a b && eqb a 0))) → ⊥
-    clash a b e n =
-        let A : a ≡ 0 = is-zero a b (nltb→le 0 (a + b) (first (ltb 0 (a + b)) (eqb a b && eqb a 0) n)) in
-        out (eqb a b) (eqb a 0) (subst (λ (w : ℕ). T (eqb a w)) (A ∙ sym e) (eqb-refl a)) (subst (λ (w : ℕ). T (eqb a w)) A (eqb-refl a)) (second (ltb 0 (a + b)) (eqb a b && eqb a 0) n)
+no-number (inf true) p n = absurd (unfold le in n)
+no-number (inf false) p n = absurd (unfold lt in p)
+no-number (fin false m e) p n = absurd (T-not (le (fin false m e) z) n (fin-le false m e false 0 (pos 0) (nltb→le (0 * 1 * down e) (m * up e * 1) (unfold lt in p))))
+no-number (fin true m e) p n = absurd (T-not (le (fin true m e) z) n (fin-le true m e false 0 (pos 0) tt))
 
 -- ---- between 0 and 2 ^ 53: the whole part t, and whether x is above it
 pub whole-part : (x : Float) → T (lt z x) → T (lt x (fin false 1 (pos 53))) → toUnsigned 64 x < 2 ^ 53
@@ -265,10 +207,6 @@ float-lt (fin false n d) t m e v = (
     same : t * down e * down d ≡ n * up d * down e
     same = mul-right-comm t (down e) (down d) ∙ ap (λ (x : ℕ). x * down e) (sym (v .1) ∙ mul-one (n * up d))
 
-of-whole : (t : ℕ) → t < 2 ^ 53 → HasValue (ofInt binary64 (pos t)) false t 1
-unfolding ofInt
-of-whole t h = round-whole binary64 false t (le-of-lt h)
-
 pub small : (x : Float) (t : ℕ) → t ≡ toUnsigned 64 x → T (lt z x) → T (lt x (fin false 1 (pos 53)))
     → (T (lt (ofInt binary64 (pos t)) x) → pos (t + 1) ≡ ceilSigned 63 x) × (T (not (lt (ofInt binary64 (pos t)) x)) → pos t ≡ ceilSigned 63 x)
 unfolding toUnsigned ceilSigned
@@ -279,7 +217,7 @@ small (fin true m e) t E p h = absurd (unfold lt in p)
 small (fin false m e) t E p h =
     let L : t < 2 ^ 53 = subst (λ (y : ℕ). y < 2 ^ 53) (sym E) (whole-part (fin false m e) p h) in
     let w : t ≡ m * up e / down e = exact t (m * up e / down e) E L in
-    let v = float-lt (ofInt binary64 (pos t)) t m e (of-whole t L) in
+    let v = float-lt (ofInt binary64 (pos t)) t m e (whole-value t (le-of-lt L)) in
     let lo : t * down e ≤ m * up e = subst (λ (y : ℕ). y * down e ≤ m * up e) (sym w) (div-mul-le-self (m * up e) (down e)) in
     let hi : m * up e < t * down e + down e = subst (λ (y : ℕ). m * up e < y * down e + down e) (sym w) (lt-div-mul-add (down-pos e)) in (
       λ (g : T (lt (ofInt binary64 (pos t)) (fin false m e))). ap pos (fit (t + 1) (add1 t L) ∙ ap (λ (y : ℕ). min y (2 ^ 63 - 1)) (sym (up-over (m * up e) (down e) t (down-pos e) (v .0 g) hi))),

@@ -1,4 +1,5 @@
 pub mod Nan
+pub mod Exact
 pub mod Narrowing
 pub mod NarrowOrder
 pub mod Ceiling

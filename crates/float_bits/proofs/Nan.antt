@@ -1,5 +1,5 @@
 -- What the tests for a NaN tell: `x != x` of a value, and a size above the infinity's of a pattern. Assumes nothing.
-use mathlib.Core.Path.{_≡_, refl, sym, ap, _∙_, subst}
+use mathlib.Core.Path.{_≡_, refl, sym, _∙_, subst}
 use Prim.Native.Nat.{ℕ, _*_, _%_, _≤_, _<_}
 use mathlib.Core.Bool.{Bool, true, false, not, true≢false}
 use lib.Dec.{T, ltb, lt→ltb, nltb→le}

@@ -1,17 +1,18 @@
 -- Narrowing keeps the order (`narrow-mono`) and the sign (`narrow-neg`). So a value within a limit that `f32` holds stays within it, finite, and one from 0 to 1 stays there. Assumes nothing.
 use mathlib.Core.Path.{_≡_, refl, sym, ap, _∙_, subst}
 use mathlib.Core.Logic.{_⊎_, inl, inr}
-use Prim.Native.Nat.{ℕ, zero, suc, _+_, _*_, _/_, _%_, _^_, _≤_, _<_}
-use native.Mathlib.Nat.{mul-one, one-mul, zero-mul, mul-pos, eq-zero-or-pos, zero-lt-suc, lt-irrefl}
+use Prim.Native.Nat.{ℕ, _+_, _*_, _/_, _%_, _^_, _≤_, _<_}
+use native.Mathlib.Nat.{lt-of-le-of-lt, lt-of-lt-of-le, le-of-eq, mul-assoc, mul-one, one-mul, zero-lt-suc, zero-mul, mul-pos, eq-zero-or-pos, lt-irrefl}
 use native.Mathlib.Omega.{arith}
 use mathlib.Core.Bool.{Bool, true, false, not}
 use lib.IntN.{ℤ, pos}
-use lib.Dec.{T}
-use lib.Pow.{pow-pos}
-use lib.Ieee.{Float, nan, inf, fin, binary32, binary64, up, down, round, neg, lt, eq, le, ofBits, toBits, fits, isNan}
+use lib.Dec.{T, lt→ltb}
+use lib.Pow.{pow-add, pow-lt, pow-pos}
+use lib.Ieee.{Float, nan, inf, fin, binary32, binary64, up, down, round, neg, le, ofBits, toBits, fits, isNan}
+use lib.Ieee.Back.{whole-unique}
 use lib.Ieee.Bits.{ofBits-toBits, toBits-lt}
 use lib.Ieee.Exact.{HasValue, round-exact}
-use lib.Ieee.Fits.{up-pos, down-pos}
+use lib.Ieee.Fits.{round-fits, down-pos}
 use lib.Ieee.Order.{round-mono}
 use lib.Ieee.Scale.{finite}
 use Rattle.rounding.proofs.Order.{Le, Signed, le-fin, fin-le, le-neg, le-signed, round-signed, round-neg, bits-neg}
@@ -120,12 +121,30 @@ pub narrow-within : (x l : Float) → narrow l ≡ l → T (within x l) → T (w
 unfolding within
 narrow-within x l L h = subst (λ (z : Float). T (le z l)) (sym (abs-narrow x)) (narrow-at-most (abs x) l L h)
 
--- a size of at most 2 stays finite, and a value from 0 to 1 stays there
-pub narrow-two : (x : Float) → T (within x (fin false 1 (pos 1))) → T (finite (narrow x)) × T (within (narrow x) (fin false 1 (pos 1)))
-narrow-two x h =
-    let k = narrow-within x (fin false 1 (pos 1)) (unfold narrow in refl) h in
-    (within-finite (narrow x) false 1 (pos 1) k, k)
+-- `f32` holds the powers of two up to 2 ^ 127
+pub narrow-pow : (k : ℕ) → k ≤ 127 → narrow (fin false 1 (pos k)) ≡ fin false 1 (pos k)
+unfolding narrow
+narrow-pow k h =
+    whole-unique binary32 (round binary32 false (1 * 2 ^ k) 1) (fin false 1 (pos k)) false (2 ^ k) (round-fits binary32 false (1 * 2 ^ k) 1) (held k h)
+    (subst (λ (c : ℕ). HasValue (round binary32 false (1 * 2 ^ k) 1) false c 1) (one-mul (2 ^ k)) (round-exact binary32 false (1 * 2 ^ k) 1 1 (k + 149) (zero-lt-suc 0) (pow-lt (zero-lt-suc 23)) (lt-of-le-of-lt (le-of-eq (one-mul (2 ^ (k + 149)))) (pow-lt (room k h))) (mul-assoc 1 (2 ^ k) (2 ^ 149) ∙ ap (λ (x : ℕ). 1 * x) (sym (pow-add 2 k 149)) ∙ sym (mul-one (1 * 2 ^ (k + 149))))))
+    (refl, ap (λ (x : ℕ). x * 1) (one-mul (2 ^ k)))
+  where
+    room : (k : ℕ) → k ≤ 127 → k + 149 < 277
+    room k h = omega arith
 
+    next : (k : ℕ) → k ≤ 127 → k < 128
+    next k h = omega arith
+
+    held : (k : ℕ) → k ≤ 127 → T (fits binary32 (fin false 1 (pos k)))
+    held k h = unfold fits in lt→ltb (1 * 2 ^ k) (2 ^ 128 * 1) (lt-of-le-of-lt (le-of-eq (one-mul (2 ^ k))) (lt-of-lt-of-le (pow-lt (next k h)) (le-of-eq (sym (mul-one (2 ^ 128))))))
+
+-- so a size of at most such a power stays so, and finite
+pub narrow-within-pow : (x : Float) (k : ℕ) → k ≤ 127 → T (within x (fin false 1 (pos k))) → T (finite (narrow x)) × T (within (narrow x) (fin false 1 (pos k)))
+narrow-within-pow x k K h =
+    let g = narrow-within x (fin false 1 (pos k)) (narrow-pow k K) h in
+    (within-finite (narrow x) false 1 (pos k) g, g)
+
+-- and a value from 0 to 1 stays there
 pub narrow-unit : (x : Float) → T (le (fin false 0 (pos 0)) x) → T (le x (fin false 1 (pos 0))) → T (le (fin false 0 (pos 0)) (narrow x)) × T (le (narrow x) (fin false 1 (pos 0)))
 narrow-unit x lo hi = (narrow-at-least x (fin false 0 (pos 0)) (unfold narrow in refl) lo, narrow-at-most x (fin false 1 (pos 0)) (unfold narrow in refl) hi)
 

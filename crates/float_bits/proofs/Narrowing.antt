@@ -1,16 +1,16 @@
 -- The `f32` pattern of an `f64` pattern n whose sign is clear: n rounded as a whole in the normal range (`in-range`), its digits rounded below it (`subnormal-pattern`), and 0 further below (`zero-pattern`). Assumes nothing.
 use mathlib.Core.Path.{_≡_, refl, sym, ap, _∙_, subst}
 use mathlib.Core.Logic.{_⊎_, inl, inr}
-use Prim.Native.Nat.{ℕ, zero, suc, _+_, _-_, _*_, _/_, _%_, _^_, _≤_, _<_, min, compare, zero-le}
-use native.Mathlib.Nat.{le-refl, le-trans, le-of-eq, le-of-lt, lt-of-lt-of-le, lt-of-le-of-lt, eq-or-lt-of-le, mul-one, mul-comm, mul-assoc, mul-le-mul-right, mul-lt-mul-of-pos-right, mul-pos, le-div-iff-mul-le, div-lt-iff-lt-mul, zero-lt-suc, mod-lt, div-le-self, not-le-of-lt, zero-add, one-mul}
+use Prim.Native.Nat.{ℕ, zero, suc, _+_, _-_, _*_, _/_, _%_, _^_, _≤_, _<_, min, zero-le}
+use native.Mathlib.Nat.{le-trans, le-of-eq, lt-of-lt-of-le, lt-of-le-of-lt, mul-assoc, mul-le-mul-right, mul-lt-mul-of-pos-right, mul-pos, le-div-iff-mul-le, div-lt-iff-lt-mul, zero-lt-suc, mod-lt, zero-add, one-mul}
 use native.Mathlib.Omega.{arith}
 use mathlib.Core.Bool.{Bool, true, false, not, cond}
-use lib.Dec.{T, leb, ltb, eqb, leb→le, nleb→lt, le→leb, eqb→eq, ltb→lt, not-T}
+use lib.Dec.{T, leb, eqb, leb→le, nleb→lt, le→leb, eqb→eq}
 use lib.Arith.{lt→nleb, le→nltb}
 use lib.Pow.{pow-add, pow-pos, pow-mono, pow-lt, shl-lt, shl-exact}
-use lib.Ieee.{Float, nan, inf, fin, binary32, binary64, up, down, size, odd, round, ofBits, toBits, ofFields, fits, isNan, nanBits}
+use lib.Ieee.{Float, nan, inf, fin, binary32, binary64, up, down, size, odd, round, ofBits, ofFields, isNan}
 use lib.Ieee.Digits.{size-le}
-use lib.Ieee.Fits.{down-pos, nearest-le}
+use lib.Ieee.Fits.{down-pos}
 use lib.Ieee.Exact.{HasValue, odd-sign}
 use lib.Ieee.Bits.{is-true, is-false, nanBits-above, nanBits-is}
 use lib.Ieee.Nearest.{closest, closest-same}

@@ -1,15 +1,14 @@
 -- `within-test`: a value is within a limit in size where it is neither above the limit nor below its negation; the test of `finite`; and what being within a finite limit tells. Assumes nothing.
-use mathlib.Core.Path.{_≡_, refl, sym, ap, _∙_, subst}
-use Prim.Native.Nat.{ℕ, zero, suc, _+_, _*_, _≤_, _<_}
-use native.Mathlib.Nat.{le-of-eq, zero-mul}
-use native.Mathlib.Omega.{arith}
+use mathlib.Core.Path.{_≡_, refl, sym, _∙_, subst}
+use Prim.Native.Nat.{ℕ, _*_, _≤_}
+use native.Mathlib.Nat.{le-of-eq}
 use mathlib.Core.Bool.{Bool, true, false, not, true≢false, false≢true}
-use lib.IntN.{ℤ, pos}
-use lib.Dec.{T, T-not}
+use lib.IntN.{ℤ}
+use lib.Dec.{T}
 use lib.Ieee.{Float, nan, inf, fin, up, down, lt, le, neg}
-use lib.Ieee.Bits.{is-true, is-false}
 use lib.Ieee.Scale.{finite}
 use Rattle.rounding.proofs.Order.{Le, le-fin, fin-le}
+use Rattle.rounding.proofs.Val.{Val, le-val, val-le}
 use Rattle.float_bits.specs.Range.{abs, within}
 
 same : (a b : Bool) → (T a → T b) → (T b → T a) → a ≡ b
@@ -74,3 +73,18 @@ within-finite (fin s m e) t n d h = tt
 pub within-size : (s : Bool) (m : ℕ) (e : ℤ) (n : ℕ) (d : ℤ) → T (within (fin s m e) (fin false n d)) → m * up e * down d ≤ n * up d * down e
 unfolding within abs
 within-size s m e n d h = le-fin false m e false n d h
+
+-- and in units of 2 ^ -1074
+abs-val : (x : Float) (s : Bool) (n : ℕ) → Val x s n → Val (abs x) false n
+unfolding abs
+abs-val nan s n v = v
+abs-val (inf t) s n v = v
+abs-val (fin t m e) s n v = (refl, v .1)
+
+pub within-val : (x l : Float) (s : Bool) (n k : ℕ) → Val x s n → Val l false k → T (within x l) → n ≤ k
+unfolding within
+within-val x l s n k v w h = le-val (abs x) l false false n k (abs-val x s n v) w h
+
+pub val-within : (x l : Float) (s : Bool) (n k : ℕ) → Val x s n → Val l false k → n ≤ k → T (within x l)
+unfolding within
+val-within x l s n k v w h = val-le (abs x) l false false n k (abs-val x s n v) w h

@@ -1,14 +1,14 @@
 -- What the branches of `to_u64` know of x, and that each returns `as u64` of it. Assumes nothing.
-use mathlib.Core.Path.{_≡_, refl, sym, ap, _∙_, subst}
-use Prim.Native.Nat.{ℕ, zero, suc, _+_, _-_, _*_, _/_, _^_, _≤_, _<_, min}
+use mathlib.Core.Path.{_≡_, refl, sym, ap}
+use Prim.Native.Nat.{ℕ, _+_, _-_, _*_, _/_, _^_, _≤_, _<_, min}
 use native.Mathlib.Nat.{le-div-iff-mul-le, div-eq-of-lt, lt-of-not-le}
 use native.Mathlib.Omega.{arith}
-use mathlib.Core.Bool.{Bool, true, false, not}
-use lib.IntN.{ℤ, pos}
-use lib.Dec.{T, ltb, lt→ltb, nltb→le, T-not}
+use mathlib.Core.Bool.{true, false, not}
+use lib.IntN.{pos}
+use lib.Dec.{T, lt→ltb, nltb→le, T-not}
 use lib.Ieee.{Float, nan, inf, fin, up, down, lt, le, toUnsigned}
 use lib.Ieee.Fits.{down-pos}
-use Rattle.rounding.proofs.Order.{Le, le-fin, fin-le}
+use Rattle.rounding.proofs.Order.{le-fin, fin-le}
 
 abbrev pub one : Float
 one = fin false 1 (pos 0)

@@ -178,8 +178,8 @@ pub fn within(x: f64, limit: f64) -> bool
 pub fn within_f32(x: f32, limit: f32) -> bool
     ensures { λ r. ⌜ r ≡ isWithin x limit ⌝ }
 {
-    if x <= limit {
-        return x >= -limit;
+    if limit >= x {
+        return -limit <= x;
     }
     false
 }

@@ -1,8 +1,8 @@
--- A fraction rounded to the nearest whole number is off by a half at most. Assumes nothing.
+-- A fraction rounded to the nearest whole number, a tie to the even one: it is off by a half at most (`closest-off`), its three cases by the remainder, and one division that does it (`closest-half`). Assumes nothing.
 use mathlib.Core.Path.{_≡_, refl, sym, ap, _∙_, subst}
 use mathlib.Core.Logic.{_⊎_, inl, inr}
 use Prim.Native.Nat.{ℕ, zero, suc, _+_, _-_, _*_, _/_, _%_, _≤_, _<_, compare, Ordering, Ordering·lt, Ordering·eq, Ordering·gt}
-use native.Mathlib.Nat.{mul-add-div-right, mul-add-mod-self-right, div-eq-of-lt-le, mod-lt, div-add-mod', suc-mul, zero-mul, mul-comm, mul-assoc, mul-right-comm, mul-le-mul-right, le-trans, le-of-eq, lt-of-le-of-lt, eq-zero-or-pos, lt-irrefl, lt-of-lt-of-le, one-mul, zero-lt-suc}
+use native.Mathlib.Nat.{mul-add-div-right, mul-add-mod-self-right, div-eq-of-lt-le, mod-lt, div-add-mod', suc-mul, mul-le-mul-right, le-trans, le-of-eq, eq-zero-or-pos, lt-of-lt-of-le, one-mul, zero-lt-suc}
 use native.Mathlib.Omega.{arith}
 use mathlib.Core.Bool.{not}
 use lib.Dec.{T, isLe, isEq, eqb, leb→le, nleb→lt, eqb→eq, eqb-refl}

@@ -1,12 +1,12 @@
 -- Comparison by sign and size: what `le` says of two finite values, that a negation turns it round, and that rounding keeps the sign. For either format. Assumes nothing.
-use mathlib.Core.Path.{_≡_, refl, sym, ap, _∙_, subst}
+use mathlib.Core.Path.{_≡_, refl, sym, ap, _∙_}
 use mathlib.Core.Logic.{_⊎_, inl, inr}
 use Prim.Native.Nat.{ℕ, zero, suc, _+_, _-_, _*_, _/_, _%_, _^_, _≤_, _<_, compare}
 use native.Mathlib.Nat.{le-of-lt, le-of-eq, eq-or-lt-of-le, eq-zero-or-pos}
 use native.Mathlib.Omega.{arith}
-use mathlib.Core.Bool.{Bool, true, false, not, _&&_, _||_, Bool·beq, cond, true≢false, false≢true}
-use lib.IntN.{ℤ, pos}
-use lib.Dec.{T, leb, ltb, eqb, ltb→lt, lt→ltb, le→leb, eqb→eq, eqb-refl}
+use mathlib.Core.Bool.{_||_, Bool, true, false, not, _&&_, cond, true≢false, false≢true}
+use lib.IntN.{ℤ}
+use lib.Dec.{T, leb, ltb, eqb, ltb→lt, lt→ltb, le→leb, eqb→eq}
 use lib.Arith.{lt→nleb}
 use lib.Ieee.{Float, nan, inf, fin, Format, binary32, binary64, prec, emax, low, up, down, below, level, lt, eq, le, neg, odd, units, round, nearest, size, ofFields, ofBits, hid, ones, top}
 use lib.Ieee.Fits.{and-i, and-l, and-r, eq→eqb}

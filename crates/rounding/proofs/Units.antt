@@ -16,7 +16,7 @@ use lib.Ieee.Exact.{HasValue, round-exact}
 use lib.Ieee.Nearest.{closest, closest-mono, closest-same, div-mono}
 use lib.Ieee.Order.{drop, kept}
 use lib.Ieee.Scale.{grid, overflow, round-same, round-val}
-use Rattle.rounding.proofs.Pattern.{kept-le, kept-ge}
+use Rattle.rounding.proofs.Pattern.{kept-le, kept-ge, pow-le-back as exponents}
 use Rattle.rounding.proofs.Half.{closest-down}
 
 abbrev pub G : ℕ → ℕ → ℕ
@@ -300,9 +300,9 @@ lt-units (fin false i d) m e n k p q = (
 
 -- ---- every value of the format that is finite and not negative is some number of units
 pub pow-le-back : (a l : ℕ) → 2 ^ a ≤ 2 ^ l → a ≤ l
-pow-le-back a l h = le-of-suc-le-suc (lt-of-not-le (λ (g : suc l ≤ a). lt-irrefl (2 ^ l) (lt-of-lt-of-le (pow-lt g) h)))
+pow-le-back a l h = exponents a l h
 
-whole-units : (m : ℕ) (e : ℤ) → down e ≤ 2 ^ 1074 → (n : ℕ) × (m * up e * 2 ^ 1074 ≡ n * down e)
+pub whole-units : (m : ℕ) (e : ℤ) → down e ≤ 2 ^ 1074 → (n : ℕ) × (m * up e * 2 ^ 1074 ≡ n * down e)
 whole-units m (pos k) h = (m * 2 ^ k * 2 ^ 1074, sym (mul-one (m * 2 ^ k * 2 ^ 1074)))
 whole-units m (negsuc k) h = (m * 2 ^ (1074 - suc k), ap (λ (x : ℕ). x * 2 ^ 1074) (mul-one m) ∙ ap (λ (x : ℕ). m * x) (ap (λ (x : ℕ). 2 ^ x) (sym (back 1074 (suc k) (pow-le-back (suc k) 1074 h))) ∙ pow-add 2 (1074 - suc k) (suc k)) ∙ sym (mul-assoc m (2 ^ (1074 - suc k)) (2 ^ suc k)))
 

@@ -1,4 +1,4 @@
--- Signed values: `Val x s n` says that x is finite, has the sign s, and is n units of 2 ^ -1074 in size. Each operation is exact and then rounded by `G`. Assumes nothing.
+-- Signed values: `Val x s n` says that x is finite, has the sign s, and is n units of 2 ^ -1074 in size. Each operation is exact and then rounded by `G`, and comparison goes by sign and size. Assumes nothing.
 use mathlib.Core.Path.{_≡_, refl, sym, ap, _∙_, subst}
 use mathlib.Core.Logic.{_⊎_, inl, inr}
 use Prim.Native.Nat.{ℕ, zero, suc, _+_, _-_, _*_, _/_, _%_, _^_, _≤_, _<_, zero-le}
@@ -6,13 +6,14 @@ use native.Mathlib.Nat.{le-trans, le-of-eq, lt-of-lt-of-le, lt-of-le-of-lt, lt-o
 use native.Mathlib.Omega.{arith}
 use mathlib.Core.Bool.{Bool, true, false, not, _&&_, Bool·beq, cond, true≢false, false≢true}
 use lib.IntN.{ℤ, pos, negsuc}
-use lib.Dec.{T, ltb, eqb, ltb→lt, nltb→le, lt→ltb, eqb→eq}
+use lib.Dec.{T, leb, ltb, eqb, leb→le, ltb→lt, nltb→le, lt→ltb, eqb→eq}
 use lib.Pow.{pow-pos}
-use lib.Ieee.{Float, nan, inf, fin, binary64, up, down, unlike, round, neg, sum, add, sub, mul, div}
-use lib.Ieee.Fits.{up-pos, down-pos}
+use lib.Ieee.{Float, nan, inf, fin, binary64, up, down, unlike, round, neg, sum, add, sub, mul, div, le, fits}
+use lib.Ieee.Fits.{up-pos, down-pos, and-l, and-r}
 use lib.Ieee.Exact.{HasValue}
-use lib.Ieee.Scale.{overflow, round-same}
-use Rattle.rounding.proofs.Units.{G, Units, of-value, in-units, in-units-sub, cross-back}
+use lib.Ieee.Scale.{overflow, round-same, finite}
+use Rattle.rounding.proofs.Units.{G, Units, of-value, in-units, in-units-sub, cross, cross-back, whole-units}
+use Rattle.rounding.proofs.Order.{Le, le-fin, fin-le}
 use Rattle.rounding.proofs.More.{round-value}
 
 abbrev pub Val : Float → Bool → ℕ → Type 0
@@ -161,3 +162,57 @@ add-opposite-r (fin t m e) (fin r i d) s k n p q h l =
     ∙ ap (round binary64 s (i * up d * down e - m * up e * down d)) (mul-comm (down e) (down d))
     ∙ round-same binary64 s (i * up d * down e - m * up e * down d) (down d * down e) (n - k) (2 ^ 1074) (mul-pos (down-pos d) (down-pos e)) (pow-pos 1074) (in-units-sub n k (down d) (down e) (i * up d) (m * up e) (q .1) (p .1))))
     (round-value s (n - k) (2 ^ 1074) l)
+
+-- ---- every finite value of the format has one
+pub val-of : (x : Float) → T (fits binary64 x) → T (finite x) → (s : Bool) × ((n : ℕ) × Val x s n)
+unfolding fits
+val-of nan F h = absurd h
+val-of (inf s) F h = absurd h
+val-of (fin s zero e) F h = (s, (0, (refl, ap (λ (x : ℕ). x * 2 ^ 1074) (zero-mul (up e)) ∙ sym (zero-mul (down e)))))
+val-of (fin s (suc m) e) F h =
+    let a = eqb (suc m % 2) 1 && ltb (suc m) (2 ^ 53) in
+    let b = leb (down e) (2 ^ 1074) in
+    let w = whole-units (suc m) e (leb→le (down e) (2 ^ 1074) (and-r a b (and-l (a && b) (ltb (suc m * up e) (2 ^ 1024 * down e)) F))) in
+    (s, (w .0, (refl, w .1)))
+
+-- ---- comparison, with the signs apart
+gone : (a n c d f : ℕ) → 0 < c → 0 < d → a * c ≡ n * d → 0 < f → a * f ≡ 0 → n ≡ 0
+gone a n c d f C D e F z = elim (eq-zero-or-pos n) [
+  | inl h ↦ h
+  | inr p ↦ elim (eq-zero-or-pos a) [
+    | inl k ↦ absurd (lt-irrefl 0 (subst (λ (x : ℕ). 0 < x) (sym e ∙ ap (λ (x : ℕ). x * c) k ∙ zero-mul c) (mul-pos p D)))
+    | inr q ↦ absurd (lt-irrefl 0 (subst (λ (x : ℕ). 0 < x) z (mul-pos q F)))
+  ]
+]
+
+none : (a n c d f : ℕ) → 0 < c → a * c ≡ n * d → n ≡ 0 → a * f ≡ 0
+none a n c d f C e z = elim (eq-zero-or-pos a) [
+  | inl k ↦ ap (λ (x : ℕ). x * f) k ∙ zero-mul f
+  | inr p ↦ absurd (lt-irrefl 0 (subst (λ (x : ℕ). 0 < x) (e ∙ ap (λ (x : ℕ). x * d) z ∙ zero-mul d) (mul-pos p C)))
+]
+
+pub le-val : (x y : Float) (s t : Bool) (n k : ℕ) → Val x s n → Val y t k → T (le x y) → Le s n t k
+le-val nan y s t n k p q h = absurd p
+le-val (inf u) y s t n k p q h = absurd p
+le-val (fin u m e) nan s t n k p q h = absurd q
+le-val (fin u m e) (inf v) s t n k p q h = absurd q
+le-val (fin u m e) (fin v i d) s t n k p q h = subst (λ (b : Bool). Le b n t k) (p .0) (subst (λ (b : Bool). Le u n b k) (q .0) (go u v (le-fin u m e v i d h)))
+  where
+    go : (u v : Bool) → Le u (m * up e * down d) v (i * up d * down e) → Le u n v k
+    go false false g = cross-back n k (down e) (down d) (m * up e) (i * up d) (down-pos e) (down-pos d) (p .1) (q .1) g
+    go true false g = tt
+    go false true g = (gone (m * up e) n (2 ^ 1074) (down e) (down d) (pow-pos 1074) (down-pos e) (p .1) (down-pos d) (g .0), gone (i * up d) k (2 ^ 1074) (down d) (down e) (pow-pos 1074) (down-pos d) (q .1) (down-pos e) (g .1))
+    go true true g = cross-back k n (down d) (down e) (i * up d) (m * up e) (down-pos d) (down-pos e) (q .1) (p .1) g
+
+pub val-le : (x y : Float) (s t : Bool) (n k : ℕ) → Val x s n → Val y t k → Le s n t k → T (le x y)
+val-le nan y s t n k p q h = absurd p
+val-le (inf u) y s t n k p q h = absurd p
+val-le (fin u m e) nan s t n k p q h = absurd q
+val-le (fin u m e) (inf v) s t n k p q h = absurd q
+val-le (fin u m e) (fin v i d) s t n k p q h = fin-le u m e v i d (go u v (subst (λ (b : Bool). Le b n v k) (sym (p .0)) (subst (λ (b : Bool). Le s n b k) (sym (q .0)) h)))
+  where
+    go : (u v : Bool) → Le u n v k → Le u (m * up e * down d) v (i * up d * down e)
+    go false false g = cross n k (down e) (down d) (m * up e) (i * up d) (p .1) (q .1) g
+    go true false g = tt
+    go false true g = (none (m * up e) n (2 ^ 1074) (down e) (down d) (pow-pos 1074) (p .1) (g .0), none (i * up d) k (2 ^ 1074) (down d) (down e) (pow-pos 1074) (q .1) (g .1))
+    go true true g = cross k n (down d) (down e) (i * up d) (m * up e) (q .1) (p .1) g

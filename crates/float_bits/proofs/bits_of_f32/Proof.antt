@@ -1,5 +1,5 @@
 -- `float_bits::bits_of_f32` meets its contract. Assumes nothing.
-use mathlib.Core.Path.{_≡_, sym, ap}
+use mathlib.Core.Path.{sym, ap}
 use lib.Ieee.{binary32, toBits}
 use borrow.Author.Needs.{needs}
 use Rattle.float_bits.proofs.Nan.{is-nan, not-nan}

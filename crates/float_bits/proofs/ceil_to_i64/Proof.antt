@@ -1,14 +1,12 @@
--- `ceiling::ceil_to_i64` meets its contract: each branch is a case of `proofs/Law.antt`. Assumes nothing.
+-- `float_bits::ceil_to_i64` meets its contract: each branch is a case of `proofs/Ceiling.antt`. Assumes nothing.
 use mathlib.Core.Path.{_≡_, sym, ap, _∙_, subst}
 use mathlib.Core.Bool.{Bool, true, false, not}
-use Prim.Native.Nat.{ℕ, _+_, _^_, _≤_, _<_}
 use lib.Dec.{T}
 use lib.IntN.{ℤ}
-use lib.Signed.{mag}
 use lib.Ieee.{Float, binary64, fits, ofBits, neg, toSigned}
 use lib.Ieee.Casts.{toSigned-in}
 use mir.Syntax.{w64}
-use mir.Val.{toZ, ofZ, SFits}
+use mir.Val.{toZ, ofZ}
 use mir.Facts.{toZ-ofZ}
 use Rattle.float_bits.proofs.Ceiling.{pos-above-min, nonpos-below-max, large, huge, nonpos, low-end, no-number}
 use borrow.Author.Needs.{needs}
@@ -32,26 +30,21 @@ held c = subst T (sym (c .good .0 .1)) tt
 back : (r : ℤ) (x : Float) → r ≡ toSigned 63 x → toZ w64 (ofZ w64 r) ≡ toSigned 63 x
 back r x e = ap (λ (y : ℤ). toZ w64 (ofZ w64 y)) e ∙ toZ-ofZ {w = w64} {z = toSigned 63 x} (record { sfits = toSigned-in 63 x })
 
--- src/lib.rt:25:13
 ceil-small-requires : tie.Need-ceil-small-requires
 unfolding ofBits
 ceil-small-requires c κs = (yes (c .before .if1 .taken), yes (c .if2 .taken))
 
--- src/lib.rt:27:13
 truncating-f64-to-i64-requires : tie.Need-truncating-f64-to-i64-requires
 unfolding ofBits
 truncating-f64-to-i64-requires c κs = (pos-above-min (c .before .before .before .args .x) (yes (c .before .before .if1 .taken)), yes (c .if3 .taken))
 
--- src/lib.rt:33:13
 truncating-f64-to-i64-requires-2 : tie.Need-truncating-f64-to-i64-requires-2
 unfolding ofBits neg
 truncating-f64-to-i64-requires-2 c κs = (yes (c .if5 .taken), nonpos-below-max (c .before .before .before .args .x) (yes (c .before .if4 .taken)))
 
--- src/lib.rt:20:1
 returns : tie.Need-returns
 returns c = search needs
 
--- src/lib.rt:20:1
 returns-2 : tie.Need-returns-2
 unfolding ofBits
 returns-2 c =
@@ -59,24 +52,20 @@ returns-2 c =
     back (c .truncating-f64-to-i64 .result) x (c .truncating-f64-to-i64 .ensures)
     ∙ large x (held (c .before .before .before .before)) (yes (c .before .before .before .if1 .taken)) (no-t (c .before .before .if2 .left)) (yes (c .before .if3 .taken))
 
--- src/lib.rt:20:1
 returns-3 : tie.Need-returns-3
 unfolding ofBits
 returns-3 c = huge (c .before .before .before .args .x) (yes (c .before .before .if1 .taken)) (no-t (c .if3 .left))
 
--- src/lib.rt:20:1
 returns-4 : tie.Need-returns-4
 unfolding ofBits
 returns-4 c =
     let x = c .before .before .before .before .args .x in
     back (c .truncating-f64-to-i642 .result) x (c .truncating-f64-to-i642 .ensures) ∙ nonpos x (yes (c .before .before .if4 .taken))
 
--- src/lib.rt:20:1
 returns-5 : tie.Need-returns-5
 unfolding ofBits neg
 returns-5 c = low-end (c .before .before .before .args .x) (yes (c .before .if4 .taken)) (no-t (c .if5 .left))
 
--- src/lib.rt:20:1
 returns-6 : tie.Need-returns-6
 unfolding ofBits
 returns-6 c = no-number (c .before .before .args .x) (no-t (c .before .if1 .left)) (no-t (c .if4 .left))

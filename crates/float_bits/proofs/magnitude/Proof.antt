@@ -25,12 +25,12 @@ sub-m c = search needs
 returns-2 : tie.Need-returns-2
 returns-2 c =
     let n = c .before .before .args .n in
-    (omega arith, in-range n ((n + 268435455 + n / 536870912 % 2) / 536870912 - 7516192768) (omega arith) (omega arith) refl .0 (omega arith))
+    (omega arith, in-range n ((n + 268435455 + n / 536870912 % 2) / 536870912 - 7516192768) (omega arith) (omega arith) refl .0 (c .if2 .taken))
 
 returns-3 : tie.Need-returns-3
 returns-3 c =
     let n = c .before .before .args .n in
-    (omega arith, in-range n ((n + 268435455 + n / 536870912 % 2) / 536870912 - 7516192768) (omega arith) (omega arith) refl .1 (omega arith))
+    (omega arith, in-range n ((n + 268435455 + n / 536870912 % 2) / 536870912 - 7516192768) (omega arith) (omega arith) refl .1 (c .if2 .left))
 
 pub magnitude-spec : {M : Type 1} → statement M
 magnitude-spec = tie.close (tie.spec narrow-small-requires returns add-m add-m-2 sub-m returns-2 returns-3)

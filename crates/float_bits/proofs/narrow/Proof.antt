@@ -1,5 +1,5 @@
 -- `float_bits::narrow` meets its contract: the pattern of the size, with the sign put before it. Assumes nothing.
-use mathlib.Core.Path.{_≡_, sym, ap, subst}
+use mathlib.Core.Path.{sym, ap, subst}
 use Prim.Native.Nat.{_+_, _*_, _/_}
 use native.Mathlib.Omega.{arith}
 use lib.Dec.{T}
