@@ -1,0 +1,9 @@
+pub mod Literals
+pub mod Laid
+pub mod LateSum
+pub mod Grid
+pub mod ClockAtFour
+pub mod Ends
+pub mod EndsByItself
+pub mod BranchWithin
+pub mod PhaseWithin

@@ -1,0 +1,4 @@
+pub mod Taps
+pub mod PulseSum
+pub mod Clocked
+pub mod Apply

@@ -1,0 +1,39 @@
+-- A loop that stores f j at each place j of an array makes the list of the values of f. Assumes nothing.
+use Prim.Native.Nat.{ℕ, zero, suc, _+_, _-_, _<_, _≤_}
+use mathlib.Core.Path.{_≡_, refl, sym, ap, _∙_}
+use mathlib.Core.List.{List, [], _∷_, _++_, append-nil}
+use native.Mathlib.Omega.{arith}
+use native.Mathlib.Numerals.{add-one}
+use lib.ListN.{length, set, take, replicate, length-set, length-replicate}
+use lib.Seq.{take-suc-set, take-all, append-snoc}
+use lib.Ieee.{Float}
+use Rattle.pulse_shape.specs.Values.{valuesFrom, values}
+
+-- the list t with f k stored at place k, f (k + 1) at the next and so on, n stores
+unfoldable pub fillFrom : (ℕ → Float) → ℕ → List Float → ℕ → List Float
+fillFrom f zero t k = t
+fillFrom f (suc n) t k = fillFrom f n (set t k (f k)) (k + 1)
+
+pub fill-turn : (f : ℕ → Float) (e : ℕ) (t : List Float) (k : ℕ) → k < e → fillFrom f (e - k) t k ≡ fillFrom f (e - (k + 1)) (set t k (f k)) (k + 1)
+unfolding fillFrom
+fill-turn f e t k h =
+    let n : e - k ≡ suc (e - (k + 1)) = omega arith in
+    rw n
+
+pub fill-end : (f : ℕ → Float) (e : ℕ) (t : List Float) (k : ℕ) → e ≤ k → fillFrom f (e - k) t k ≡ t
+unfolding fillFrom
+fill-end f e t k h =
+    let n : e - k ≡ 0 = omega arith in
+    rw n
+
+filled : (f : ℕ → Float) (n : ℕ) (t : List Float) (k : ℕ) → length t ≡ k + n → fillFrom f n t k ≡ take k t ++ valuesFrom f n k
+unfolding fillFrom valuesFrom
+filled f zero t k e = sym (append-nil (take k t) ∙ take-all k t (omega arith))
+filled f (suc n) t k e =
+    filled f n (set t k (f k)) (k + 1) (length-set t k (f k) ∙ omega arith)
+    ∙ ap (λ (i : ℕ). take i (set t k (f k)) ++ valuesFrom f n (k + 1)) (add-one k)
+    ∙ ap (λ (l : List Float). l ++ valuesFrom f n (k + 1)) (take-suc-set t k (f k) (omega arith))
+    ∙ append-snoc (take k t) (f k) (valuesFrom f n (k + 1))
+
+pub fill-all : (f : ℕ → Float) (n : ℕ) (z : Float) → fillFrom f n (replicate n z) 0 ≡ values f n
+fill-all f n z = filled f n (replicate n z) 0 (length-replicate n z ∙ omega arith)

@@ -1,0 +1,20 @@
+use borrow.Author.Needs.{needs}
+use native.Mathlib.Omega.{arith}
+use Rattle.pulse_shape.specs.Accepted.{within16}
+use Rattle.pulse_shape.proofs.within_16.Statement.{statement}
+use Rattle.pulse_shape.proofs.within_16.Tie as tie
+use Rattle.pulse_shape.proofs.within_16.Reads as reads
+use Rattle.pulse_shape.proofs.within_16.Lts as lts
+
+-- src/lib.rt:127:9
+returns : tie.Need-returns
+unfolding within16
+returns c = simp (c .if1 .taken)
+
+-- src/lib.rt:123:1
+returns-2 : tie.Need-returns-2
+unfolding within16
+returns-2 c = simp (c .if1 .left)
+
+pub within-16-spec : {M : Type 1} → statement M
+within-16-spec = tie.close (tie.spec returns returns-2)

@@ -1,0 +1,201 @@
+// The shape of a pulse, after pulse_shape.rs: trapezoids, prototypes, the checks of taps and prototypes, and the group delay.
+// Each function is equal to a definition of specs/ on every input. Assumes nothing.
+ghost use mathlib.Core.Path.{_≡_};
+ghost use Prim.Native.Nat.{_≤_, _<_, _+_, _-_, min};
+ghost use lib.ListN.{length};
+ghost use lib.Ieee.{binary32, ofBits};
+ghost use Rattle.constants.specs.Rate.{four};
+ghost use Rattle.pulse_shape.specs.Trapezoid.{trapezoidAt, modeSTrapezoid, modeACTrapezoid};
+ghost use Rattle.pulse_shape.specs.Convolve.{productsFrom, firstTerm, convolveAt};
+ghost use Rattle.pulse_shape.specs.Prototype.{prototypeOf, modeSPrototype, modeACPrototype};
+ghost use Rattle.pulse_shape.specs.Accepted.{within16, allWithin16, modeSTapsAccepted, modeACTapsAccepted};
+ghost use Rattle.pulse_shape.specs.GroupDelay.{crosses, delayAt, groupDelay};
+
+// m / n, each taken as an f32.
+fn ratio(m: u32, n: u32) -> f32
+    ensures { λ r. ⌜ r ≡ Rattle.pulse_shape.specs.Trapezoid.ratio m n ⌝ }
+{
+    std::num::nearest_u32_to_f32(m) / std::num::nearest_u32_to_f32(n)
+}
+
+// Value j of a trapezoid.
+fn trapezoid_at(rise: u32, fall: u32, total: u32, j: u32) -> f32
+    requires { ⌜ (fall ≤ total) × (j < total) ⌝ }
+    ensures { λ r. ⌜ r ≡ trapezoidAt rise fall total j ⌝ }
+{
+    if j < rise {
+        return ratio(j, rise);
+    }
+    if j < total - fall {
+        return 1.0;
+    }
+    1.0 - ratio(j - (total - fall) + 1, fall)
+}
+
+fn mode_s_trapezoid() -> [f32; 307]
+    ensures { λ r. ⌜ r ≡ modeSTrapezoid four ⌝ }
+{
+    let mut out = [0.0f32; 307];
+    let mut j: usize = 0;
+    while j < 307 {
+        out[j] = trapezoid_at(38, 64, 307, j as u32);
+        j = j + 1;
+    }
+    out
+}
+
+fn mode_ac_trapezoid() -> [f32; 278]
+    ensures { λ r. ⌜ r ≡ modeACTrapezoid four ⌝ }
+{
+    let mut out = [0.0f32; 278];
+    let mut j: usize = 0;
+    while j < 278 {
+        out[j] = trapezoid_at(40, 40, 278, j as u32);
+        j = j + 1;
+    }
+    out
+}
+
+// The sum from 0.0 of a[k] * b[j - k] for k from start to before end.
+fn products(a: &[f32], b: &[f32], j: usize, start: usize, end: usize) -> f32
+    requires { ⌜ (end ≤ length (now a)) × (end ≤ j + 1) × (j < length (now b) + start) × (j < 1792) ⌝ }
+    ensures { λ r. ⌜ r ≡ productsFrom (now (a .entry)) (now (b .entry)) j (end - start) start (ofBits binary32 0) ⌝ }
+{
+    let mut sum: f32 = 0.0;
+    let mut k = start;
+    while k < end {
+        sum = sum + a[k] * b[j - k];
+        k = k + 1;
+    }
+    sum
+}
+
+fn least(a: usize, b: usize) -> usize
+    ensures { λ r. ⌜ r ≡ min a b ⌝ }
+{
+    if a < b { a } else { b }
+}
+
+fn first_term(l: usize, j: usize) -> usize
+    requires { ⌜ j < 1792 ⌝ }
+    ensures { λ r. ⌜ (r ≡ firstTerm l j) × (j < l + r) ⌝ }
+{
+    if l <= j {
+        return j - l + 1;
+    }
+    0
+}
+
+// Value j of the convolution of a and b.
+fn convolve_at(a: &[f32], b: &[f32], j: usize) -> f32
+    requires { ⌜ j < 1792 ⌝ }
+    ensures { λ r. ⌜ r ≡ convolveAt (now (a .entry)) (now (b .entry)) j ⌝ }
+{
+    products(a, b, j, first_term(b.len(), j), least(j + 1, a.len()))
+}
+
+fn prototype(pulse: &[f32], lowpass: &[f32]) -> [f32; 1792]
+    ensures { λ r. ⌜ r ≡ prototypeOf four (now (pulse .entry)) (now (lowpass .entry)) ⌝ }
+{
+    let mut out = [0.0f32; 1792];
+    let mut j: usize = 0;
+    while j < 1792 {
+        out[j] = convolve_at(pulse, lowpass, j);
+        j = j + 1;
+    }
+    out
+}
+
+pub fn mode_s_prototype(lowpass: &[f32]) -> [f32; 1792]
+    ensures { λ r. ⌜ r ≡ modeSPrototype four (now (lowpass .entry)) ⌝ }
+{
+    let pulse = mode_s_trapezoid();
+    prototype(&pulse, lowpass)
+}
+
+pub fn mode_ac_prototype(lowpass: &[f32]) -> [f32; 1792]
+    ensures { λ r. ⌜ r ≡ modeACPrototype four (now (lowpass .entry)) ⌝ }
+{
+    let pulse = mode_ac_trapezoid();
+    prototype(&pulse, lowpass)
+}
+
+fn within_16(x: f32) -> bool
+    ensures { λ r. ⌜ r ≡ within16 x ⌝ }
+{
+    if x >= -16.0 {
+        return x <= 16.0;
+    }
+    false
+}
+
+// Whether each value of a prototype is finite and at most 16 in size.
+pub fn all_within_16(values: &[f32]) -> bool
+    ensures { λ r. ⌜ r ≡ allWithin16 (now (values .entry)) ⌝ }
+{
+    let mut j: usize = 0;
+    while j < values.len() {
+        if !within_16(values[j]) {
+            return false;
+        }
+        j = j + 1;
+    }
+    true
+}
+
+pub fn mode_s_taps_accepted(taps: &[f32]) -> bool
+    ensures { λ r. ⌜ r ≡ modeSTapsAccepted four (now (taps .entry)) ⌝ }
+{
+    if taps.len() == 1486 {
+        return all_within_16(taps);
+    }
+    false
+}
+
+pub fn mode_ac_taps_accepted(taps: &[f32]) -> bool
+    ensures { λ r. ⌜ r ≡ modeACTapsAccepted four (now (taps .entry)) ⌝ }
+{
+    if taps.len() == 1515 {
+        return all_within_16(taps);
+    }
+    false
+}
+
+// A crossing of the level, at its delay in samples, or none.
+pub enum Crossing {
+    At(f64),
+    Nowhere,
+}
+
+fn crosses_level(level: f32, a: f32, b: f32) -> bool
+    ensures { λ r. ⌜ r ≡ crosses level a b ⌝ }
+{
+    if a <= level {
+        return level < b;
+    }
+    false
+}
+
+fn delay_at(level: f32, j: usize, a: f32, b: f32) -> f64
+    ensures { λ r. ⌜ r ≡ delayAt four level j a b ⌝ }
+{
+    let from = std::num::f32_to_f64_with_nan(a);
+    let to = std::num::f32_to_f64_with_nan(b);
+    let tau = (std::num::f32_to_f64_with_nan(level) - from) / (to - from);
+    (std::num::nearest_u64_to_f64(j as u64) + tau) / 64.0
+}
+
+pub fn group_delay(level: f32, prototype: &[f32]) -> Crossing
+    ensures { λ r. ⌜ r ≡ groupDelay four level (now (prototype .entry)) ⌝ }
+{
+    let mut j: usize = 0;
+    while j + 1 < prototype.len() {
+        let a = prototype[j];
+        let b = prototype[j + 1];
+        if crosses_level(level, a, b) {
+            return Crossing::At(delay_at(level, j, a, b));
+        }
+        j = j + 1;
+    }
+    Crossing::Nowhere
+}
