@@ -1,0 +1,3 @@
+pub mod InRange
+pub mod Starts
+pub mod HoldBack
