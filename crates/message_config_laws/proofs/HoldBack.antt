@@ -6,7 +6,7 @@ use Prim.Native.Nat.{ℕ, suc, _+_, _-_, _*_, _^_, _≤_, _<_, min, zero-le}
 use native.Mathlib.Nat.{le-trans, le-of-eq, le-of-lt, lt-of-lt-of-le, lt-of-le-of-lt, not-le-of-lt, le-of-suc-le-suc, le-antisymm, one-mul, mul-assoc, add-mul, mul-le-mul-right, mul-le-mul-left}
 use native.Mathlib.Omega.{arith}
 use mathlib.Core.Bool.{Bool, true, false, not, true≢false}
-use lib.IntN.{ℤ, pos, negsuc}
+use lib.IntN.{pos}
 use lib.Dec.{T, lit<, lit≤}
 use lib.Pow.{pow-add, pow-pos, pow-mono}
 use lib.Ieee.{Float, nan, inf, fin, binary64, add, sub, div, lt, le}
@@ -23,7 +23,7 @@ use Rattle.message_config.specs.declared.MessageConfig.{MessageConfig}
 use Rattle.message_config.specs.Timing.{one, delayOf, unroundedStart, startOf}
 use Rattle.message_config.specs.Config.{configStart}
 use Rattle.message_config_laws.proofs.InRange.{TimeInRange, DelayInRange, DelaysInRange, ErrorInRange, delay-of, tenthUnits, within-tenth}
-use Rattle.message_config_laws.proofs.Starts.{Counted, counted, clocked-delay, sub-mul, halves, upward-le, upward-mono, upward-ge, upward-gt, upward-lt, start-units, start-negative, at-most-time, later, sooner}
+use Rattle.message_config_laws.proofs.Starts.{Counted, counted, finite-reply, clocked-delay, sub-mul, halves, upward-le, upward-mono, upward-ge, upward-gt, upward-lt, start-units, start-negative, at-most-time, later, sooner}
 
 -- the samples of a time of n units, rounded up
 abbrev N-of : ℕ → ℕ
@@ -151,23 +151,6 @@ module _ (H : ℕ) (some : 1 ≤ H) (few : H ≤ 2 ^ 40) where
         more H s = omega arith
 
 -- ---- times
--- an infinite time does not start a reply
-finite-reply : (t d : Float) (k s : ℕ) → TimeInRange t → Units d k → ceilSigned 63 (sub binary64 t d) ≡ pos s → s < 2 ^ 52 → T (finite t)
-unfolding le ceilSigned sub add
-finite-reply nan d k s r D e h = absurd (r .low)
-finite-reply (inf true) d k s r D e h = absurd (r .low)
-finite-reply (inf false) nan k s r D e h = absurd D
-finite-reply (inf false) (inf u) k s r D e h = absurd D
-finite-reply (inf false) (fin u m i) k s r D e h = absurd (no s (ap sizeOf e) h)
-  where
-    sizeOf : ℤ → ℕ
-    sizeOf (pos n) = n
-    sizeOf (negsuc n) = n
-
-    no : (s : ℕ) → 2 ^ 63 - 1 ≡ s → s < 2 ^ 52 → ⊥
-    no s e h = omega arith
-finite-reply (fin u m i) d k s r D e h = tt
-
 -- a time that is not after a finite one is finite, and no more units
 not-after-finite : (t t′ : Float) → TimeInRange t → T (finite t′) → lt t′ t ≡ false → T (finite t)
 unfolding le lt

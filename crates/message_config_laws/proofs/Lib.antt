@@ -1,3 +1,4 @@
 pub mod InRange
 pub mod Starts
 pub mod HoldBack
+pub mod FirstClock

@@ -197,6 +197,19 @@ start-negative x n s v e =
     first : (q : ℕ) → min q (2 ^ 63) ≡ 0 → q < 1
     first q h = omega arith
 
+-- an infinite time does not start a reply
+pub finite-reply : (t d : Float) (k s : ℕ) → TimeInRange t → Units d k → ceilSigned 63 (sub binary64 t d) ≡ pos s → s < 2 ^ 52 → T (finite t)
+unfolding le ceilSigned sub add
+finite-reply nan d k s r D e h = absurd (r .low)
+finite-reply (inf true) d k s r D e h = absurd (r .low)
+finite-reply (inf false) nan k s r D e h = absurd D
+finite-reply (inf false) (inf u) k s r D e h = absurd D
+finite-reply (inf false) (fin u m i) k s r D e h = absurd (no s (ap sizeOf e) h)
+  where
+    no : (s : ℕ) → 2 ^ 63 - 1 ≡ s → s < 2 ^ 52 → ⊥
+    no s e h = omega arith
+finite-reply (fin u m i) d k s r D e h = tt
+
 -- ---- the difference of a finite time and a delay
 G-under : (n k : ℕ) → Rep n → G (n - k) (2 ^ 1074) ≤ n
 G-under n k r = le-trans (G-le (n - k) (2 ^ 1074) (r .0) (r .1) (pow-pos 1074) (r .2) (mul-le-mul-right (2 ^ 1074) (le-trans (sub-le n k) (le-of-eq (r .3))))) (le-of-eq (sym (r .3)))
