@@ -11,16 +11,19 @@ use lib.ListN.{length}
 use lib.Ieee.{Float, fin, binary32, binary64, ofBits, neg, lt, le, fits, div, sub, mul, add, ofInt}
 use lib.Ieee.Fits.{sub-fits}
 use lib.Ieee.Scale.{overflow, finite}
-use Rattle.constants.specs.Rate.{tapsPerBranch, prototypeLength}
+use Rattle.constants.specs.Rate.{four, tapsPerBranch, prototypeLength}
 use Rattle.rounding.proofs.Units.{G, G-le, Units}
 use Rattle.rounding.proofs.Val.{Val, val-units}
 use Rattle.float_bits.specs.Range.{within}
 use Rattle.float_bits.proofs.Ranges.{within-finite, within-val}
 use Rattle.math.proofs.Size.{Within, number}
-use Rattle.distributions.specs.Asked.{tenth}
+use Rattle.math.specs.Phase.{pi}
+use Rattle.math.proofs.InRange.{Between}
+use Rattle.distributions.specs.Asked.{tenth, offsetLimit}
 use Rattle.message.specs.declared.ReplyKind.{ReplyKind}
 use Rattle.message.specs.declared.ReplyKind.the-variants.{Short, Long, ModeAc}
 use Rattle.message_config.specs.declared.Delays.{Delays}
+use Rattle.message_config.specs.declared.MessageConfig.{MessageConfig}
 use Rattle.message_config.specs.Timing.{modeACRatio, modeACDelay, delayOf, filterClockError}
 use Rattle.pulse_shape.specs.declared.Crossing.the-variants.{At}
 use Rattle.pulse_shape.specs.Accepted.{allWithin16}
@@ -106,3 +109,12 @@ unfolding filterClockError
 filter-fits Short e F = F
 filter-fits Long e F = F
 filter-fits ModeAc e F = sub-fits binary64 (mul binary64 modeACRatio (add binary64 (ofInt binary64 (pos 1)) e)) (ofInt binary64 (pos 1))
+
+-- ---- a message is in range: its time, its clock error, its carrier's offset within 4,000,000 in size, and its phase from -PI to PI
+pub record MessageInRange (c : MessageConfig) : Type 0 where
+  pub time : TimeInRange (c .time)
+  pub error : ErrorInRange (c .reply .kind) (c .error)
+  pub offset-fit : T (fits binary64 (c .offset))
+  pub offset : T (within (c .offset) (offsetLimit four))
+  pub phase-fit : T (fits binary64 (c .phase))
+  pub phase : Between pi (c .phase)

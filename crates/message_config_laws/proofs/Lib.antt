@@ -2,3 +2,4 @@ pub mod InRange
 pub mod Starts
 pub mod HoldBack
 pub mod FirstClock
+pub mod NeverNan
