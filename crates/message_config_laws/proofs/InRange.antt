@@ -95,7 +95,7 @@ pub tenth-is : tenth ≡ fin false 3602879701896397 (negsuc 54)
 unfolding tenth ofBits
 tenth-is = refl
 
-tenth-val : Val tenth false tenthUnits
+pub tenth-val : Val tenth false tenthUnits
 unfolding tenth ofBits
 tenth-val = (refl, refl)
 
@@ -109,6 +109,18 @@ unfolding filterClockError
 filter-fits Short e F = F
 filter-fits Long e F = F
 filter-fits ModeAc e F = sub-fits binary64 (mul binary64 modeACRatio (add binary64 (ofInt binary64 (pos 1)) e)) (ofInt binary64 (pos 1))
+
+-- ---- the largest carrier offset: 4,000,000
+abbrev pub offsetUnits : ℕ
+offsetUnits = 4000000 * 2 ^ 1074
+
+pub offset-is : offsetLimit four ≡ fin false 15625 (pos 8)
+unfolding offsetLimit ofInt
+offset-is = refl
+
+pub offset-val : Val (offsetLimit four) false offsetUnits
+unfolding offsetLimit ofInt
+offset-val = (refl, refl)
 
 -- ---- a message is in range: its time, its clock error, its carrier's offset within 4,000,000 in size, and its phase from -PI to PI
 pub record MessageInRange (c : MessageConfig) : Type 0 where

@@ -3,3 +3,4 @@ pub mod Starts
 pub mod HoldBack
 pub mod FirstClock
 pub mod NeverNan
+pub mod DrawnInRange

@@ -31,7 +31,7 @@ use Rattle.message_config.specs.declared.MessageConfig.{MessageConfig}
 use Rattle.message_config.specs.Timing.{one, delayOf, unroundedStart, startOf, filterClockError, clockPhase}
 use Rattle.message_config.specs.Carrier.{carrierRate, firstPhase}
 use Rattle.message_config.specs.Config.{configDelay, configStart, configClockError, configClockPhase, configRate, configPhase}
-use Rattle.message_config_laws.proofs.InRange.{TimeInRange, DelaysInRange, ErrorInRange, MessageInRange, delay-of, tenthUnits, within-tenth, filter-fits}
+use Rattle.message_config_laws.proofs.InRange.{TimeInRange, DelaysInRange, ErrorInRange, MessageInRange, delay-of, tenthUnits, within-tenth, filter-fits, offsetUnits, offset-is, offset-val}
 use Rattle.message_config_laws.proofs.Starts.{Counted, counted, finite-reply, clocked-delay, elevenTenths, start-units, later, sooner}
 use Rattle.message_config_laws.proofs.HoldBack.{below-53}
 use Rattle.message_config_laws.proofs.FirstClock.{phase-units}
@@ -88,36 +88,28 @@ difference-number (inf false) (fin s m e) k A D f = tt
 difference-number (fin s m e) d k A D f = finite-number (sub binary64 (fin s m e) d) (f tt)
 
 -- ---- the carrier's rate: 2 PI times 4,000,000, rounded, is below 8,000,000 times PI
-offset-val : Val (offsetLimit four) false (4000000 * 2 ^ 1074)
-unfolding offsetLimit ofInt
-offset-val = (refl, refl)
-
 rate-val : Val (ofInt binary64 (pos (sampleRate four))) false (8000000 * 2 ^ 1074)
 unfolding ofInt
 rate-val = (refl, refl)
 
-most-turned : G (twoPiUnits * (4000000 * 2 ^ 1074)) (2 ^ 1074 * 2 ^ 1074) ≡ 6746518852261009 * 2 ^ 1046
+most-turned : G (twoPiUnits * (offsetUnits)) (2 ^ 1074 * 2 ^ 1074) ≡ 6746518852261009 * 2 ^ 1046
 unfolding size
 most-turned = refl
 
-limit-finite : (x : Float) → T (within x (offsetLimit four)) → T (finite x)
-unfolding offsetLimit ofInt
-limit-finite x h = within-finite x false 15625 (pos 8) h
-
-rate-within : (offset : Float) (s : Bool) (n : ℕ) → Val offset s n → n ≤ 4000000 * 2 ^ 1074 → Within (carrierRate four offset) piUnits
+rate-within : (offset : Float) (s : Bool) (n : ℕ) → Val offset s n → n ≤ offsetUnits → Within (carrierRate four offset) piUnits
 unfolding carrierRate
 rate-within offset s n v h =
     let b = 2 ^ 1074 * 2 ^ 1074 in
     let turn = G (twoPiUnits * n) b in
-    let most : turn ≤ 6746518852261009 * 2 ^ 1046 = le-trans (G-mono (twoPiUnits * n) b (twoPiUnits * (4000000 * 2 ^ 1074)) b (pow-pos 2148) (pow-pos 2148) (mul-le-mul-right b (mul-le-mul-left twoPiUnits h))) (le-of-eq most-turned) in
+    let most : turn ≤ 6746518852261009 * 2 ^ 1046 = le-trans (G-mono (twoPiUnits * n) b (twoPiUnits * (offsetUnits)) b (pow-pos 2148) (pow-pos 2148) (mul-le-mul-right b (mul-le-mul-left twoPiUnits h))) (le-of-eq most-turned) in
     let t = mul-val twoPi offset false s twoPiUnits n twoPi-val v (lt-of-le-of-lt most (lit< {m = 6746518852261009 * 2 ^ 1046} {n = overflow binary64} tt)) in
     let m : G turn (8000000 * 2 ^ 1074) ≤ piUnits = G-le turn (8000000 * 2 ^ 1074) 884279719003555 1026 (lit< tt) (lit< tt) (le-trans (mul-le-mul-right (2 ^ 1074) most) (lit≤ {m = 6746518852261009 * 2 ^ 1046 * 2 ^ 1074} {n = 884279719003555 * 2 ^ 1026 * (8000000 * 2 ^ 1074)} tt)) in
     (unlike (unlike false s) false, G turn (8000000 * 2 ^ 1074), div-val (mul binary64 twoPi offset) (ofInt binary64 (pos (sampleRate four))) (unlike false s) false turn (8000000 * 2 ^ 1074) t rate-val (lit< tt) (lt-of-le-of-lt m (lit< {m = piUnits} {n = overflow binary64} tt)), m)
 
 carrier-within : (c : MessageConfig) → MessageInRange c → Within (carrierRate four (c .offset)) piUnits
 carrier-within c r =
-    let N = number (c .offset) (r .offset-fit) (limit-finite (c .offset) (r .offset)) in
-    rate-within (c .offset) (N .sign) (N .count) (N .is) (within-val (c .offset) (offsetLimit four) (N .sign) (N .count) (4000000 * 2 ^ 1074) (N .is) offset-val (r .offset))
+    let N = number (c .offset) (r .offset-fit) (within-finite (c .offset) false 15625 (pos 8) (subst (λ (l : Float). T (within (c .offset) l)) offset-is (r .offset))) in
+    rate-within (c .offset) (N .sign) (N .count) (N .is) (within-val (c .offset) (offsetLimit four) (N .sign) (N .count) (offsetUnits) (N .is) offset-val (r .offset))
 
 -- ---- the first phase: what is wrapped is finite
 less-within : (x y : Float) (b c q j : ℕ) → q < 2 ^ 53 → q * 2 ^ j < overflow binary64 → Within x b → Within y c → b + c ≤ q * 2 ^ j → Within (sub binary64 x y) (q * 2 ^ j)
