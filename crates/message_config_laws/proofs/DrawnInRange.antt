@@ -1,12 +1,12 @@
 -- What is drawn is in range: of a distribution that the settings' checks accept and a draw that the draws' checks accept, the clock error is within 0.1 in size (`drawn-error`), the carrier offset within 4,000,000 (`drawn-offset`) and the phase from -PI to PI (`drawn-phase`). Assumes nothing.
 use mathlib.Core.Path.{_≡_, refl, sym, _∙_, subst}
-use Prim.Native.Nat.{ℕ, zero, suc, _+_, _*_, _^_, _≤_, zero-le}
+use Prim.Native.Nat.{ℕ, zero, suc, _+_, _*_, _≤_, zero-le}
 use native.Mathlib.Nat.{le-trans, le-of-eq}
 use native.Mathlib.Omega.{arith}
 use mathlib.Core.Bool.{Bool, true, false, not, _&&_, cond, true≢false}
 use lib.IntN.{ℤ, pos, negsuc}
 use lib.Dec.{T, ltb, nltb→le}
-use lib.Ieee.{Float, nan, inf, fin, binary64, up, down, unlike, round, ofBits, ofInt, neg, add, sub, mul, below, lt, eq, le, fits, isNan}
+use lib.Ieee.{Float, nan, inf, fin, binary64, up, down, unlike, round, ofBits, neg, add, mul, below, lt, le, fits, isNan}
 use lib.Ieee.Fits.{and-l, and-r, neg-fits, mul-fits, sub-fits}
 use lib.Ieee.Scale.{finite}
 use Rattle.constants.specs.Rate.{four}

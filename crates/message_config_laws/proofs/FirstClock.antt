@@ -1,9 +1,9 @@
 -- First clock: of a reply in range, the clock's phase at the first sample is from 0 to 1.1 samples and the filter's clock error within 0.1, which is what the theorems about the filterbank's count ask (`first-clock`, `first-clock-of`).
 -- The first sample lies less than one sample past the unrounded start, or one whole sample once rounded. Assumes nothing.
 use mathlib.Core.Path.{_≡_, refl, sym, ap, _∙_, subst}
-use mathlib.Core.Logic.{_⊎_, inl, inr}
-use Prim.Native.Nat.{ℕ, _+_, _-_, _*_, _^_, _≤_, _<_, min, zero-le}
-use native.Mathlib.Nat.{le-trans, le-of-eq, le-of-lt, lt-of-lt-of-le, lt-of-le-of-lt, one-mul, zero-mul, mul-le-mul, mul-le-mul-right}
+use mathlib.Core.Logic.{inl, inr}
+use Prim.Native.Nat.{ℕ, _+_, _-_, _*_, _^_, _≤_, _<_}
+use native.Mathlib.Nat.{le-trans, le-of-eq, lt-of-le-of-lt, one-mul, zero-mul, mul-le-mul, mul-le-mul-right}
 use native.Mathlib.Omega.{arith}
 use mathlib.Core.Bool.{true, false}
 use lib.IntN.{ℤ, pos, negsuc}
@@ -15,10 +15,10 @@ use lib.Ieee.Scale.{overflow}
 use Rattle.constants.specs.Rate.{four}
 use Rattle.rounding.proofs.Units.{G, G-le, Units, add-units}
 use Rattle.rounding.proofs.More.{sub-all, mul-all, of-int, nonneg}
-use Rattle.rounding.proofs.Val.{Val, val-units, neg-val}
+use Rattle.rounding.proofs.Val.{val-units, neg-val}
 use Rattle.float_bits.specs.Ceil.{ceilSigned, upward}
 use Rattle.math.proofs.Size.{Within, units-within, le-or-lt, sub-is}
-use Rattle.math.proofs.InRange.{Between, tests-of-within}
+use Rattle.math.proofs.InRange.{tests-of-within}
 use Rattle.message.specs.declared.ReplyKind.{ReplyKind}
 use Rattle.message_config.specs.declared.Delays.{Delays}
 use Rattle.message_config.specs.declared.MessageConfig.{MessageConfig}
@@ -27,7 +27,7 @@ use Rattle.message_config.specs.Config.{configStart, configClockError, configCl
 use Rattle.filterbank.proofs.ClockAtFour.{tenth}
 use Rattle.filterbank.proofs.EndsByItself.{InRange}
 use Rattle.message_config_laws.proofs.InRange.{TimeInRange, DelaysInRange, ErrorInRange, delay-of, tenthUnits, within-tenth, filter-fits}
-use Rattle.message_config_laws.proofs.Starts.{Counted, counted, finite-reply, one-plus, elevenTenths, clocked-delay, le-upward, upward-lt, start-units, start-negative, later, sooner}
+use Rattle.message_config_laws.proofs.Starts.{Counted, counted, finite-reply, one-plus, elevenTenths, clocked-delay, le-upward, upward-lt, reply-start, start-negative, held-few, without-half, later, sooner}
 
 -- 1.1, the bits 0x3ff1_9999_9999_999a
 abbrev pub elevenTenthsF : Float
@@ -47,7 +47,7 @@ past-start t d C k H s D few K e S = elim (le-or-lt k (C .count)) [
   | inl h ↦
       let g = G (C .count - k) (2 ^ 1074) in
       let u = later t d C k D h in
-      let same : upward g (2 ^ 1074) ≡ s = uncapped (upward g (2 ^ 1074)) s (start-units x g s u e) S in
+      let same : upward g (2 ^ 1074) ≡ s = reply-start x g s u e S in
       to-one (sub binary64 first x) (s * 2 ^ 1074 - g) (gap (s * 2 ^ 1074) g (2 ^ 1074) (subst (λ (z : ℕ). z * 2 ^ 1074 < g + 2 ^ 1074) same (upward-lt g (2 ^ 1074) (pow-pos 1074))))
       (sub-all first x (s * 2 ^ 1074) g (of-int s (room s S)) u (subst (λ (z : ℕ). g ≤ z * 2 ^ 1074) same (le-upward g (2 ^ 1074) (pow-pos 1074))))
   | inr l ↦
@@ -65,9 +65,6 @@ past-start t d C k H s D few K e S = elim (le-or-lt k (C .count)) [
 
     x : Float
     x = sub binary64 t d
-
-    uncapped : (g s : ℕ) → s ≡ min g (2 ^ 63 - 1) → s < 2 ^ 52 → g ≡ s
-    uncapped g s e h = omega arith
 
     room : (s : ℕ) → s < 2 ^ 52 → s ≤ 2 ^ 53
     room s h = omega arith
@@ -103,14 +100,8 @@ module _ (sps : ℕ) (S : 3 ≤ sps) (M : sps ≤ 2 ^ 30) (delays : Delays) (R :
       let f = filterClockError kind e in
       subst (λ (x : Float). (p : ℕ) × Units x p × (p ≤ elevenTenths)) (sym (phase-is t (delayOf delays kind) e f s h))
       (product (sub binary64 (ofInt binary64 (pos s)) (sub binary64 t d)) f
-      (past-start t d C (q .0) (8 * sps) s (q .1) (few sps M) (drop (q .0) (2 ^ 1073) (8 * sps * 2 ^ 1074) (q .2)) h small)
+      (past-start t d C (q .0) (8 * sps) s (q .1) (held-few sps M) (without-half (q .0) (2 ^ 1073) (8 * sps * 2 ^ 1074) (q .2)) h small)
       (within-tenth f (filter-fits kind e (E .fit)) (E .filter-small)))
-    where
-      few : (s : ℕ) → s ≤ 2 ^ 30 → 8 * s ≤ 2 ^ 40
-      few s h = omega arith
-
-      drop : (k h Y : ℕ) → k + h ≤ Y → k ≤ Y
-      drop k h Y p = omega arith
 
 at-most : (x : Float) (p : ℕ) → Units x p → p ≤ elevenTenths → T (le x elevenTenthsF) × T (le x (fin false 1 (pos 1)))
 at-most x p u m = (

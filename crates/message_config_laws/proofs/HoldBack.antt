@@ -1,29 +1,32 @@
 -- Hold-back: of two draws in range, the one at a later or equal time starts at most 32 samples earlier, if it is a reply (`held-at-four`; at other rates 8 * sps samples, `held`). Mode S and Mode A/C in any combination.
 -- The earlier one starts no later than its time rounded up. The later one's delay, divided by 1 + e, is at most 31.5 samples (`clocked-delay`), and times less whole or half samples are values of the format, so rounding does not go below them. Assumes nothing.
 use mathlib.Core.Path.{_≡_, refl, sym, ap, _∙_, subst}
-use mathlib.Core.Logic.{_⊎_, inl, inr}
-use Prim.Native.Nat.{ℕ, suc, _+_, _-_, _*_, _^_, _≤_, _<_, min, zero-le}
-use native.Mathlib.Nat.{le-trans, le-of-eq, le-of-lt, lt-of-lt-of-le, lt-of-le-of-lt, not-le-of-lt, le-of-suc-le-suc, le-antisymm, one-mul, mul-assoc, add-mul, mul-le-mul-right, mul-le-mul-left}
+use mathlib.Core.Logic.{inl, inr}
+use Prim.Native.Nat.{ℕ, _+_, _-_, _*_, _^_, _≤_, _<_, min, zero-le}
+use native.Mathlib.Nat.{le-trans, le-of-eq, le-of-lt, lt-of-lt-of-le, lt-of-le-of-lt, le-of-suc-le-suc, le-antisymm, one-mul, mul-assoc, add-mul, mul-le-mul-right, mul-le-mul-left}
 use native.Mathlib.Omega.{arith}
 use mathlib.Core.Bool.{Bool, true, false, not, true≢false}
-use lib.IntN.{pos}
-use lib.Dec.{T, lit<, lit≤}
+use lib.IntN.{pos, negsuc}
+use lib.Dec.{T, lit≤}
 use lib.Pow.{pow-add, pow-pos, pow-mono}
-use lib.Ieee.{Float, nan, inf, fin, binary64, add, sub, div, lt, le}
+use lib.Ieee.{Float, nan, inf, fin, binary64, add, sub, div, lt, le, fits}
 use lib.Ieee.Digits.{back}
 use lib.Ieee.Scale.{finite}
 use Rattle.constants.specs.Rate.{four, holdBack}
 use Rattle.rounding.proofs.Units.{G, G-ge, Units, lt-units}
 use Rattle.rounding.proofs.More.{Rep}
 use Rattle.float_bits.specs.Ceil.{ceilSigned, upward}
-use Rattle.math.proofs.Size.{Within, le-or-lt}
+use Rattle.float_bits.specs.Range.{within}
+use Rattle.math.proofs.Size.{units-within, le-or-lt}
+use Rattle.math.proofs.InRange.{tests-of-within}
+use Rattle.distributions.specs.Asked.{tenth}
 use Rattle.message.specs.declared.ReplyKind.{ReplyKind}
 use Rattle.message_config.specs.declared.Delays.{Delays}
 use Rattle.message_config.specs.declared.MessageConfig.{MessageConfig}
 use Rattle.message_config.specs.Timing.{one, delayOf, unroundedStart, startOf}
 use Rattle.message_config.specs.Config.{configStart}
-use Rattle.message_config_laws.proofs.InRange.{TimeInRange, DelayInRange, DelaysInRange, ErrorInRange, delay-of, tenthUnits, within-tenth}
-use Rattle.message_config_laws.proofs.Starts.{Counted, counted, finite-reply, clocked-delay, sub-mul, halves, upward-le, upward-mono, upward-ge, upward-gt, upward-lt, start-units, start-negative, at-most-time, later, sooner}
+use Rattle.message_config_laws.proofs.InRange.{TimeInRange, DelayInRange, DelaysInRange, ErrorInRange, delay-of, within-tenth}
+use Rattle.message_config_laws.proofs.Starts.{Counted, counted, finite-reply, clocked-delay, sub-mul, halves, upward-le, upward-mono, upward-ge, upward-gt, upward-lt, start-units, reply-start, start-negative, held-few, without-half, at-most-time, later, sooner}
 
 -- the samples of a time of n units, rounded up
 abbrev N-of : ℕ → ℕ
@@ -117,30 +120,22 @@ module _ (H : ℕ) (some : 1 ≤ H) (few : H ≤ 2 ^ 40) where
     earlier-start s e = elim (le-or-lt k n) [
       | inl h ↦
           cap s (N-of (G (n - k) (2 ^ 1074))) (N-of n) (start-units (sub binary64 t d) (G (n - k) (2 ^ 1074)) s (later t d C k D h) e) (upward-mono (G (n - k) (2 ^ 1074)) (2 ^ 1074) n (pow-pos 1074) (at-most-time t d C k D))
-      | inr l ↦ le-trans (le-of-eq (start-negative (sub binary64 t d) (G (k - n) (2 ^ 1074)) s (sooner t d C k D H few (drop k (2 ^ 1073) (H * 2 ^ 1074) K) l) e .0)) zero-le
+      | inr l ↦ le-trans (le-of-eq (start-negative (sub binary64 t d) (G (k - n) (2 ^ 1074)) s (sooner t d C k D H few (without-half k (2 ^ 1073) (H * 2 ^ 1074) K) l) e .0)) zero-le
     ]
       where
         cap : (s a N : ℕ) → s ≡ min a (2 ^ 63 - 1) → a ≤ N → s ≤ N
         cap s a N e h = omega arith
 
-        drop : (k h Y : ℕ) → k + h ≤ Y → k ≤ Y
-        drop k h Y p = omega arith
-
     -- and, if it is a reply's, at least that less H
     later-start : (s : ℕ) → ceilSigned 63 (sub binary64 t d) ≡ pos s → s < 2 ^ 52 → N-of (C .count) ≤ s + H
     later-start s e S = elim (le-or-lt k n) [
       | inl h ↦
-          let u = start-units (sub binary64 t d) (G (n - k) (2 ^ 1074)) s (later t d C k D h) e in
-          let g = N-of (G (n - k) (2 ^ 1074)) in
-          let same : g ≡ s = uncapped g s u S in
+          let same : N-of (G (n - k) (2 ^ 1074)) ≡ s = reply-start (sub binary64 t d) (G (n - k) (2 ^ 1074)) s (later t d C k D h) e S in
           let L : N-of n ≤ 2 ^ 53 = upward-le n (2 ^ 1074) (2 ^ 53) (pow-pos 1074) (le-of-lt (below-53 n k K (lt-of-le-of-lt (le-of-eq same) S))) in
           elim (le-or-lt (H + 1) (N-of n)) [ inl M ↦ subst (λ (x : ℕ). N-of n ≤ x + H) same (reached n k (C .exact) L K M) | inr l ↦ near (N-of n) s H l ]
       | inr l ↦ le-trans (upward-le n (2 ^ 1074) H (pow-pos 1074) (less n k (2 ^ 1073) (H * 2 ^ 1074) K l)) (more H s)
     ]
       where
-        uncapped : (g s : ℕ) → s ≡ min g (2 ^ 63 - 1) → s < 2 ^ 52 → g ≡ s
-        uncapped g s e h = omega arith
-
         near : (N s H : ℕ) → N < H + 1 → N ≤ s + H
         near N s H h = omega arith
 
@@ -181,15 +176,22 @@ module _ (sps : ℕ) (S : 3 ≤ sps) (M : sps ≤ 2 ^ 30) (delays : Delays) (R :
       let C′ = counted t′ A′ f′ in
       let C = counted t A (not-after-finite t t′ A f′ o) in
       let n-le : C .count ≤ C′ .count = no-more-units t t′ (C .count) (C′ .count) (C .is) (C′ .is) o in
-      le-trans (earlier-start (8 * sps) (some sps S) (few sps M) t d C (q .0) (q .1) (q .2) s p)
+      le-trans (earlier-start (8 * sps) (some sps S) (held-few sps M) t d C (q .0) (q .1) (q .2) s p)
       (le-trans (upward-mono (C .count) (2 ^ 1074) (C′ .count) (pow-pos 1074) n-le)
-      (later-start (8 * sps) (some sps S) (few sps M) t′ d′ C′ (q′ .0) (q′ .1) (q′ .2) s′ p′ small))
+      (later-start (8 * sps) (some sps S) (held-few sps M) t′ d′ C′ (q′ .0) (q′ .1) (q′ .2) s′ p′ small))
     where
       some : (s : ℕ) → 3 ≤ s → 1 ≤ 8 * s
       some s h = omega arith
 
-      few : (s : ℕ) → s ≤ 2 ^ 30 → 8 * s ≤ 2 ^ 40
-      few s h = omega arith
+-- ---- at document 01's rate
+-- a delay divided by 1 + e is at most 31.5 samples
+pub delay-at-most : (d e : Float) → DelayInRange four d → T (fits binary64 e) → T (within e tenth) → T (le (div binary64 d (add binary64 one e)) (fin false 63 (negsuc 0)))
+delay-at-most d e r F t =
+    let q = clocked-delay four (lit≤ tt) (lit≤ tt) d e r (within-tenth e F t) in
+    tests-of-within (div binary64 d (add binary64 one e)) (fin false 63 (negsuc 0)) (63 * 2 ^ 1073) (refl, refl) (units-within (div binary64 d (add binary64 one e)) (q .0) (63 * 2 ^ 1073) (q .1) (less (q .0) (2 ^ 1073) (q .2))) .1
+  where
+    less : (k h : ℕ) → k + h ≤ 64 * h → k ≤ 63 * h
+    less k h p = omega arith
 
 -- of two messages with the filters' delays, at 32 samples
 pub held-at-four : (delays : Delays) → DelaysInRange four delays → (c c′ : MessageConfig) (s s′ : ℕ) → TimeInRange (c .time) → TimeInRange (c′ .time) → ErrorInRange (c .reply .kind) (c .error) → ErrorInRange (c′ .reply .kind) (c′ .error)

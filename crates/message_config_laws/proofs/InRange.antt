@@ -1,18 +1,19 @@
 -- What the theorems of this crate take as in range: a draw's time and clock error, and the filters' delays. Each is what document 01's checks, or the theorem about group delays, gives. Assumes nothing.
-use mathlib.Core.Path.{_≡_, refl, sym, subst}
-use Prim.Native.Nat.{ℕ, _+_, _*_, _^_, _≤_, _<_}
-use native.Mathlib.Nat.{le-trans, le-of-eq, le-of-lt, lt-of-lt-of-le, lt-of-le-of-lt, mul-assoc, mul-le-mul-right, mul-le-mul-left}
+use mathlib.Core.Path.{_≡_, refl, subst}
+use Prim.Native.Nat.{ℕ, _*_, _^_, _≤_, _<_, zero-le}
+use native.Mathlib.Nat.{le-trans, le-of-eq, le-of-lt, lt-of-le-of-lt, zero-mul, mul-le-mul-right, mul-le-mul-left}
 use native.Mathlib.Omega.{arith}
-use mathlib.Core.Bool.{Bool, true, false}
+use mathlib.Core.Bool.{true, false, true≢false}
 use mathlib.Core.List.{List}
-use lib.IntN.{ℤ, pos, negsuc}
+use lib.IntN.{pos, negsuc}
 use lib.Dec.{T, lit≤, lit<}
 use lib.ListN.{length}
-use lib.Ieee.{Float, fin, binary32, binary64, ofBits, neg, lt, le, fits, div, sub, mul, add, ofInt}
+use lib.Ieee.{Float, nan, inf, fin, binary32, binary64, down, ofBits, lt, le, fits, div, mul, add, ofInt}
 use lib.Ieee.Fits.{sub-fits}
-use lib.Ieee.Scale.{overflow, finite}
+use lib.Ieee.Scale.{overflow}
 use Rattle.constants.specs.Rate.{four, tapsPerBranch, prototypeLength}
-use Rattle.rounding.proofs.Units.{G, G-le, Units}
+use Rattle.rounding.proofs.Order.{Signed, fin-le}
+use Rattle.rounding.proofs.Units.{G, G-le, Units, units-of, lt-finite, lt-units}
 use Rattle.rounding.proofs.Val.{Val, val-units}
 use Rattle.float_bits.specs.Range.{within}
 use Rattle.float_bits.proofs.Ranges.{within-finite, within-val}
@@ -39,6 +40,17 @@ pub record TimeInRange (t : Float) : Type 0 where
   pub fit : T (fits binary64 t)
   pub low : T (le zeroF t)
 
+-- so is every time with no minus sign that is no NaN
+pub signed-in-range : (t : Float) → T (fits binary64 t) → Signed t false → TimeInRange t
+signed-in-range t F s = record { fit = F; low = not-below t s }
+  where
+    not-below : (t : Float) → Signed t false → T (le zeroF t)
+    not-below nan s = absurd s
+    not-below (inf false) s = unfold le in tt
+    not-below (inf true) s = absurd (true≢false s)
+    not-below (fin false m e) s = fin-le false 0 (pos 0) false m e (le-trans (le-of-eq (zero-mul (down e))) zero-le)
+    not-below (fin true m e) s = absurd (true≢false s)
+
 -- ---- a delay is from 0 to 7 * sps samples, 28 at document 01's rate, said in units of 2 ^ -1074
 pub record DelayInRange (sps : ℕ) (d : Float) : Type 0 where
   pub count : ℕ
@@ -55,6 +67,12 @@ delay-of sps delays r Short = r .mode-s
 delay-of sps delays r Long = r .mode-s
 delay-of sps delays r ModeAc = r .mode-ac
 
+-- by comparisons, at document 01's rate: at least 0, and below 28
+pub delay-between : (d : Float) → T (fits binary64 d) → T (le zeroF d) → T (lt d (fin false 7 (pos 2))) → DelayInRange four d
+delay-between d F l h =
+    let u = units-of d F l (lt-finite d 7 (pos 2) h) in
+    record { count = u .0; is = u .1; most = le-of-lt (lt-units d 7 (pos 2) (u .0) (28 * 2 ^ 1074) (u .1) refl .0 h) }
+
 -- the group delay that a crossing gives is in range
 pub found-delay : (sps : ℕ) (level : Float) (p : List Float) (d : Float) → 0 < sps → sps ≤ 2 ^ 30 → T (fits binary32 level) → T (lt zeroF level) → Held p → allWithin16 p ≡ true → length p ≤ prototypeLength sps → groupDelay sps level p ≡ At d → DelayInRange sps d
 found-delay sps level p d S few FL z H w h e = let r = delay-below sps level p d S few FL z H w h e in record { count = r .0; is = r .1; most = le-of-lt (r .2) }
@@ -64,15 +82,12 @@ ratio-val : Val modeACRatio false (4658896166245341 * 2 ^ 1022)
 unfolding modeACRatio ofInt div
 ratio-val = (refl, refl)
 
-larger : (a u r : ℕ) → u ≤ r → a * u ≤ a * r
-larger a u r h = mul-le-mul-left a h
-
 pub mode-ac-delay : (sps : ℕ) (d : Float) → sps ≤ 2 ^ 30 → DelayInRange sps d → DelayInRange sps (modeACDelay d)
 unfolding modeACDelay
 mode-ac-delay sps d few r =
     let n = r .count in
     let k = 4658896166245341 * 2 ^ 1022 in
-    let m : G n k ≤ 7 * sps * 2 ^ 1074 = G-le n k (7 * sps) 1074 (lit< tt) (room sps few) (le-trans (mul-le-mul-right (2 ^ 1074) (r .most)) (larger (7 * sps * 2 ^ 1074) (2 ^ 1074) k (lit≤ tt))) in
+    let m : G n k ≤ 7 * sps * 2 ^ 1074 = G-le n k (7 * sps) 1074 (lit< tt) (room sps few) (le-trans (mul-le-mul-right (2 ^ 1074) (r .most)) (mul-le-mul-left (7 * sps * 2 ^ 1074) (lit≤ {m = 2 ^ 1074} {n = k} tt))) in
     record { count = G n k; is = div-units d modeACRatio n k (r .is) (val-units modeACRatio k ratio-val) (lit< tt) (lt-of-le-of-lt m (lt-of-le-of-lt (mul-le-mul-right (2 ^ 1074) (less sps few)) (lit< {m = 2 ^ 40 * 2 ^ 1074} {n = overflow binary64} tt))); most = m }
   where
     room : (s : ℕ) → s ≤ 2 ^ 30 → 7 * s < 2 ^ 53

@@ -1,8 +1,8 @@
 -- No NaN: of a message in range, every number that its configuration comes to is finite, but for the unrounded start at an infinite time, which is infinite (`draw-numbers`). A reply's time, clock phase and first phase are finite too, and its carrier turns by at most PI in a sample, from a phase from -PI to PI (`reply-numbers`).
 -- Assumes nothing.
-use mathlib.Core.Path.{_≡_, refl, sym, ap, _∙_, subst}
-use mathlib.Core.Logic.{_⊎_, inl, inr}
-use Prim.Native.Nat.{ℕ, _+_, _-_, _*_, _^_, _≤_, _<_, min}
+use mathlib.Core.Path.{_≡_, refl, sym, subst}
+use mathlib.Core.Logic.{inl, inr}
+use Prim.Native.Nat.{ℕ, _+_, _-_, _*_, _^_, _≤_, _<_}
 use native.Mathlib.Nat.{le-refl, le-trans, le-of-eq, le-of-lt, lt-of-le-of-lt, mul-le-mul, mul-le-mul-left, mul-le-mul-right}
 use native.Mathlib.Omega.{arith}
 use mathlib.Core.Bool.{Bool, true, false, not}
@@ -19,20 +19,19 @@ use Rattle.rounding.proofs.Val.{Val, mul-val, div-val}
 use Rattle.float_bits.specs.Ceil.{ceilSigned, upward}
 use Rattle.float_bits.specs.Range.{within}
 use Rattle.float_bits.proofs.Ranges.{within-finite, within-val}
-use Rattle.math.specs.Phase.{pi, twoPi, phaseWrap}
+use Rattle.math.specs.Phase.{pi, twoPi}
 use Rattle.math.proofs.Size as Size
 use Rattle.math.proofs.Size.{Within, number, units-within, within-neg, sum-within, le-or-lt, sub-is}
 use Rattle.math.proofs.Constants.{piUnits, twoPiUnits, pi-val, twoPi-val}
 use Rattle.math.proofs.InRange.{Between, within-of-tests, tests-of-within, wrapped-in-range}
 use Rattle.distributions.specs.Asked.{offsetLimit}
-use Rattle.message.specs.declared.ReplyKind.{ReplyKind}
 use Rattle.message_config.specs.declared.Delays.{Delays}
 use Rattle.message_config.specs.declared.MessageConfig.{MessageConfig}
 use Rattle.message_config.specs.Timing.{one, delayOf, unroundedStart, startOf, filterClockError, clockPhase}
 use Rattle.message_config.specs.Carrier.{carrierRate, firstPhase}
 use Rattle.message_config.specs.Config.{configDelay, configStart, configClockError, configClockPhase, configRate, configPhase}
 use Rattle.message_config_laws.proofs.InRange.{TimeInRange, DelaysInRange, ErrorInRange, MessageInRange, delay-of, tenthUnits, within-tenth, filter-fits, offsetUnits, offset-is, offset-val}
-use Rattle.message_config_laws.proofs.Starts.{Counted, counted, finite-reply, clocked-delay, elevenTenths, start-units, later, sooner}
+use Rattle.message_config_laws.proofs.Starts.{Counted, counted, finite-reply, clocked-delay, without-half, reply-start, later, sooner}
 use Rattle.message_config_laws.proofs.HoldBack.{below-53}
 use Rattle.message_config_laws.proofs.FirstClock.{phase-units}
 
@@ -64,12 +63,6 @@ finite-number (inf s) f = tt
 finite-number (fin s m e) f = tt
 
 -- ---- the unrounded start
-few : (s : ℕ) → s ≤ 2 ^ 30 → 8 * s ≤ 2 ^ 40
-few s h = omega arith
-
-shorter : (k h Y : ℕ) → k + h ≤ Y → k ≤ Y
-shorter k h Y p = omega arith
-
 difference-finite : (t d : Float) (k : ℕ) → TimeInRange t → T (finite t) → Units d k → k ≤ 32 * 2 ^ 1074 → T (finite (sub binary64 t d))
 difference-finite t d k A f D K =
     let C = counted t A f in
@@ -139,16 +132,13 @@ reply-time : (t d : Float) (C : Counted t) (k s : ℕ) → Units d k → k + 2 ^
 reply-time t d C k s D K e small = elim (le-or-lt k (C .count)) [
   | inl h ↦
       let g = upward (G (C .count - k) (2 ^ 1074)) (2 ^ 1074) in
-      let same : g < 2 ^ 52 = uncapped g s (start-units (sub binary64 t d) (G (C .count - k) (2 ^ 1074)) s (later t d C k D h) e) small in
-      units-within t (C .count) (2 ^ 53 * 2 ^ 1074) (C .is) (le-of-lt (below-53 32 (lit≤ tt) (lit≤ tt) (C .count) k K same))
-  | inr l ↦ units-within t (C .count) (2 ^ 53 * 2 ^ 1074) (C .is) (le-trans (below (C .count) k (2 ^ 1073) (32 * 2 ^ 1074) K l) (lit≤ {m = 32 * 2 ^ 1074} {n = 2 ^ 53 * 2 ^ 1074} tt))
+      let below : g < 2 ^ 52 = lt-of-le-of-lt (le-of-eq (reply-start (sub binary64 t d) (G (C .count - k) (2 ^ 1074)) s (later t d C k D h) e small)) small in
+      units-within t (C .count) (2 ^ 53 * 2 ^ 1074) (C .is) (le-of-lt (below-53 32 (lit≤ tt) (lit≤ tt) (C .count) k K below))
+  | inr l ↦ units-within t (C .count) (2 ^ 53 * 2 ^ 1074) (C .is) (le-trans (shorter (C .count) k (2 ^ 1073) (32 * 2 ^ 1074) K l) (lit≤ {m = 32 * 2 ^ 1074} {n = 2 ^ 53 * 2 ^ 1074} tt))
 ]
   where
-    uncapped : (g s : ℕ) → s ≡ min g (2 ^ 63 - 1) → s < 2 ^ 52 → g < 2 ^ 52
-    uncapped g s e h = omega arith
-
-    below : (n k h Y : ℕ) → k + h ≤ Y → n < k → n ≤ Y
-    below n k h Y p l = omega arith
+    shorter : (n k h Y : ℕ) → k + h ≤ Y → n < k → n ≤ Y
+    shorter n k h Y p l = omega arith
 
 -- ---- the theorems
 clock-error-finite : (c : MessageConfig) → ErrorInRange (c .reply .kind) (c .error) → T (finite (configClockError c))
@@ -165,7 +155,7 @@ module _ (delays : Delays) (R : DelaysInRange four delays) (c : MessageConfig) (
       let g = delay-of four delays R kind in
       let d = div binary64 (delayOf delays kind) (add binary64 one (c .error)) in
       let q = clocked-delay four (lit≤ tt) (lit≤ tt) (delayOf delays kind) (c .error) g (within-tenth (c .error) (r .error .fit) (r .error .small)) in
-      let ends : T (finite (c .time)) → T (finite (sub binary64 (c .time) d)) = λ f. difference-finite (c .time) d (q .0) (r .time) f (q .1) (shorter (q .0) (2 ^ 1073) (32 * 2 ^ 1074) (q .2)) in
+      let ends : T (finite (c .time)) → T (finite (sub binary64 (c .time) d)) = λ f. difference-finite (c .time) d (q .0) (r .time) f (q .1) (without-half (q .0) (2 ^ 1073) (32 * 2 ^ 1074) (q .2)) in
       record {
         delay = units-finite (delayOf delays kind) (g .count) (g .is);
         unrounded = difference-number (c .time) d (q .0) (r .time) (q .1) ends;

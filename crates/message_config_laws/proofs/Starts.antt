@@ -1,14 +1,13 @@
 -- The parts of a start in units of 2 ^ -1074: 1 + e, the delay divided by it, the difference from a finite time, and its ceiling. Assumes nothing.
 use mathlib.Core.Path.{_≡_, refl, sym, ap, _∙_, subst}
-use mathlib.Core.Logic.{_⊎_, inl, inr}
-use Prim.Native.Nat.{ℕ, zero, suc, _+_, _-_, _*_, _/_, _^_, _≤_, _<_, min, zero-le}
-use native.Mathlib.Nat.{le-trans, le-of-eq, le-of-lt, lt-of-lt-of-le, lt-of-le-of-lt, lt-of-not-le, not-le-of-lt, le-of-suc-le-suc, le-antisymm, one-mul, zero-mul, mul-comm, mul-assoc, mul-right-comm, mul-mul-mul-comm, mul-le-mul-right, mul-le-mul-left, le-of-mul-le-mul-right, mul-sub, div-lt-iff-lt-mul, lt-div-mul-add, div-mul-le-self, sub-le, suc-mul, zero-div}
+use Prim.Native.Nat.{ℕ, zero, suc, _+_, _-_, _*_, _/_, _^_, _≤_, _<_, min}
+use native.Mathlib.Nat.{le-trans, le-of-eq, lt-of-lt-of-le, lt-of-le-of-lt, lt-of-not-le, not-le-of-lt, le-of-suc-le-suc, le-antisymm, one-mul, zero-mul, mul-comm, mul-assoc, mul-right-comm, mul-mul-mul-comm, mul-le-mul-right, mul-le-mul-left, le-of-mul-le-mul-right, mul-sub, div-lt-iff-lt-mul, lt-div-mul-add, div-mul-le-self, sub-le, suc-mul, zero-div}
 use native.Mathlib.Omega.{arith}
 use mathlib.Core.Bool.{Bool, true, false, false≢true}
 use lib.IntN.{ℤ, pos, negsuc, negℤ}
 use lib.Dec.{T, lit<, lit≤}
 use lib.Pow.{pow-pos}
-use lib.Ieee.{Float, nan, inf, fin, binary64, up, down, add, sub, div, lt, le, fits, ofInt}
+use lib.Ieee.{Float, nan, inf, fin, binary64, up, down, add, sub, div, lt, le, ofInt}
 use lib.Ieee.Fits.{down-pos}
 use lib.Ieee.Nearest.{div-same}
 use lib.Ieee.Scale.{overflow, finite}
@@ -84,6 +83,12 @@ quotient-room sps v u S =
   where
     at : (s : ℕ) → 3 ≤ s → 7 * s * 2 * 8192 ≤ (2 * (8 * s) - 1) * 7372
     at s h = omega arith
+
+pub held-few : (sps : ℕ) → sps ≤ 2 ^ 30 → holdBack sps ≤ 2 ^ 40
+held-few sps h = omega arith
+
+pub without-half : (k h Y : ℕ) → k + h ≤ Y → k ≤ Y
+without-half k h Y p = omega arith
 
 pub clocked-delay : (sps : ℕ) → 3 ≤ sps → sps ≤ 2 ^ 30 → (d e : Float) → DelayInRange sps d → Within e tenthUnits → (k : ℕ) × Units (div binary64 d (add binary64 one e)) k × (k + 2 ^ 1073 ≤ holdBack sps * 2 ^ 1074)
 clocked-delay sps S few d e r w =
@@ -183,6 +188,13 @@ isPos (negsuc n) = false
 
 pub start-units : (x : Float) (n s : ℕ) → Units x n → ceilSigned 63 x ≡ pos s → s ≡ min (upward n (2 ^ 1074)) (2 ^ 63 - 1)
 start-units x n s u e = ap sizeOf (sym e ∙ ceil-units x n u)
+
+-- one below 2 ^ 52 is not cut off
+pub reply-start : (x : Float) (n s : ℕ) → Units x n → ceilSigned 63 x ≡ pos s → s < 2 ^ 52 → upward n (2 ^ 1074) ≡ s
+reply-start x n s u e small = uncut (upward n (2 ^ 1074)) s (start-units x n s u e) small
+  where
+    uncut : (g s : ℕ) → s ≡ min g (2 ^ 63 - 1) → s < 2 ^ 52 → g ≡ s
+    uncut g s e h = omega arith
 
 no-size : (m s : ℕ) → negℤ (pos m) ≡ pos s → (m ≡ 0) × (s ≡ 0)
 no-size zero s e = (refl, ap sizeOf (sym e))
