@@ -26,7 +26,7 @@ use Rattle.message_config.specs.declared.MessageConfig.{MessageConfig}
 use Rattle.message_config.specs.Timing.{one, delayOf, unroundedStart, startOf}
 use Rattle.message_config.specs.Config.{configStart}
 use Rattle.message_config_laws.proofs.InRange.{TimeInRange, DelayInRange, DelaysInRange, ErrorInRange, delay-of, within-tenth}
-use Rattle.message_config_laws.proofs.Starts.{Counted, counted, finite-reply, clocked-delay, sub-mul, halves, upward-le, upward-mono, upward-ge, upward-gt, upward-lt, start-units, reply-start, start-negative, held-few, without-half, at-most-time, later, sooner}
+use Rattle.message_config_laws.proofs.Starts.{Counted, counted, finite-reply, clocked-delay, sub-mul, halves, upward-le, upward-mono, upward-ge, upward-gt, upward-lt, start-units, reply-start, start-negative, held-some, held-few, without-half, at-most-time, later, sooner}
 
 -- the samples of a time of n units, rounded up
 abbrev N-of : ℕ → ℕ
@@ -176,12 +176,9 @@ module _ (sps : ℕ) (S : 3 ≤ sps) (M : sps ≤ 2 ^ 30) (delays : Delays) (R :
       let C′ = counted t′ A′ f′ in
       let C = counted t A (not-after-finite t t′ A f′ o) in
       let n-le : C .count ≤ C′ .count = no-more-units t t′ (C .count) (C′ .count) (C .is) (C′ .is) o in
-      le-trans (earlier-start (8 * sps) (some sps S) (held-few sps M) t d C (q .0) (q .1) (q .2) s p)
+      le-trans (earlier-start (8 * sps) (held-some sps S) (held-few sps M) t d C (q .0) (q .1) (q .2) s p)
       (le-trans (upward-mono (C .count) (2 ^ 1074) (C′ .count) (pow-pos 1074) n-le)
-      (later-start (8 * sps) (some sps S) (held-few sps M) t′ d′ C′ (q′ .0) (q′ .1) (q′ .2) s′ p′ small))
-    where
-      some : (s : ℕ) → 3 ≤ s → 1 ≤ 8 * s
-      some s h = omega arith
+      (later-start (8 * sps) (held-some sps S) (held-few sps M) t′ d′ C′ (q′ .0) (q′ .1) (q′ .2) s′ p′ small))
 
 -- ---- at document 01's rate
 -- a delay divided by 1 + e is at most 31.5 samples
