@@ -147,7 +147,7 @@ module _ (H : ℕ) (some : 1 ≤ H) (few : H ≤ 2 ^ 40) where
 
 -- ---- times
 -- a time that is not after a finite one is finite, and no more units
-not-after-finite : (t t′ : Float) → TimeInRange t → T (finite t′) → lt t′ t ≡ false → T (finite t)
+pub not-after-finite : (t t′ : Float) → TimeInRange t → T (finite t′) → lt t′ t ≡ false → T (finite t)
 unfolding le lt
 not-after-finite nan t′ r f h = absurd (r .low)
 not-after-finite (inf true) t′ r f h = absurd (r .low)
@@ -156,7 +156,7 @@ not-after-finite (inf false) (inf u) r f h = absurd f
 not-after-finite (inf false) (fin u m e) r f h = absurd (true≢false h)
 not-after-finite (fin u m e) t′ r f h = tt
 
-no-more-units : (t t′ : Float) (n n′ : ℕ) → Units t n → Units t′ n′ → lt t′ t ≡ false → n ≤ n′
+pub no-more-units : (t t′ : Float) (n n′ : ℕ) → Units t n → Units t′ n′ → lt t′ t ≡ false → n ≤ n′
 no-more-units nan t′ n n′ u w h = absurd u
 no-more-units (inf s) t′ n n′ u w h = absurd u
 no-more-units (fin true m e) t′ n n′ u w h = le-trans (le-of-eq (u .1)) zero-le
