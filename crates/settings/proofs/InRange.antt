@@ -28,7 +28,7 @@ use Rattle.settings.specs.declared.Checked.{Checked}
 use Rattle.settings.specs.declared.Checked.the-variants.{Accepted, Refused}
 use Rattle.settings.specs.Settings.{f64At, askedAt, settingsOf}
 use Rattle.settings.specs.Accepted.{acceptedOf}
-use Rattle.settings.proofs.FirstCause.{Passed, Answered, accepted, answered, at-most}
+use Rattle.settings.proofs.FirstCause.{Passed, Answered, accepted, answered, lasts-for}
 
 -- x is a value of `f64`
 abbrev pub Held : Float → Type 0
@@ -155,7 +155,7 @@ accepted-in-range sps s H n d e = go (subst (Answered sps s) e (answered sps s))
   where
     go : Answered sps s (Accepted n d) → (n ≤ mostSamples) × InRange sps d
     go (accepted P f g h) = (
-      at-most sps (s .seconds) (s .nanoseconds) n (P .lasts),
+      lasts-for sps (s .seconds) (s .nanoseconds) n (P .lasts) .1,
       record {
         carrier = offset-in-range sps (s .carrier) (H .carrier) (d .carrier) f;
         phase = phase-in-range (s .phase) (H .phase) (d .phase) g;
