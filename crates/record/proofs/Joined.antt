@@ -7,7 +7,7 @@ use native.Mathlib.Omega.{arith}
 use lib.ListN.{length, take, drop, length-append}
 use lib.Seq.{take-at, length-take-le}
 use borrow.Author.Tests.{le-leb}
-use Rattle.le_bytes.specs.LeBytes.{inside, laid}
+use Rattle.le_bytes.specs.LeBytes.{laid}
 use Rattle.le_bytes.proofs.RoundTrip.{length-laid, laid-after}
 use Rattle.record.specs.Record.{recordLength, recordAt}
 use Rattle.record.proofs.Laid.{record-there}

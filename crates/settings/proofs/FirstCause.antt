@@ -1,13 +1,11 @@
 -- Refusals 1 to 4 are each given for their cause only, and for the first cause in document 01's order: the answer to settings is one that `Answered` allows (`answered`), and no other (`only`).
 -- So settings with no cause are accepted, and settings with a cause are refused. Assumes nothing.
-use Prim.Native.Nat.{ℕ, _+_, _≤_, _<_}
+use Prim.Native.Nat.{ℕ, _≤_, _<_}
 use mathlib.Core.Path.{_≡_, refl, sym, ap, _∙_, subst}
 use mathlib.Core.Bool.{Bool, true, false, cond}
-use mathlib.Core.List.{List}
 use native.Mathlib.Nat.{zero-add}
 use native.Mathlib.Omega.{arith}
 use lib.Dec.{leb, ltb}
-use lib.Ieee.{Float}
 use borrow.Author.Tests.{ltb-false}
 use Rattle.distributions.specs.Asked.{finiteNotNegative, carrierOffset, carrierPhase, clockError}
 use Rattle.distributions.specs.declared.CarrierOffset.{CarrierOffset}
