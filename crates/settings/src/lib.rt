@@ -1,8 +1,6 @@
 // A run's settings: their 119 bytes, and refusals 1 to 4. Each function is equal to a definition of specs/ on every input. Assumes nothing.
 ghost use mathlib.Core.Path.{_≡_};
-ghost use Rattle.constants.specs.Rate.{four};
-ghost use Rattle.settings.specs.Settings.{settingsOf, ratesAt, askedAt, rateOf};
-ghost use Rattle.settings.specs.Accepted.{firstBadRate, totalOf, totalWrong, distributionsOf, acceptedOf};
+ghost use Rattle.settings.specs.Settings.{rateOf};
 use distributions::Asked;
 use distributions::CarrierOffset;
 use distributions::CarrierPhase;
@@ -42,4 +40,20 @@ pub enum Checked {
     // The run's samples, and its distributions.
     Accepted(u64, Distributions),
     Refused(Refusal),
+}
+
+// The rate of the type with a number; 0.0 for a number that no type has.
+pub fn rate_of(r: MessagesPerSecond, n: u64) -> f64
+    ensures { λ x. ⌜ x ≡ rateOf r n ⌝ }
+{
+    match n {
+        0 => r.extended_squitter,
+        1 => r.acquisition_squitter,
+        2 => r.short_ap,
+        3 => r.all_call_reply,
+        4 => r.long_ap,
+        5 => r.military_extended_squitter,
+        6 => r.mode_ac,
+        _ => 0.0,
+    }
 }
