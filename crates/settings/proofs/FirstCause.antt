@@ -25,6 +25,7 @@ use Rattle.settings.specs.declared.Checked.{Checked}
 use Rattle.settings.specs.declared.Checked.the-variants.{Accepted, Refused}
 use Rattle.settings.specs.Settings.{ratesOf, rateOf}
 use Rattle.settings.specs.Accepted.{firstBadRate, totalOf, totalFits, withClock, withPhase, withOffset, distributionsOf, totalThen, ratesThen, durationThen, acceptedOf}
+use Rattle.settings.proofs.Decided.{duration-refused, duration-passes, rate-refused, total-refused, rates-pass, offset-refused, phase-refused, clock-refused, all-accepted}
 use Rattle.settings.proofs.Rates.{good, Found, found, finds-none, finds}
 
 -- the run has n samples
@@ -52,11 +53,11 @@ pub data Answered (sps : ℕ) (s : Settings) : Checked → Type 0 where
   refused-3 : {n : ℕ} → Lasts sps s n → GoodRates s 7 → goodTotal s ≡ false → Answered sps s (Refused Refusal.Total)
   refused-4-0 : {n : ℕ} → Passed sps s n → carrierOffset sps (s .carrier) ≡ Offset.the-variants.Refused → Answered sps s (Refused (Refusal.Distribution 0))
   refused-4-1 : {n : ℕ} {o : CarrierOffset} → Passed sps s n → carrierOffset sps (s .carrier) ≡ Offset.the-variants.Accepted o
-    → carrierPhase (s .phase) ≡ Phase.the-variants.Refused → Answered sps s (Refused (Refusal.Distribution 1))
+      → carrierPhase (s .phase) ≡ Phase.the-variants.Refused → Answered sps s (Refused (Refusal.Distribution 1))
   refused-4-2 : {n : ℕ} {o : CarrierOffset} {p : CarrierPhase} → Passed sps s n → carrierOffset sps (s .carrier) ≡ Offset.the-variants.Accepted o
-    → carrierPhase (s .phase) ≡ Phase.the-variants.Accepted p → clockError (s .clock) ≡ Clock.the-variants.Refused → Answered sps s (Refused (Refusal.Distribution 2))
+      → carrierPhase (s .phase) ≡ Phase.the-variants.Accepted p → clockError (s .clock) ≡ Clock.the-variants.Refused → Answered sps s (Refused (Refusal.Distribution 2))
   accepted : {n : ℕ} {d : Distributions} → Passed sps s n → carrierOffset sps (s .carrier) ≡ Offset.the-variants.Accepted (d .carrier)
-    → carrierPhase (s .phase) ≡ Phase.the-variants.Accepted (d .phase) → clockError (s .clock) ≡ Clock.the-variants.Accepted (d .clock) → Answered sps s (Accepted n d)
+      → carrierPhase (s .phase) ≡ Phase.the-variants.Accepted (d .phase) → clockError (s .clock) ≡ Clock.the-variants.Accepted (d .clock) → Answered sps s (Accepted n d)
 
 -- ---- for its cause only
 -- a duration is refused with the number 1
@@ -81,13 +82,13 @@ at-most sps a b n = go (leb 1000000000 b) (ltb mostSamples (samplesOf sps a b)) 
 
 module _ (sps : ℕ) (s : Settings) where
   by-clock : (n : ℕ) (o : CarrierOffset) (p : CarrierPhase) → Passed sps s n → carrierOffset sps (s .carrier) ≡ Offset.the-variants.Accepted o
-    → carrierPhase (s .phase) ≡ Phase.the-variants.Accepted p → (a : Clock.ClockAnswer) → clockError (s .clock) ≡ a → Answered sps s (withClock n o p a)
+      → carrierPhase (s .phase) ≡ Phase.the-variants.Accepted p → (a : Clock.ClockAnswer) → clockError (s .clock) ≡ a → Answered sps s (withClock n o p a)
   unfolding withClock
   by-clock n o p P f g (Clock.the-variants.Accepted c) e = accepted P f g e
   by-clock n o p P f g Clock.the-variants.Refused e = refused-4-2 P f g e
 
   by-phase : (n : ℕ) (o : CarrierOffset) → Passed sps s n → carrierOffset sps (s .carrier) ≡ Offset.the-variants.Accepted o
-    → (a : Phase.PhaseAnswer) → carrierPhase (s .phase) ≡ a → Answered sps s (withPhase n o a (clockError (s .clock)))
+      → (a : Phase.PhaseAnswer) → carrierPhase (s .phase) ≡ a → Answered sps s (withPhase n o a (clockError (s .clock)))
   unfolding withPhase
   by-phase n o P f (Phase.the-variants.Accepted p) e = by-clock n o p P f e (clockError (s .clock)) refl
   by-phase n o P f Phase.the-variants.Refused e = refused-4-1 P f e
@@ -116,34 +117,17 @@ module _ (sps : ℕ) (s : Settings) where
   unfolding acceptedOf
   answered = by-duration (durationOf sps (s .seconds) (s .nanoseconds)) refl
 
--- ---- and the first
-  passes : (n : ℕ) → Passed sps s n → acceptedOf sps s ≡ withOffset n (carrierOffset sps (s .carrier)) (carrierPhase (s .phase)) (clockError (s .clock))
-  unfolding acceptedOf durationThen ratesThen totalThen distributionsOf ratesOf
-  passes n P =
-      ap (durationThen sps s) (P .lasts)
-      ∙ ap (totalThen sps n s) (finds-none 0 (ratesOf (s .rates)) (P .rates))
-      ∙ ap (λ (b : Bool). cond b (distributionsOf sps n s) (Refused Refusal.Total)) (P .total)
+  -- ---- and the first
+  passes : (n : ℕ) → Passed sps s n → acceptedOf sps s ≡ distributionsOf sps n s
+  unfolding ratesOf
+  passes n P = duration-passes sps s n (P .lasts) ∙ rates-pass sps n s (finds-none 0 (ratesOf (s .rates)) (P .rates)) (P .total)
 
   pub only : (c : Checked) → Answered sps s c → acceptedOf sps s ≡ c
-  unfolding acceptedOf durationThen ratesThen totalThen withOffset withPhase withClock ratesOf
-  only c (refused-1 e) = ap (durationThen sps s) e
-  only c (refused-2 {k} {n} l h g bad) = ap (durationThen sps s) l ∙ ap (totalThen sps n s) (finds 0 (ratesOf (s .rates)) k h g bad ∙ ap At (zero-add k))
-  only c (refused-3 {n} l g e) =
-      ap (durationThen sps s) l
-      ∙ ap (totalThen sps n s) (finds-none 0 (ratesOf (s .rates)) g)
-      ∙ ap (λ (b : Bool). cond b (distributionsOf sps n s) (Refused Refusal.Total)) e
-  only c (refused-4-0 {n} P e) = passes n P ∙ ap (λ (a : Offset.OffsetAnswer). withOffset n a (carrierPhase (s .phase)) (clockError (s .clock))) e
-  only c (refused-4-1 {n} {o} P f e) =
-      passes n P
-      ∙ ap (λ (a : Offset.OffsetAnswer). withOffset n a (carrierPhase (s .phase)) (clockError (s .clock))) f
-      ∙ ap (λ (a : Phase.PhaseAnswer). withPhase n o a (clockError (s .clock))) e
-  only c (refused-4-2 {n} {o} {p} P f g e) =
-      passes n P
-      ∙ ap (λ (a : Offset.OffsetAnswer). withOffset n a (carrierPhase (s .phase)) (clockError (s .clock))) f
-      ∙ ap (λ (a : Phase.PhaseAnswer). withPhase n o a (clockError (s .clock))) g
-      ∙ ap (withClock n o p) e
-  only c (accepted {n} {d} P f g e) =
-      passes n P
-      ∙ ap (λ (a : Offset.OffsetAnswer). withOffset n a (carrierPhase (s .phase)) (clockError (s .clock))) f
-      ∙ ap (λ (a : Phase.PhaseAnswer). withPhase n (d .carrier) a (clockError (s .clock))) g
-      ∙ ap (withClock n (d .carrier) (d .phase)) e
+  unfolding ratesOf
+  only c (refused-1 e) = duration-refused sps s 1 e
+  only c (refused-2 {k} {n} l h g bad) = duration-passes sps s n l ∙ rate-refused sps n s k (finds 0 (ratesOf (s .rates)) k h g bad ∙ ap At (zero-add k))
+  only c (refused-3 {n} l g e) = duration-passes sps s n l ∙ total-refused sps n s (finds-none 0 (ratesOf (s .rates)) g) e
+  only c (refused-4-0 {n} P e) = passes n P ∙ offset-refused sps n s e
+  only c (refused-4-1 {n} {o} P f e) = passes n P ∙ phase-refused sps n s o f e
+  only c (refused-4-2 {n} {o} {p} P f g e) = passes n P ∙ clock-refused sps n s o f p g e
+  only c (accepted {n} {d} P f g e) = passes n P ∙ all-accepted sps n s (d .carrier) f (d .phase) g (d .clock) e

@@ -1,7 +1,7 @@
 -- The first rate at fault: one turn of the code's search and its end, and what is found (`found`) and what finds it (`finds-none`, `finds`). Assumes nothing.
 use Prim.Native.Nat.{ℕ, zero, suc, _+_, _≤_, _<_}
 use mathlib.Core.Path.{_≡_, refl, sym, ap, _∙_}
-use mathlib.Core.Bool.{Bool, true, false, cond}
+use mathlib.Core.Bool.{Bool, true, false, not, cond}
 use mathlib.Core.List.{List, [], _∷_}
 use native.Mathlib.Nat.{add-zero, add-suc, suc-add}
 use native.Mathlib.Numerals.{add-one}
@@ -12,6 +12,8 @@ use lib.Ieee.{Float, binary64, ofBits}
 use Rattle.distributions.specs.Asked.{finiteNotNegative}
 use Rattle.settings.specs.declared.BadRate.{BadRate}
 use Rattle.settings.specs.declared.BadRate.the-variants.{Nowhere, At}
+use Rattle.settings.specs.declared.MessagesPerSecond.{MessagesPerSecond}
+use Rattle.settings.specs.Settings.{ratesOf}
 use Rattle.settings.specs.Accepted.{firstBadRate}
 
 -- whether rate i is finite and not negative
@@ -32,6 +34,19 @@ module _ (rs : List Float) (k : ℕ) (h : k < length rs) where
   stops g =
       ap (firstBadRate k) (drop-cons rs k (ofBits binary64 0) h) ∙ ap (λ (b : Bool). cond b (firstBadRate (suc k) (drop (suc k) rs)) (At k)) g
 
+pub ends : (r : MessagesPerSecond) (k : ℕ) → k ≡ 7 → firstBadRate k (drop k (ratesOf r)) ≡ Nowhere
+unfolding firstBadRate ratesOf
+ends r k e = ap (λ (n : ℕ). firstBadRate n (drop n (ratesOf r))) e
+
+-- what a negated test says
+pub refuted : (b : Bool) → not b ≡ true → b ≡ false
+refuted true e = sym e
+refuted false e = refl
+
+pub held : (b : Bool) → not b ≡ false → b ≡ true
+held true e = refl
+held false e = sym e
+
 -- ---- what is found
 abbrev pub Found : ℕ → List Float → BadRate → Type 0
 Found k rs Nowhere = (i : ℕ) → i < length rs → good rs i ≡ true
@@ -48,11 +63,11 @@ later k r rs (At j) g (i, e, h, all, bad) = (suc i, e ∙ suc-add k i ∙ sym (a
 pub found : (k : ℕ) (rs : List Float) → Found k rs (firstBadRate k rs)
 unfolding firstBadRate
 found k [] = λ i h. absurd (omega arith)
-found k (r ∷ rs) = go (finiteNotNegative r) refl
+found k (r ∷ rs) = go (finiteNotNegative r) refl (found (suc k) rs)
   where
-    go : (b : Bool) → finiteNotNegative r ≡ b → Found k (r ∷ rs) (cond b (firstBadRate (suc k) rs) (At k))
-    go true g = later k r rs (firstBadRate (suc k) rs) g (found (suc k) rs)
-    go false g = (0, sym (add-zero k), omega arith, (λ m h. absurd (omega arith)), g)
+    go : (b : Bool) → finiteNotNegative r ≡ b → Found (suc k) rs (firstBadRate (suc k) rs) → Found k (r ∷ rs) (cond b (firstBadRate (suc k) rs) (At k))
+    go true g f = later k r rs (firstBadRate (suc k) rs) g f
+    go false g f = (0, sym (add-zero k), omega arith, (λ m h. absurd (omega arith)), g)
 
 -- ---- what finds it
 pub finds-none : (k : ℕ) (rs : List Float) → ((i : ℕ) → i < length rs → good rs i ≡ true) → firstBadRate k rs ≡ Nowhere
