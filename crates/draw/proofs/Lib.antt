@@ -6,3 +6,4 @@ pub mod FirstDraw
 pub mod Bytes
 pub mod Message
 pub mod ClockLimit
+pub mod TapeOrder
