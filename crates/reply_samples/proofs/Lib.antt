@@ -1,0 +1,5 @@
+pub mod Places
+pub mod Turns
+pub mod LateWave
+pub mod Counts
+pub mod Ring
