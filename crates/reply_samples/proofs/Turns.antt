@@ -101,7 +101,7 @@ module _ (value : Clock → Float) (limit : ℕ) (step amplitude rate : Float) w
   again-count e n s s′ whole h i l es inv =
       let es′ : s′ ≡ advance step s = es ∙ in64-idle step s (below (s .index) limit i l) in
       shift n (clockCount (e - (n + 1)) limit step (advance step s)) (clockCount (e - (n + 1)) limit step s′) whole (ap (clockCount (e - (n + 1)) limit step) es′)
-        (ap (λ (t : Bool). n + cond t (suc (clockCount (e - (n + 1)) limit step (advance step s))) 0) (sym (lt-ltb (s .index) limit i)) ∙ ap (λ (f : ℕ). n + clockCount f limit step s) (sym (one-less e n h)) ∙ inv)
+      (ap (λ (t : Bool). n + cond t (suc (clockCount (e - (n + 1)) limit step (advance step s))) 0) (sym (lt-ltb (s .index) limit i)) ∙ ap (λ (f : ℕ). n + clockCount f limit step s) (sym (one-less e n h)) ∙ inv)
     where
       below : (i l : ℕ) → i < l → l ≤ 246 → i < 246
       below i l h k = omega arith
