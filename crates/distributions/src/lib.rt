@@ -52,10 +52,10 @@ fn up_to(x: f64, limit: f64) -> bool
 }
 
 // x is finite and not negative.
-fn finite_not_negative(x: f64) -> bool
+pub fn finite_not_negative(x: f64) -> bool
     ensures { λ r. ⌜ r ≡ finiteNotNegative x ⌝ }
 {
-    if x >= 0.0 {
+    if 0.0 <= x {
         return float_bits::finite(x);
     }
     false

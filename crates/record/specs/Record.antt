@@ -1,9 +1,10 @@
 -- Document 01's record: "Record, 66 bytes: time, cn0, offset, phase, e, f64 each; first sample u64; type u8; count of samples u16; message length u8; 14 bytes, zero filled". Definitions only.
-use Prim.Native.Nat.{ℕ, _%_}
+use Prim.Native.Nat.{ℕ}
 use mathlib.Core.Bool.{cond}
 use mathlib.Core.List.{List, [], _∷_, _++_}
 use lib.Ieee.{Float, binary64, toBits}
 use Rattle.le_bytes.specs.LeBytes.{bytesOf, inside, laid}
+use Rattle.message.specs.declared.Reply.{Reply}
 use Rattle.message.specs.declared.ReplyKind.{ReplyKind}
 use Rattle.message.specs.declared.ReplyKind.the-variants.{Short, Long, ModeAc}
 use Rattle.message_config.specs.declared.MessageConfig.{MessageConfig}
@@ -21,19 +22,17 @@ messageLength ModeAc = 2
 unfoldable pub f64Bytes : Float → List ℕ
 f64Bytes x = bytesOf 8 (toBits binary64 x)
 
+-- "time, cn0, offset, phase, e, f64 each"
+unfoldable pub floatBytes : MessageConfig → List ℕ
+floatBytes c = f64Bytes (c .time) ++ f64Bytes (c .cn0) ++ f64Bytes (c .offset) ++ f64Bytes (c .phase) ++ f64Bytes (c .error)
+
+-- "first sample u64; type u8; count of samples u16; message length u8; 14 bytes, zero filled"
+unfoldable pub otherBytes : Reply → ℕ → ℕ → ℕ → List ℕ
+otherBytes reply first type count = bytesOf 8 first ++ (type ∷ []) ++ bytesOf 2 count ++ (messageLength (reply .kind) ∷ []) ++ reply .bytes
+
 -- the record of a message with its first sample, its type's number and its count of samples
 unfoldable pub recordBytes : MessageConfig → ℕ → ℕ → ℕ → List ℕ
-recordBytes c first type count =
-    f64Bytes (c .time)
-    ++ f64Bytes (c .cn0)
-    ++ f64Bytes (c .offset)
-    ++ f64Bytes (c .phase)
-    ++ f64Bytes (c .error)
-    ++ bytesOf 8 first
-    ++ (type ∷ [])
-    ++ bytesOf 2 count
-    ++ (messageLength (c .reply .kind) ∷ [])
-    ++ c .reply .bytes
+recordBytes c first type count = floatBytes c ++ otherBytes (c .reply) first type count
 
 -- s with a record written from at; s itself where it would run past the end
 unfoldable pub recordAt : List ℕ → ℕ → List ℕ → List ℕ

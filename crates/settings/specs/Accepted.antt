@@ -16,15 +16,16 @@ use Rattle.refusals.specs.declared.Refusal as Refusal
 use Rattle.settings.specs.declared.Settings.{Settings}
 use Rattle.settings.specs.declared.MessagesPerSecond.{MessagesPerSecond}
 use Rattle.settings.specs.declared.Distributions.{Distributions}
+use Rattle.settings.specs.declared.BadRate as BadRate
 use Rattle.settings.specs.declared.Checked as Checked
 use Rattle.settings.specs.Settings.{ratesOf}
 
--- the number of the first rate that is negative or not finite, counted from k, or what comes where there is none
-unfoldable pub firstBadRate : {X : Type 0} → ℕ → List Float → (ℕ → X) → X → X
-firstBadRate k [] bad none = none
-firstBadRate k (r ∷ rs) bad none = cond (finiteNotNegative r) (firstBadRate (suc k) rs bad none) (bad k)
+-- the first rate that is negative or not finite, the rates counted from k
+unfoldable pub firstBadRate : ℕ → List Float → BadRate.BadRate
+firstBadRate k [] = BadRate.the-variants.Nowhere
+firstBadRate k (r ∷ rs) = cond (finiteNotNegative r) (firstBadRate (suc k) rs) (BadRate.the-variants.At k)
 
--- the rates' total, summed in order as the Rust does: from the first on, with no 0.0 before it
+-- the rates' total, summed in order from the first on, as the Rust does
 unfoldable pub sumFrom : Float → List Float → Float
 sumFrom t [] = t
 sumFrom t (r ∷ rs) = sumFrom (add binary64 t r) rs
@@ -53,13 +54,15 @@ withOffset n OffsetAnswer.the-variants.Refused phase clock = Checked.the-variant
 unfoldable pub distributionsOf : ℕ → ℕ → Settings → Checked.Checked
 distributionsOf sps n s = withOffset n (carrierOffset sps (s .carrier)) (carrierPhase (s .phase)) (clockError (s .clock))
 
--- refusals 2 and 3, then 4
-unfoldable pub ratesThen : ℕ → ℕ → Settings → Checked.Checked
-ratesThen sps n s =
-    firstBadRate 0 (ratesOf (s .rates)) (λ k. Checked.the-variants.Refused (Refusal.the-variants.Rate k))
-    (cond (totalFits (totalOf (ratesOf (s .rates)))) (distributionsOf sps n s) (Checked.the-variants.Refused Refusal.the-variants.Total))
+-- refusal 2, with the first rate at fault; then 3; then 4
+unfoldable pub totalThen : ℕ → ℕ → Settings → BadRate.BadRate → Checked.Checked
+totalThen sps n s BadRate.the-variants.Nowhere = cond (totalFits (totalOf (ratesOf (s .rates)))) (distributionsOf sps n s) (Checked.the-variants.Refused Refusal.the-variants.Total)
+totalThen sps n s (BadRate.the-variants.At k) = Checked.the-variants.Refused (Refusal.the-variants.Rate k)
 
--- refusal 1 first
+unfoldable pub ratesThen : ℕ → ℕ → Settings → Checked.Checked
+ratesThen sps n s = totalThen sps n s (firstBadRate 0 (ratesOf (s .rates)))
+
+-- refusal 1, then the others
 unfoldable pub durationThen : ℕ → Settings → Answer → Checked.Checked
 durationThen sps s (samples n) = ratesThen sps n s
 durationThen sps s (refusal k) = Checked.the-variants.Refused Refusal.the-variants.Duration

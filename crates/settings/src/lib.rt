@@ -1,8 +1,10 @@
 // A run's settings: their 119 bytes, and refusals 1 to 4. Each function is equal to a definition of specs/ on every input. Assumes nothing.
 ghost use mathlib.Core.Path.{_≡_};
+ghost use Prim.Native.Nat.{_+_, _≤_};
+ghost use lib.ListN.{length};
 ghost use Rattle.constants.specs.Rate.{four};
-ghost use Rattle.settings.specs.Settings.{settingsOf, ratesAt, askedAt, rateOf};
-ghost use Rattle.settings.specs.Accepted.{firstBadRate, totalOf, totalWrong, distributionsOf, acceptedOf};
+ghost use Rattle.settings.specs.Settings.{f64At, ratesAt, askedAt, settingsOf, ratesOf, rateOf};
+ghost use Rattle.settings.specs.Accepted.{firstBadRate, totalOf, totalFits, distributionsOf, ratesThen, acceptedOf};
 use distributions::Asked;
 use distributions::CarrierOffset;
 use distributions::CarrierPhase;
@@ -10,6 +12,7 @@ use distributions::ClockAnswer;
 use distributions::ClockError;
 use distributions::OffsetAnswer;
 use distributions::PhaseAnswer;
+use duration::InSamples;
 use refusals::Refusal;
 
 // Messages per second for each message type, in the order of the types.
@@ -38,8 +41,177 @@ pub struct Distributions {
     pub clock: ClockError,
 }
 
+// The first rate that is negative or not finite, or that there is none.
+pub enum BadRate {
+    Nowhere,
+    At(u64),
+}
+
 pub enum Checked {
     // The run's samples, and its distributions.
     Accepted(u64, Distributions),
     Refused(Refusal),
+}
+
+fn float_at(s: &[u8], at: usize) -> f64
+    requires { ⌜ at + 8 ≤ length (now s) ⌝ }
+    ensures { λ r. ⌜ r ≡ f64At (now (s .entry)) at ⌝ }
+{
+    le_floats::f64_at(s, at)
+}
+
+fn rates_at(s: &[u8], at: usize) -> MessagesPerSecond
+    requires { ⌜ at + 56 ≤ length (now s) ⌝ }
+    ensures { λ r. ⌜ r ≡ ratesAt (now (s .entry)) at ⌝ }
+{
+    MessagesPerSecond {
+        extended_squitter: float_at(s, at),
+        acquisition_squitter: float_at(s, at + 8),
+        short_ap: float_at(s, at + 16),
+        all_call_reply: float_at(s, at + 24),
+        long_ap: float_at(s, at + 32),
+        military_extended_squitter: float_at(s, at + 40),
+        mode_ac: float_at(s, at + 48),
+    }
+}
+
+fn asked_at(s: &[u8], at: usize) -> Asked
+    requires { ⌜ at + 17 ≤ length (now s) ⌝ }
+    ensures { λ r. ⌜ r ≡ askedAt (now (s .entry)) at ⌝ }
+{
+    Asked {
+        kind: s[at],
+        first: float_at(s, at + 1),
+        second: float_at(s, at + 9),
+    }
+}
+
+// The settings that 119 bytes hold.
+pub fn read(s: &[u8; 119]) -> Settings
+    ensures { λ r. ⌜ r ≡ settingsOf (now (s .entry)) ⌝ }
+{
+    let rates = rates_at(s, 12);
+    let carrier = asked_at(s, 68);
+    let phase = asked_at(s, 85);
+    let clock = asked_at(s, 102);
+    Settings {
+        seconds: le_bytes::u64_at(s, 0),
+        nanoseconds: le_bytes::u32_at(s, 8),
+        rates: rates,
+        carrier: carrier,
+        phase: phase,
+        clock: clock,
+    }
+}
+
+// The rate of the type with a number; 0.0 for a number that no type has.
+pub fn rate_of(r: MessagesPerSecond, n: u64) -> f64
+    ensures { λ x. ⌜ x ≡ rateOf r n ⌝ }
+{
+    if n == 0 {
+        return r.extended_squitter;
+    }
+    if n == 1 {
+        return r.acquisition_squitter;
+    }
+    if n == 2 {
+        return r.short_ap;
+    }
+    if n == 3 {
+        return r.all_call_reply;
+    }
+    if n == 4 {
+        return r.long_ap;
+    }
+    if n == 5 {
+        return r.military_extended_squitter;
+    }
+    if n == 6 {
+        return r.mode_ac;
+    }
+    0.0
+}
+
+fn first_bad_rate(rates: MessagesPerSecond) -> BadRate
+    ensures { λ r. ⌜ r ≡ firstBadRate 0 (ratesOf rates) ⌝ }
+{
+    let mut k: u64 = 0;
+    while k < 7 {
+        if !distributions::finite_not_negative(rate_of(rates, k)) {
+            return BadRate::At(k);
+        }
+        k = k + 1;
+    }
+    BadRate::Nowhere
+}
+
+fn total_of(r: MessagesPerSecond) -> f64
+    ensures { λ x. ⌜ x ≡ totalOf (ratesOf r) ⌝ }
+{
+    r.extended_squitter
+        + r.acquisition_squitter
+        + r.short_ap
+        + r.all_call_reply
+        + r.long_ap
+        + r.military_extended_squitter
+        + r.mode_ac
+}
+
+fn total_fits(total: f64) -> bool
+    ensures { λ r. ⌜ r ≡ totalFits total ⌝ }
+{
+    if 0.0 < total {
+        return float_bits::finite(total);
+    }
+    false
+}
+
+// Refusal 4, or the run's samples and its distributions.
+fn check_distributions(n: u64, s: Settings) -> Checked
+    ensures { λ r. ⌜ r ≡ distributionsOf four n s ⌝ }
+{
+    let a = s.carrier;
+    let b = s.phase;
+    let e = s.clock;
+    let OffsetAnswer::Accepted(carrier) = distributions::carrier_offset(a) else {
+        return Checked::Refused(Refusal::Distribution(0));
+    };
+    let PhaseAnswer::Accepted(phase) = distributions::carrier_phase(b) else {
+        return Checked::Refused(Refusal::Distribution(1));
+    };
+    let ClockAnswer::Accepted(clock) = distributions::clock_error(e) else {
+        return Checked::Refused(Refusal::Distribution(2));
+    };
+    Checked::Accepted(
+        n,
+        Distributions {
+            carrier: carrier,
+            phase: phase,
+            clock: clock,
+        },
+    )
+}
+
+// Refusals 2 and 3, then 4.
+fn check_rates(n: u64, s: Settings) -> Checked
+    ensures { λ r. ⌜ r ≡ ratesThen four n s ⌝ }
+{
+    let rates = s.rates;
+    if let BadRate::At(k) = first_bad_rate(rates) {
+        return Checked::Refused(Refusal::Rate(k));
+    }
+    if total_fits(total_of(rates)) {
+        return check_distributions(n, s);
+    }
+    Checked::Refused(Refusal::Total)
+}
+
+// Refusals 1 to 4, in that order, or the run's samples and its distributions.
+pub fn check(s: Settings) -> Checked
+    ensures { λ r. ⌜ r ≡ acceptedOf four s ⌝ }
+{
+    let InSamples::Samples(n) = duration::duration_as_samples(s.seconds, s.nanoseconds) else {
+        return Checked::Refused(Refusal::Duration);
+    };
+    check_rates(n, s)
 }

@@ -1,0 +1,73 @@
+-- What each test of settings decides: which answer of the definitions it gives. Assumes nothing.
+use Prim.Native.Nat.{ℕ}
+use mathlib.Core.Path.{_≡_, ap, _∙_}
+use mathlib.Core.Bool.{Bool, true, false, cond}
+use Rattle.distributions.specs.Asked.{carrierOffset, carrierPhase, clockError}
+use Rattle.distributions.specs.declared.CarrierOffset.{CarrierOffset}
+use Rattle.distributions.specs.declared.CarrierPhase.{CarrierPhase}
+use Rattle.distributions.specs.declared.ClockError.{ClockError}
+use Rattle.distributions.specs.declared.OffsetAnswer as Offset
+use Rattle.distributions.specs.declared.PhaseAnswer as Phase
+use Rattle.distributions.specs.declared.ClockAnswer as Clock
+use Rattle.duration.specs.Duration.{samples, refusal, durationOf}
+use Rattle.refusals.specs.declared.Refusal.the-variants as Refusal
+use Rattle.settings.specs.declared.Settings.{Settings}
+use Rattle.settings.specs.declared.BadRate.the-variants.{Nowhere, At}
+use Rattle.settings.specs.declared.Checked.the-variants.{Accepted, Refused}
+use Rattle.settings.specs.Settings.{ratesOf}
+use Rattle.settings.specs.Accepted.{firstBadRate, totalOf, totalFits, withClock, withPhase, withOffset, distributionsOf, totalThen, ratesThen, durationThen, acceptedOf}
+
+module _ (sps : ℕ) (s : Settings) where
+  pub duration-refused : (k : ℕ) → durationOf sps (s .seconds) (s .nanoseconds) ≡ refusal k → acceptedOf sps s ≡ Refused Refusal.Duration
+  unfolding acceptedOf durationThen
+  duration-refused k e = ap (durationThen sps s) e
+
+  pub duration-passes : (n : ℕ) → durationOf sps (s .seconds) (s .nanoseconds) ≡ samples n → acceptedOf sps s ≡ ratesThen sps n s
+  unfolding acceptedOf durationThen
+  duration-passes n e = ap (durationThen sps s) e
+
+module _ (sps n : ℕ) (s : Settings) where
+  pub rate-refused : (k : ℕ) → firstBadRate 0 (ratesOf (s .rates)) ≡ At k → ratesThen sps n s ≡ Refused (Refusal.Rate k)
+  unfolding ratesThen totalThen
+  rate-refused k e = ap (totalThen sps n s) e
+
+  by-total : (b : Bool) → firstBadRate 0 (ratesOf (s .rates)) ≡ Nowhere → totalFits (totalOf (ratesOf (s .rates))) ≡ b
+    → ratesThen sps n s ≡ cond b (distributionsOf sps n s) (Refused Refusal.Total)
+  unfolding ratesThen totalThen
+  by-total b e t = ap (totalThen sps n s) e ∙ ap (λ (x : Bool). cond x (distributionsOf sps n s) (Refused Refusal.Total)) t
+
+  pub total-refused : firstBadRate 0 (ratesOf (s .rates)) ≡ Nowhere → totalFits (totalOf (ratesOf (s .rates))) ≡ false → ratesThen sps n s ≡ Refused Refusal.Total
+  total-refused = by-total false
+
+  pub rates-pass : firstBadRate 0 (ratesOf (s .rates)) ≡ Nowhere → totalFits (totalOf (ratesOf (s .rates))) ≡ true → ratesThen sps n s ≡ distributionsOf sps n s
+  rates-pass = by-total true
+
+  by-offset : (a : Offset.OffsetAnswer) → carrierOffset sps (s .carrier) ≡ a → distributionsOf sps n s ≡ withOffset n a (carrierPhase (s .phase)) (clockError (s .clock))
+  unfolding distributionsOf
+  by-offset a = ap (λ (x : Offset.OffsetAnswer). withOffset n x (carrierPhase (s .phase)) (clockError (s .clock)))
+
+  pub offset-refused : carrierOffset sps (s .carrier) ≡ Offset.the-variants.Refused → distributionsOf sps n s ≡ Refused (Refusal.Distribution 0)
+  unfolding withOffset
+  offset-refused = by-offset Offset.the-variants.Refused
+
+  module _ (o : CarrierOffset) (f : carrierOffset sps (s .carrier) ≡ Offset.the-variants.Accepted o) where
+    by-phase : (a : Phase.PhaseAnswer) → carrierPhase (s .phase) ≡ a → distributionsOf sps n s ≡ withPhase n o a (clockError (s .clock))
+    unfolding withOffset
+    by-phase a g = by-offset (Offset.the-variants.Accepted o) f ∙ ap (λ (x : Phase.PhaseAnswer). withPhase n o x (clockError (s .clock))) g
+
+    pub phase-refused : carrierPhase (s .phase) ≡ Phase.the-variants.Refused → distributionsOf sps n s ≡ Refused (Refusal.Distribution 1)
+    unfolding withPhase
+    phase-refused = by-phase Phase.the-variants.Refused
+
+    module _ (p : CarrierPhase) (g : carrierPhase (s .phase) ≡ Phase.the-variants.Accepted p) where
+      by-clock : (a : Clock.ClockAnswer) → clockError (s .clock) ≡ a → distributionsOf sps n s ≡ withClock n o p a
+      unfolding withPhase
+      by-clock a h = by-phase (Phase.the-variants.Accepted p) g ∙ ap (withClock n o p) h
+
+      pub clock-refused : clockError (s .clock) ≡ Clock.the-variants.Refused → distributionsOf sps n s ≡ Refused (Refusal.Distribution 2)
+      unfolding withClock
+      clock-refused = by-clock Clock.the-variants.Refused
+
+      pub all-accepted : (c : ClockError) → clockError (s .clock) ≡ Clock.the-variants.Accepted c → distributionsOf sps n s ≡ Accepted n (record { carrier = o; phase = p; clock = c })
+      unfolding withClock
+      all-accepted c = by-clock (Clock.the-variants.Accepted c)

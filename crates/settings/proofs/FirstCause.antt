@@ -1,0 +1,133 @@
+-- Refusals 1 to 4 are each given for their cause only, and for the first cause in document 01's order: the answer to settings is one that `Answered` allows (`answered`), and no other (`only`).
+-- So settings with no cause are accepted (`accepted`), and settings with a cause are not. Assumes nothing.
+use Prim.Native.Nat.{ℕ, _+_, _≤_, _<_}
+use mathlib.Core.Path.{_≡_, refl, sym, ap, _∙_, subst}
+use mathlib.Core.Bool.{Bool, true, false, cond}
+use mathlib.Core.List.{List}
+use native.Mathlib.Nat.{zero-add}
+use native.Mathlib.Omega.{arith}
+use lib.Dec.{leb, ltb}
+use lib.Ieee.{Float}
+use borrow.Author.Tests.{ltb-false}
+use Rattle.distributions.specs.Asked.{carrierOffset, carrierPhase, clockError}
+use Rattle.distributions.specs.declared.CarrierOffset.{CarrierOffset}
+use Rattle.distributions.specs.declared.CarrierPhase.{CarrierPhase}
+use Rattle.distributions.specs.declared.OffsetAnswer as Offset
+use Rattle.distributions.specs.declared.PhaseAnswer as Phase
+use Rattle.distributions.specs.declared.ClockAnswer as Clock
+use Rattle.duration.specs.Duration.{Answer, samples, refusal, pick, samplesOf, mostSamples, durationOf}
+use Rattle.refusals.specs.declared.Refusal.the-variants as Refusal
+use Rattle.settings.specs.declared.Settings.{Settings}
+use Rattle.settings.specs.declared.Distributions.{Distributions}
+use Rattle.settings.specs.declared.BadRate.{BadRate}
+use Rattle.settings.specs.declared.BadRate.the-variants.{Nowhere, At}
+use Rattle.settings.specs.declared.Checked.{Checked}
+use Rattle.settings.specs.declared.Checked.the-variants.{Accepted, Refused}
+use Rattle.settings.specs.Settings.{ratesOf, rateOf}
+use Rattle.settings.specs.Accepted.{firstBadRate, totalOf, totalFits, withClock, withPhase, withOffset, distributionsOf, totalThen, ratesThen, durationThen, acceptedOf}
+use Rattle.settings.proofs.Decided.{duration-refused, duration-passes, rate-refused, total-refused, rates-pass, offset-refused, phase-refused, clock-refused, all-accepted}
+use Rattle.settings.proofs.Rates.{good, Found, found, finds-none, finds}
+
+-- the run has n samples
+abbrev pub Lasts : ℕ → Settings → ℕ → Type 0
+Lasts sps s n = durationOf sps (s .seconds) (s .nanoseconds) ≡ samples n
+
+-- the first k rates are finite and not negative
+abbrev pub GoodRates : Settings → ℕ → Type 0
+GoodRates s k = (i : ℕ) → i < k → good (ratesOf (s .rates)) i ≡ true
+
+-- whether the rates' total is above 0 and finite
+abbrev pub goodTotal : Settings → Bool
+goodTotal s = totalFits (totalOf (ratesOf (s .rates)))
+
+-- refusals 1, 2 and 3 do not apply: the run has n samples, and its rates and their total are good
+pub record Passed (sps : ℕ) (s : Settings) (n : ℕ) : Type 0 where
+  pub lasts : Lasts sps s n
+  pub rates : GoodRates s 7
+  pub total : goodTotal s ≡ true
+
+-- which answer is right
+pub data Answered (sps : ℕ) (s : Settings) : Checked → Type 0 where
+  refused-1 : durationOf sps (s .seconds) (s .nanoseconds) ≡ refusal 1 → Answered sps s (Refused Refusal.Duration)
+  refused-2 : {k n : ℕ} → Lasts sps s n → k < 7 → GoodRates s k → good (ratesOf (s .rates)) k ≡ false → Answered sps s (Refused (Refusal.Rate k))
+  refused-3 : {n : ℕ} → Lasts sps s n → GoodRates s 7 → goodTotal s ≡ false → Answered sps s (Refused Refusal.Total)
+  refused-4-0 : {n : ℕ} → Passed sps s n → carrierOffset sps (s .carrier) ≡ Offset.the-variants.Refused → Answered sps s (Refused (Refusal.Distribution 0))
+  refused-4-1 : {n : ℕ} {o : CarrierOffset} → Passed sps s n → carrierOffset sps (s .carrier) ≡ Offset.the-variants.Accepted o
+    → carrierPhase (s .phase) ≡ Phase.the-variants.Refused → Answered sps s (Refused (Refusal.Distribution 1))
+  refused-4-2 : {n : ℕ} {o : CarrierOffset} {p : CarrierPhase} → Passed sps s n → carrierOffset sps (s .carrier) ≡ Offset.the-variants.Accepted o
+    → carrierPhase (s .phase) ≡ Phase.the-variants.Accepted p → clockError (s .clock) ≡ Clock.the-variants.Refused → Answered sps s (Refused (Refusal.Distribution 2))
+  accepted : {n : ℕ} {d : Distributions} → Passed sps s n → carrierOffset sps (s .carrier) ≡ Offset.the-variants.Accepted (d .carrier)
+    → carrierPhase (s .phase) ≡ Phase.the-variants.Accepted (d .phase) → clockError (s .clock) ≡ Clock.the-variants.Accepted (d .clock) → Answered sps s (Accepted n d)
+
+-- ---- for its cause only
+-- a duration is refused with the number 1
+number-1 : (sps a b k : ℕ) → durationOf sps a b ≡ refusal k → k ≡ 1
+unfolding durationOf
+number-1 sps a b k = go (leb 1000000000 b) (ltb mostSamples (samplesOf sps a b)) (samplesOf sps a b)
+  where
+    go : (x y : Bool) (m : ℕ) → pick x (refusal 1) (pick y (refusal 1) (samples m)) ≡ refusal k → k ≡ 1
+    go true y m e = cc
+    go false true m e = cc
+    go false false m e = cc
+
+-- and accepted with at most 2^52 samples
+pub at-most : (sps a b n : ℕ) → durationOf sps a b ≡ samples n → n ≤ mostSamples
+unfolding durationOf
+at-most sps a b n = go (leb 1000000000 b) (ltb mostSamples (samplesOf sps a b)) (samplesOf sps a b) refl
+  where
+    go : (x y : Bool) (m : ℕ) → ltb mostSamples m ≡ y → pick x (refusal 1) (pick y (refusal 1) (samples m)) ≡ samples n → n ≤ mostSamples
+    go true y m t e = let z : _≡_ {A = ℕ} 0 1 = cc in absurd (omega arith)
+    go false true m t e = let z : _≡_ {A = ℕ} 0 1 = cc in absurd (omega arith)
+    go false false m t e = let f : n ≡ m = cc in omega (arith, ltb-false mostSamples m t)
+
+module _ (sps : ℕ) (s : Settings) where
+  by-clock : (n : ℕ) (o : CarrierOffset) (p : CarrierPhase) → Passed sps s n → carrierOffset sps (s .carrier) ≡ Offset.the-variants.Accepted o
+    → carrierPhase (s .phase) ≡ Phase.the-variants.Accepted p → (a : Clock.ClockAnswer) → clockError (s .clock) ≡ a → Answered sps s (withClock n o p a)
+  unfolding withClock
+  by-clock n o p P f g (Clock.the-variants.Accepted c) e = accepted P f g e
+  by-clock n o p P f g Clock.the-variants.Refused e = refused-4-2 P f g e
+
+  by-phase : (n : ℕ) (o : CarrierOffset) → Passed sps s n → carrierOffset sps (s .carrier) ≡ Offset.the-variants.Accepted o
+    → (a : Phase.PhaseAnswer) → carrierPhase (s .phase) ≡ a → Answered sps s (withPhase n o a (clockError (s .clock)))
+  unfolding withPhase
+  by-phase n o P f (Phase.the-variants.Accepted p) e = by-clock n o p P f e (clockError (s .clock)) refl
+  by-phase n o P f Phase.the-variants.Refused e = refused-4-1 P f e
+
+  by-offset : (n : ℕ) → Passed sps s n → (a : Offset.OffsetAnswer) → carrierOffset sps (s .carrier) ≡ a → Answered sps s (withOffset n a (carrierPhase (s .phase)) (clockError (s .clock)))
+  unfolding withOffset
+  by-offset n P (Offset.the-variants.Accepted o) e = by-phase n o P e (carrierPhase (s .phase)) refl
+  by-offset n P Offset.the-variants.Refused e = refused-4-0 P e
+
+  by-total : (n : ℕ) → Lasts sps s n → GoodRates s 7 → (b : Bool) → goodTotal s ≡ b → Answered sps s (cond b (distributionsOf sps n s) (Refused Refusal.Total))
+  unfolding distributionsOf
+  by-total n l g true e = by-offset n (record { lasts = l; rates = g; total = e }) (carrierOffset sps (s .carrier)) refl
+  by-total n l g false e = refused-3 l g e
+
+  by-rates : (n : ℕ) → Lasts sps s n → (b : BadRate) → Found 0 (ratesOf (s .rates)) b → Answered sps s (totalThen sps n s b)
+  unfolding totalThen ratesOf
+  by-rates n l Nowhere g = by-total n l g (goodTotal s) refl
+  by-rates n l (At j) (i, e, h, g, bad) = subst (λ (k : ℕ). Answered sps s (Refused (Refusal.Rate k))) (sym (e ∙ zero-add i)) (refused-2 l h g bad)
+
+  by-duration : (a : Answer) → durationOf sps (s .seconds) (s .nanoseconds) ≡ a → Answered sps s (durationThen sps s a)
+  unfolding durationThen ratesThen
+  by-duration (samples n) e = by-rates n e (firstBadRate 0 (ratesOf (s .rates))) (found 0 (ratesOf (s .rates)))
+  by-duration (refusal k) e = refused-1 (e ∙ ap refusal (number-1 sps (s .seconds) (s .nanoseconds) k e))
+
+  pub answered : Answered sps s (acceptedOf sps s)
+  unfolding acceptedOf
+  answered = by-duration (durationOf sps (s .seconds) (s .nanoseconds)) refl
+
+-- ---- and the first
+  passes : (n : ℕ) → Passed sps s n → acceptedOf sps s ≡ distributionsOf sps n s
+  unfolding ratesOf
+  passes n P = duration-passes sps s n (P .lasts) ∙ rates-pass sps n s (finds-none 0 (ratesOf (s .rates)) (P .rates)) (P .total)
+
+  pub only : (c : Checked) → Answered sps s c → acceptedOf sps s ≡ c
+  unfolding ratesOf
+  only c (refused-1 e) = duration-refused sps s 1 e
+  only c (refused-2 {k} {n} l h g bad) = duration-passes sps s n l ∙ rate-refused sps n s k (finds 0 (ratesOf (s .rates)) k h g bad ∙ ap At (zero-add k))
+  only c (refused-3 {n} l g e) = duration-passes sps s n l ∙ total-refused sps n s (finds-none 0 (ratesOf (s .rates)) g) e
+  only c (refused-4-0 {n} P e) = passes n P ∙ offset-refused sps n s e
+  only c (refused-4-1 {n} {o} P f e) = passes n P ∙ phase-refused sps n s o f e
+  only c (refused-4-2 {n} {o} {p} P f g e) = passes n P ∙ clock-refused sps n s o f p g e
+  only c (accepted {n} {d} P f g e) = passes n P ∙ all-accepted sps n s (d .carrier) f (d .phase) g (d .clock) e

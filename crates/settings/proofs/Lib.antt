@@ -1,0 +1,5 @@
+pub mod Inside
+pub mod Rates
+pub mod Decided
+pub mod FirstCause
+pub mod InRange

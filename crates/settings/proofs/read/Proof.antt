@@ -1,0 +1,44 @@
+-- `settings::read` meets its contract. Assumes nothing.
+use borrow.Author.Needs.{needs}
+use lib.ListN.{length}
+use Prim.Native.Nat.{_+_, _≤_}
+use Rattle.settings.specs.Settings.{settingsOf}
+use Rattle.settings.proofs.Inside.{number-there}
+use Rattle.settings.proofs.read.Statement.{statement}
+use Rattle.settings.proofs.read.Tie as tie
+
+rates-at-requires : tie.Need-rates-at-requires
+rates-at-requires c κs = search needs
+
+asked-at-requires : tie.Need-asked-at-requires
+asked-at-requires c κs = search needs
+
+asked-at-requires-2 : tie.Need-asked-at-requires-2
+asked-at-requires-2 c κs = search needs
+
+asked-at-requires-3 : tie.Need-asked-at-requires-3
+asked-at-requires-3 c κs = search needs
+
+u64-at-requires : tie.Need-u64-at-requires
+u64-at-requires c κs = search needs
+
+u32-at-requires : tie.Need-u32-at-requires
+u32-at-requires c κs = search needs
+
+returns : tie.Need-returns
+unfolding settingsOf
+returns c = 
+    let s = c .before .before .before .before .before .before .before .before .before .before .before .before .args .s .now in
+    cc (number-there 8 s 0 (search needs), number-there 4 s 8 (search needs))
+
+pub read-spec : {M : Type 1} → statement M
+read-spec =
+    tie.close
+    (tie.spec
+    rates-at-requires
+    asked-at-requires
+    asked-at-requires-2
+    asked-at-requires-3
+    u64-at-requires
+    u32-at-requires
+    returns)
