@@ -1,37 +1,36 @@
 -- Document 01's draw, read from its 65 bytes: "gap f64; type u8; cn0 f64; amplitude f32; carrier draw f64; phase draw f64; clock draw f64; DF pick, CA pick, overlay, u8 each; 14 bytes; Mode A/C data u16; SPI u8". Definitions only.
-use Prim.Native.Nat.{ℕ, _+_}
-use mathlib.Core.List.{List}
-use lib.ListN.{getD, take, drop}
+use Prim.Native.Nat.{ℕ, zero, suc, _+_}
+use mathlib.Core.List.{List, [], _∷_}
+use lib.ListN.{getD}
 use lib.Ieee.{Float, binary32, binary64, ofBits}
-use Rattle.le_bytes.specs.LeBytes.{leAt}
+use Rattle.le_bytes.specs.LeBytes.{numberAt}
 use Rattle.message.specs.declared.Picks.{Picks}
 use Rattle.draw.specs.declared.Draw.{Draw}
 
 -- the bytes of a draw
-abbrev pub drawBytes : ℕ
-drawBytes = 65
+abbrev pub drawLength : ℕ
+drawLength = 65
 
 abbrev pub f64At : List ℕ → ℕ → Float
-f64At s at = ofBits binary64 (leAt 8 s at)
+f64At s at = ofBits binary64 (numberAt 8 s at)
 
-unfoldable pub picksOf : List ℕ → Picks
-picksOf s = record {
-  format = getD s 45 0;
-  capability = getD s 46 0;
-  overlay = getD s 47 0;
-  bytes = take 14 (drop 48 s);
-  «data» = leAt 2 s 62;
-  spi = getD s 64 0;
-}
+-- n bytes from at on
+unfoldable pub bytesAt : List ℕ → ℕ → ℕ → List ℕ
+bytesAt s at zero = []
+bytesAt s at (suc n) = getD s at 0 ∷ bytesAt s (at + 1) n
 
-unfoldable pub drawOf : List ℕ → Draw
-drawOf s = record {
+unfoldable pub picksAt : List ℕ → Picks
+picksAt s = record { format = getD s 45 0; capability = getD s 46 0; overlay = getD s 47 0; bytes = bytesAt s 48 14; «data» = numberAt 2 s 62; spi = getD s 64 0 }
+
+-- the draw at the start of bytes, of which there are 65 or more
+unfoldable pub drawAt : List ℕ → Draw
+drawAt s = record {
   gap = f64At s 0;
   kind = getD s 8 0;
   cn0 = f64At s 9;
-  amplitude = ofBits binary32 (leAt 4 s 17);
+  amplitude = ofBits binary32 (numberAt 4 s 17);
   carrier = f64At s 21;
   phase = f64At s 29;
   clock = f64At s 37;
-  picks = picksOf s;
+  picks = picksAt s;
 }

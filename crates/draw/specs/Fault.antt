@@ -21,7 +21,7 @@ use Rattle.settings.specs.declared.MessagesPerSecond.{MessagesPerSecond}
 use Rattle.settings.specs.Settings.{rateOf}
 use Rattle.draw.specs.declared.Draw.{Draw}
 use Rattle.draw.specs.declared.Fault as Fault
-use Rattle.draw.specs.Draw.{drawBytes, drawOf}
+use Rattle.draw.specs.Draw.{drawLength, drawAt}
 
 -- "type u8 0..6, its rate above 0"
 unfoldable pub typeFits : MessagesPerSecond → ℕ → Bool
@@ -36,13 +36,20 @@ unfoldable pub modeACLimit : ℕ → Float → Bool
 modeACLimit kind e = cond (eqb kind 6) (within (filterClockError ModeAc e) tenth) true
 
 -- "clock draw f64, within max in size"; the Mode A/C limit on e is reported as the clock draw
-unfoldable pub clockFits : Distributions → Draw → Bool
-clockFits all d = clockDrawFits (all .clock) (d .clock) && modeACLimit (d .kind) (errorOf (all .clock) (d .clock))
+unfoldable pub clockFits : Distributions → ℕ → Float → Bool
+clockFits all kind draw = clockDrawFits (all .clock) draw && modeACLimit kind (errorOf (all .clock) draw)
 
 -- fields 7 to 12
 unfoldable pub messageFault : TypeFound.TypeFound → Draw → Field
 messageFault (TypeFound.the-variants.Of t) d = fieldFault t (d .picks)
 messageFault TypeFound.the-variants.Unknown d = Fine
+
+-- fields 4 to 12
+unfoldable pub parameterFault : Distributions → Draw → Field
+parameterFault all d =
+    checked 4 (offsetDrawFits (all .carrier) (d .carrier))
+    (checked 5 (phaseDrawFits (all .phase) (d .phase))
+    (checked 6 (clockFits all (d .kind) (d .clock)) (messageFault (typeNumbered (d .kind)) d)))
 
 -- the first field at fault. A type that is none has no rate above 0, so it is at fault at field 1
 unfoldable pub drawFault : MessagesPerSecond → Distributions → Draw → Field
@@ -50,10 +57,7 @@ drawFault rates all d =
     checked 0 (finiteNotNegative (d .gap))
     (checked 1 (typeFits rates (d .kind))
     (checked 2 (finite (d .cn0))
-    (checked 3 (amplitudeFits (d .amplitude))
-    (checked 4 (offsetDrawFits (all .carrier) (d .carrier))
-    (checked 5 (phaseDrawFits (all .phase) (d .phase))
-    (checked 6 (clockFits all d) (messageFault (typeNumbered (d .kind)) d)))))))
+    (checked 3 (amplitudeFits (d .amplitude)) (parameterFault all d))))
 
 -- what a draw's fault makes of the answer: its place among the draws and its field, or what comes of the later draws
 unfoldable pub faultAt : ℕ → Field → Fault.Fault → Fault.Fault
@@ -63,8 +67,8 @@ faultAt k (Wrong field) rest = Fault.the-variants.At k field
 -- the first fault of n draws, the first standing at place k
 unfoldable pub faultFrom : MessagesPerSecond → Distributions → ℕ → ℕ → List ℕ → Fault.Fault
 faultFrom rates all zero k s = Fault.the-variants.Clean
-faultFrom rates all (suc n) k s = faultAt k (drawFault rates all (drawOf s)) (faultFrom rates all n (suc k) (drop drawBytes s))
+faultFrom rates all (suc n) k s = faultAt k (drawFault rates all (drawAt s)) (faultFrom rates all n (suc k) (drop drawLength s))
 
 -- of all draws in the bytes
 unfoldable pub firstFault : MessagesPerSecond → Distributions → List ℕ → Fault.Fault
-firstFault rates all s = faultFrom rates all (length s / drawBytes) 0 s
+firstFault rates all s = faultFrom rates all (length s / drawLength) 0 s
