@@ -1,0 +1,147 @@
+-- What the theorems of this crate take as in range: a draw's time and clock error, and the filters' delays. Each is what document 01's checks, or the theorem about group delays, gives. Assumes nothing.
+use mathlib.Core.Path.{_≡_, refl, subst}
+use Prim.Native.Nat.{ℕ, _*_, _^_, _≤_, _<_, zero-le}
+use native.Mathlib.Nat.{le-trans, le-of-eq, le-of-lt, lt-of-le-of-lt, zero-mul, mul-le-mul-right, mul-le-mul-left}
+use native.Mathlib.Omega.{arith}
+use mathlib.Core.Bool.{true, false, true≢false}
+use mathlib.Core.List.{List}
+use lib.IntN.{pos, negsuc}
+use lib.Dec.{T, lit≤, lit<}
+use lib.ListN.{length}
+use lib.Ieee.{Float, nan, inf, fin, binary32, binary64, down, ofBits, lt, le, fits, div, mul, add, ofInt}
+use lib.Ieee.Fits.{sub-fits}
+use lib.Ieee.Scale.{overflow}
+use Rattle.constants.specs.Rate.{four, tapsPerBranch, prototypeLength}
+use Rattle.rounding.proofs.Order.{Signed, fin-le}
+use Rattle.rounding.proofs.Units.{G, G-le, Units, units-of, lt-finite, lt-units}
+use Rattle.rounding.proofs.Val.{Val, val-units}
+use Rattle.float_bits.specs.Range.{within}
+use Rattle.float_bits.proofs.Ranges.{within-finite, within-val}
+use Rattle.math.proofs.Size.{Within, number}
+use Rattle.math.specs.Phase.{pi}
+use Rattle.math.proofs.InRange.{Between}
+use Rattle.distributions.specs.Asked.{tenth, offsetLimit}
+use Rattle.message.specs.declared.ReplyKind.{ReplyKind}
+use Rattle.message.specs.declared.ReplyKind.the-variants.{Short, Long, ModeAc}
+use Rattle.message_config.specs.declared.Delays.{Delays}
+use Rattle.message_config.specs.declared.MessageConfig.{MessageConfig}
+use Rattle.message_config.specs.Timing.{modeACRatio, modeACDelay, delayOf, filterClockError}
+use Rattle.pulse_shape.specs.declared.Crossing.the-variants.{At}
+use Rattle.pulse_shape.specs.Accepted.{allWithin16}
+use Rattle.pulse_shape.specs.GroupDelay.{groupDelay}
+use Rattle.pulse_shape.proofs.DelayWithin.{Held, div-units, delay-below}
+
+-- 0.0
+abbrev pub zeroF : Float
+zeroF = fin false 0 (pos 0)
+
+-- ---- a time is from 0.0 to infinity
+pub record TimeInRange (t : Float) : Type 0 where
+  pub fit : T (fits binary64 t)
+  pub low : T (le zeroF t)
+
+-- so is every time with no minus sign that is no NaN
+pub signed-in-range : (t : Float) → T (fits binary64 t) → Signed t false → TimeInRange t
+signed-in-range t F s = record { fit = F; low = not-below t s }
+  where
+    not-below : (t : Float) → Signed t false → T (le zeroF t)
+    not-below nan s = absurd s
+    not-below (inf false) s = unfold le in tt
+    not-below (inf true) s = absurd (true≢false s)
+    not-below (fin false m e) s = fin-le false 0 (pos 0) false m e (le-trans (le-of-eq (zero-mul (down e))) zero-le)
+    not-below (fin true m e) s = absurd (true≢false s)
+
+-- ---- a delay is from 0 to 7 * sps samples, 28 at document 01's rate, said in units of 2 ^ -1074
+pub record DelayInRange (sps : ℕ) (d : Float) : Type 0 where
+  pub count : ℕ
+  pub is : Units d count
+  pub most : count ≤ tapsPerBranch * sps * 2 ^ 1074
+
+pub record DelaysInRange (sps : ℕ) (delays : Delays) : Type 0 where
+  pub mode-s : DelayInRange sps (delays .«mode_s»)
+  pub mode-ac : DelayInRange sps (delays .«mode_ac»)
+
+pub delay-of : (sps : ℕ) (delays : Delays) → DelaysInRange sps delays → (kind : ReplyKind) → DelayInRange sps (delayOf delays kind)
+unfolding delayOf
+delay-of sps delays r Short = r .mode-s
+delay-of sps delays r Long = r .mode-s
+delay-of sps delays r ModeAc = r .mode-ac
+
+-- by comparisons, at document 01's rate: at least 0, and below 28
+pub delay-between : (d : Float) → T (fits binary64 d) → T (le zeroF d) → T (lt d (fin false 7 (pos 2))) → DelayInRange four d
+delay-between d F l h =
+    let u = units-of d F l (lt-finite d 7 (pos 2) h) in
+    record { count = u .0; is = u .1; most = le-of-lt (lt-units d 7 (pos 2) (u .0) (28 * 2 ^ 1074) (u .1) refl .0 h) }
+
+-- the group delay that a crossing gives is in range
+pub found-delay : (sps : ℕ) (level : Float) (p : List Float) (d : Float) → 0 < sps → sps ≤ 2 ^ 30 → T (fits binary32 level) → T (lt zeroF level) → Held p → allWithin16 p ≡ true → length p ≤ prototypeLength sps → groupDelay sps level p ≡ At d → DelayInRange sps d
+found-delay sps level p d S few FL z H w h e = let r = delay-below sps level p d S few FL z H w h e in record { count = r .0; is = r .1; most = le-of-lt (r .2) }
+
+-- so is the Mode A/C delay: 1500.0/1450.0 is above 1
+ratio-val : Val modeACRatio false (4658896166245341 * 2 ^ 1022)
+unfolding modeACRatio ofInt div
+ratio-val = (refl, refl)
+
+pub mode-ac-delay : (sps : ℕ) (d : Float) → sps ≤ 2 ^ 30 → DelayInRange sps d → DelayInRange sps (modeACDelay d)
+unfolding modeACDelay
+mode-ac-delay sps d few r =
+    let n = r .count in
+    let k = 4658896166245341 * 2 ^ 1022 in
+    let m : G n k ≤ 7 * sps * 2 ^ 1074 = G-le n k (7 * sps) 1074 (lit< tt) (room sps few) (le-trans (mul-le-mul-right (2 ^ 1074) (r .most)) (mul-le-mul-left (7 * sps * 2 ^ 1074) (lit≤ {m = 2 ^ 1074} {n = k} tt))) in
+    record { count = G n k; is = div-units d modeACRatio n k (r .is) (val-units modeACRatio k ratio-val) (lit< tt) (lt-of-le-of-lt m (lt-of-le-of-lt (mul-le-mul-right (2 ^ 1074) (less sps few)) (lit< {m = 2 ^ 40 * 2 ^ 1074} {n = overflow binary64} tt))); most = m }
+  where
+    room : (s : ℕ) → s ≤ 2 ^ 30 → 7 * s < 2 ^ 53
+    room s h = omega arith
+
+    less : (s : ℕ) → s ≤ 2 ^ 30 → 7 * s ≤ 2 ^ 40
+    less s h = omega arith
+
+-- ---- a clock error is within 0.1 in size, and so is the filter's; for Mode S they are one
+pub record ErrorInRange (kind : ReplyKind) (e : Float) : Type 0 where
+  pub fit : T (fits binary64 e)
+  pub small : T (within e tenth)
+  pub filter-small : T (within (filterClockError kind e) tenth)
+
+-- 0.1
+abbrev pub tenthUnits : ℕ
+tenthUnits = 3602879701896397 * 2 ^ 1019
+
+pub tenth-is : tenth ≡ fin false 3602879701896397 (negsuc 54)
+unfolding tenth ofBits
+tenth-is = refl
+
+pub tenth-val : Val tenth false tenthUnits
+unfolding tenth ofBits
+tenth-val = (refl, refl)
+
+pub within-tenth : (e : Float) → T (fits binary64 e) → T (within e tenth) → Within e tenthUnits
+within-tenth e F t =
+    let N = number e F (within-finite e false 3602879701896397 (negsuc 54) (subst (λ (l : Float). T (within e l)) tenth-is t)) in
+    (N .sign, N .count, N .is, within-val e tenth (N .sign) (N .count) tenthUnits (N .is) tenth-val t)
+
+pub filter-fits : (kind : ReplyKind) (e : Float) → T (fits binary64 e) → T (fits binary64 (filterClockError kind e))
+unfolding filterClockError
+filter-fits Short e F = F
+filter-fits Long e F = F
+filter-fits ModeAc e F = sub-fits binary64 (mul binary64 modeACRatio (add binary64 (ofInt binary64 (pos 1)) e)) (ofInt binary64 (pos 1))
+
+-- ---- the largest carrier offset: 4,000,000
+abbrev pub offsetUnits : ℕ
+offsetUnits = 4000000 * 2 ^ 1074
+
+pub offset-is : offsetLimit four ≡ fin false 15625 (pos 8)
+unfolding offsetLimit ofInt
+offset-is = refl
+
+pub offset-val : Val (offsetLimit four) false offsetUnits
+unfolding offsetLimit ofInt
+offset-val = (refl, refl)
+
+-- ---- a message is in range: its time, its clock error, its carrier's offset within 4,000,000 in size, and its phase from -PI to PI
+pub record MessageInRange (c : MessageConfig) : Type 0 where
+  pub time : TimeInRange (c .time)
+  pub error : ErrorInRange (c .reply .kind) (c .error)
+  pub offset-fit : T (fits binary64 (c .offset))
+  pub offset : T (within (c .offset) (offsetLimit four))
+  pub phase-fit : T (fits binary64 (c .phase))
+  pub phase : Between pi (c .phase)
