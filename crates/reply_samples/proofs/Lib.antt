@@ -1,0 +1,6 @@
+pub mod Places
+pub mod Turns
+pub mod LateWave
+pub mod Adding
+pub mod Counts
+pub mod Ring
