@@ -38,7 +38,7 @@ module _ (s : List ℕ) (at : ℕ) where
 
   -- then the n bytes of v
   pub next-put : (k : ℕ) (xs : List ℕ) (n v : ℕ) (d e : List ℕ) → length xs ≡ k → at + (k + n) ≤ length s → d ≡ laid s at xs → e ≡ put n d (at + k) v
-    → e ≡ laid s at (xs ++ bytesOf n v)
+      → e ≡ laid s at (xs ++ bytesOf n v)
   next-put k xs n v d e l h p q =
       let m : length d ≡ length s = ap length p ∙ length-laid s at xs (omega arith) in
       next k xs (bytesOf n v) d e l (omega arith) p (q ∙ put-laid n d (at + k) v (omega arith))

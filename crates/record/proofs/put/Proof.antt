@@ -25,20 +25,19 @@ same-length c = search needs
 
 returns : tie.Need-returns
 unfolding recordBytes
-returns c = 
+returns c =
     let a = c .before .before .before .before .before .before .before .before .before .before .before .before .args in
     let s = a .d .now in
     let t = c .before .before .before .before .before .before .before .before .before .if1 .taken in
     let e = c .before .before .before .before .before .before .before .before .before .before .holds .ensures in
-    let h = room s (a .at) _ e t in
-    (
+    let h = room s (a .at) _ e t in (
       sym t ∙ e,
       next s (a .at) 40 (floatBytes (a .c)) (otherBytes (a .c .reply) (a .first) (a .kind) (a .count)) _ _ (float-length (a .c)) (omega arith) (c .before .before .before .before .before .before .put-floats .ensures) (c .before .before .put-others .ensures)
-      ∙ sym (record-there s (a .at) _ e (recordBytes (a .c) (a .first) (a .kind) (a .count)) t),
+          ∙ sym (record-there s (a .at) _ e (recordBytes (a .c) (a .first) (a .kind) (a .count)) t),
     )
 
 returns-2 : tie.Need-returns-2
-returns-2 c = 
+returns-2 c =
     let a = c .before .before .before .args in
     let t = c .if1 .left in
     let e = c .before .holds .ensures in

@@ -35,7 +35,7 @@ same-length : tie.Need-same-length
 same-length c = search needs
 
 returns : tie.Need-returns
-returns c = 
+returns c =
     let s = c .before .before .before .before .before .before .before .before .before .before .before .before .before .before .before .before .before .before .before .before .before in
     floats-laid (s .args .d .now) (s .args .at) (s .args .c) (s .pre) (c .before .before .before .before .before .before .before .before .before .before .before .before .before .before .before .before .before .before .put-f64 .ensures .1) (c .before .before .before .before .before .before .before .before .before .before .before .before .before .before .put-f642 .ensures .1) (c .before .before .before .before .before .before .before .before .before .before .put-f643 .ensures .1) (c .before .before .before .before .before .before .put-f644 .ensures .1) (c .before .before .put-f645 .ensures .1)
 

@@ -38,7 +38,7 @@ same-length : tie.Need-same-length
 same-length c = search needs
 
 returns : tie.Need-returns
-returns c = 
+returns c =
     let s = c .before .before .before .before .before .before .before .before .before .before .before .before .before .before .before .before .before .before .before .before .before .before .before in
     let a = s .args in
     others-laid (a .d .now) (a .at) (a .reply) (a .first) (a .kind) (a .count) (c .before .before .before .before .before .before .before .before .before .before .before .before .before .before .before .before .before .before .before .before .message-length .result) (s .pre) (c .before .before .before .before .before .before .before .before .before .before .before .before .before .before .before .before .before .before .before .before .message-length .ensures) (c .before .before .before .before .before .before .before .before .before .before .before .before .before .before .before .before .before .before .put-u64 .ensures .1) (c .before .before .before .before .before .before .before .before .before .before .before .before .before .before .put-u8 .ensures) (c .before .before .before .before .before .before .before .before .before .before .put-u16 .ensures .1) (c .before .before .before .before .before .before .put-u82 .ensures) (c .before .before .put-bytes .ensures)

@@ -33,7 +33,7 @@ returns c =
     let l = c .before .before .before .before .loop in
     let r = c .before .before .before .before .before .args .rates in
     let bad = refuted _ (c .if1 .taken) in
-    sym (stops (ratesOf r) (l .k) (c .before .before .before .loop-test .taken) (ap finiteNotNegative (sym (c .before .before .rate-of .ensures)) ∙ sym (c .before .finite-not-negative .ensures) ∙ bad)) ∙ l .inv .1
+    sym (stops (ratesOf r) (l .k) (search needs) (ap finiteNotNegative (sym (c .before .before .rate-of .ensures)) ∙ sym (c .before .finite-not-negative .ensures) ∙ bad)) ∙ l .inv .1
 
 add-k : tie.Need-add-k Inv-loop μ-loop
 add-k c = search needs
@@ -46,10 +46,9 @@ unfolding rateOf ratesOf
 loop-again c =
     let l = c .before .before .before .before .loop in
     let r = c .before .before .before .before .before .args .rates in
-    let fine = held _ (c .if1 .left) in
-    (
+    let fine = held _ (c .if1 .left) in (
       search needs,
-      sym (goes-on (ratesOf r) (l .k) (c .before .before .before .loop-test .taken) (ap finiteNotNegative (sym (c .before .before .rate-of .ensures)) ∙ sym (c .before .finite-not-negative .ensures) ∙ fine)) ∙ l .inv .1,
+      sym (goes-on (ratesOf r) (l .k) (search needs) (ap finiteNotNegative (sym (c .before .before .rate-of .ensures)) ∙ sym (c .before .finite-not-negative .ensures) ∙ fine)) ∙ l .inv .1,
     )
 
 returns-2 : tie.Need-returns-2 Inv-loop μ-loop
