@@ -1,18 +1,16 @@
 -- What a draw in range says: a gap that is finite and not negative (`gap-of`), a type that has a number (`typed-of`), and a clock error, and filter clock error, within 0.1 in size (`error-of`). Assumes nothing.
-use Prim.Native.Nat.{ℕ, suc, _*_, _<_}
+use Prim.Native.Nat.{ℕ, zero, suc, _*_, _<_}
 use mathlib.Core.Path.{_≡_, refl, sym, ap, _∙_, subst}
 use mathlib.Core.Logic.{_≢_}
-use mathlib.Core.Bool.{Bool, true, false, _&&_, cond, true≢false}
-use mathlib.Core.Option.{Option, none, some}
+use mathlib.Core.Bool.{Bool, true, false, _&&_, cond}
+use mathlib.Core.Option.{none, some}
 use native.Mathlib.Nat.{mul-one, zero-mul, eq-of-mul-eq-mul-right}
 use native.Mathlib.Omega.{arith}
 use lib.Dec.{T, eqb}
-use lib.IntN.{ℤ, pos}
-use lib.ListN.{getD}
-use lib.Ieee.{Float, nan, inf, fin, binary64, up, down, ofBits, lt, le, fits}
+use lib.IntN.{pos}
+use lib.Ieee.{Float, nan, inf, fin, binary64, up, ofBits, lt, le, fits}
 use lib.Ieee.Fits.{and-l, and-r, up-pos}
 use lib.Ieee.Scale.{finite}
-use Rattle.constants.specs.Rate.{four}
 use Rattle.rounding.proofs.Order.{le-fin}
 use Rattle.float_bits.specs.Range.{within}
 use Rattle.distributions.specs.Asked.{finiteNotNegative, tenth}
@@ -20,14 +18,13 @@ use Rattle.distributions.specs.Drawn.{errorOf, offsetDrawFits, phaseDrawFits, c
 use Rattle.distributions.specs.declared.ClockError as Clock
 use Rattle.message.specs.declared.MessageType.{MessageType}
 use Rattle.message.specs.declared.MessageType.the-variants.{ExtendedSquitter, AcquisitionSquitter, ShortAp, AllCallReply, LongAp, MilitaryExtendedSquitter, ModeAc}
-use Rattle.message.specs.declared.ReplyKind.{ReplyKind}
 use Rattle.message.specs.declared.ReplyKind.the-variants as Kinds
 use Rattle.message.specs.declared.Field.{Field}
 use Rattle.message.specs.declared.Field.the-variants.{Fine, Wrong}
 use Rattle.message.specs.declared.TypeFound as TypeFound
-use Rattle.message.specs.declared.TypeFound.the-variants.{Of, Unknown}
+use Rattle.message.specs.declared.TypeFound.the-variants.{Of}
 use Rattle.message.specs.Types.{typeNumbered}
-use Rattle.message.specs.Making.{kindOf, made, checked, fieldFault}
+use Rattle.message.specs.Making.{kindOf, made, checked}
 use Rattle.message.proofs.InRange as Checked
 use Rattle.message_config.specs.Timing.{filterClockError}
 use Rattle.message_config_laws.proofs.InRange.{ErrorInRange}
@@ -39,6 +36,7 @@ use Rattle.settings.proofs.InRange.{ClockInRange}
 use Rattle.draw.specs.declared.Draw.{Draw}
 use Rattle.draw.specs.Fault.{typeFits, amplitudeFits, modeACLimit, clockFits, messageFault, parameterFault, drawFault}
 use Rattle.draw.specs.Config.{typeDrawn, kindDrawn, errorDrawn, configOf}
+use Rattle.reply_samples.specs.Mirror.{isModeAC}
 use Rattle.draw_times.proofs.Times.{Gap}
 use Rattle.generator.specs.Real.{faultOf}
 use Rattle.generator.proofs.ReplyBytes.{made-kind}
@@ -74,24 +72,22 @@ gap-of rates all d h = go (finiteNotNegative (d .gap)) refl
 pub record Typed (n : ℕ) : Type 0 where
   pub type : MessageType
   pub is : typeNumbered n ≡ Of type
-  pub mode-ac : kindOf type ≡ Kinds.ModeAc → eqb n 6 ≡ true
+  pub mode-ac : eqb n 6 ≡ isModeAC (kindOf type)
 
 typed : (rates : MessagesPerSecond) (n : ℕ) → T (typeFits rates n) → Typed n
-unfolding typeFits rateOf ratesOf typeNumbered kindOf
-typed rates 0 t = record { type = ExtendedSquitter; is = refl; mode-ac = λ e. let z : _≡_ {A = ℕ} 0 1 = cc in absurd (omega arith) }
-typed rates 1 t = record { type = AcquisitionSquitter; is = refl; mode-ac = λ e. let z : _≡_ {A = ℕ} 0 1 = cc in absurd (omega arith) }
-typed rates 2 t = record { type = ShortAp; is = refl; mode-ac = λ e. let z : _≡_ {A = ℕ} 0 1 = cc in absurd (omega arith) }
-typed rates 3 t = record { type = AllCallReply; is = refl; mode-ac = λ e. let z : _≡_ {A = ℕ} 0 1 = cc in absurd (omega arith) }
-typed rates 4 t = record { type = LongAp; is = refl; mode-ac = λ e. let z : _≡_ {A = ℕ} 0 1 = cc in absurd (omega arith) }
-typed rates 5 t = record { type = MilitaryExtendedSquitter; is = refl; mode-ac = λ e. let z : _≡_ {A = ℕ} 0 1 = cc in absurd (omega arith) }
-typed rates 6 t = record { type = ModeAc; is = refl; mode-ac = λ e. refl }
+unfolding typeFits rateOf ratesOf typeNumbered kindOf isModeAC
+typed rates zero t = record { type = ExtendedSquitter; is = refl; mode-ac = refl }
+typed rates (suc zero) t = record { type = AcquisitionSquitter; is = refl; mode-ac = refl }
+typed rates (suc (suc zero)) t = record { type = ShortAp; is = refl; mode-ac = refl }
+typed rates (suc (suc (suc zero))) t = record { type = AllCallReply; is = refl; mode-ac = refl }
+typed rates (suc (suc (suc (suc zero)))) t = record { type = LongAp; is = refl; mode-ac = refl }
+typed rates (suc (suc (suc (suc (suc zero))))) t = record { type = MilitaryExtendedSquitter; is = refl; mode-ac = refl }
+typed rates (suc (suc (suc (suc (suc (suc zero)))))) t = record { type = ModeAc; is = refl; mode-ac = refl }
 typed rates (suc (suc (suc (suc (suc (suc (suc n))))))) t = absurd (unfold ofBits lt in t)
 
 -- ---- the fields in range
 pub record Fields (rates : MessagesPerSecond) (all : Distributions) (d : Draw) : Type 0 where
   pub type : T (typeFits rates (d .kind))
-  pub carrier : T (offsetDrawFits (all .carrier) (d .carrier))
-  pub phase : T (phaseDrawFits (all .phase) (d .phase))
   pub clock : T (clockDrawFits (all .clock) (d .clock))
   pub limit : T (modeACLimit (d .kind) (errorDrawn all d))
   pub message : messageFault (typeNumbered (d .kind)) d ≡ Fine
@@ -117,8 +113,6 @@ fields-of rates all d e =
     let both = Checked.fits 6 (clock && limit) message e6 in
     record {
       type = Checked.fits 1 (typeFits rates (d .kind)) after-2 e1;
-      carrier = Checked.fits 4 (offsetDrawFits (all .carrier) (d .carrier)) after-5 e4;
-      phase = Checked.fits 5 (phaseDrawFits (all .phase) (d .phase)) after-6 e5;
       clock = and-l clock limit both;
       limit = and-r clock limit both;
       message = Checked.later-fits 6 (clock && limit) message e6;
@@ -139,12 +133,12 @@ mode-ac-limit n e t h = subst (λ (b : Bool). T (cond b (within (filterClockErro
 
 module _ (rates : MessagesPerSecond) (all : Distributions) (C : ClockInRange (all .clock)) (d : Draw) (held : T (fits binary64 (d .clock))) (F : Fields rates all d) where
   pub error-of : ErrorInRange (kindDrawn d) (errorDrawn all d)
-  unfolding errorDrawn
+  unfolding errorDrawn isModeAC
   error-of =
       let t = typed rates (d .kind) (F .type) in
       let e = drawn-error (all .clock) (d .clock) (accepted-clock (all .clock) C) held (F .clock) in
       drawn-error-of (kindDrawn d) (errorDrawn all d) (e .0) (e .1)
-      (λ k. mode-ac-limit (d .kind) (errorDrawn all d) (F .limit) (t .mode-ac (sym (kind-is d (t .type) (t .is)) ∙ k)))
+      (λ k. mode-ac-limit (d .kind) (errorDrawn all d) (F .limit) (t .mode-ac ∙ ap isModeAC (sym (kind-is d (t .type) (t .is)) ∙ k)))
 
   -- the reply that is made has the kind drawn
   pub kind-made : (time : Float) → configOf all time d .reply .kind ≡ kindDrawn d

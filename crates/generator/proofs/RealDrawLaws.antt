@@ -1,12 +1,11 @@
 -- What the theory of calls asks of draws holds of the real ones, by filters in range and at most 2^52 samples (`real-draw-laws`): gaps, hold-back, count bound and length of a record. Assumes nothing.
 use Prim.Native.Nat.{ℕ, _+_, _^_, _≤_, _<_}
 use mathlib.Core.Path.{_≡_, refl, sym, ap, _∙_, subst}
-use mathlib.Core.Bool.{Bool, true, false}
-use mathlib.Core.List.{List, map}
-use mathlib.Core.Option.{Option, none, some}
+use mathlib.Core.Bool.{false}
+use mathlib.Core.Option.{none}
 use native.Mathlib.Nat.{le-trans, le-of-eq}
 use native.Mathlib.Omega.{arith}
-use lib.Dec.{T, lit<, lit≤}
+use lib.Dec.{lit<, lit≤}
 use lib.IntN.{ℤ, pos, negsuc}
 use lib.ListN.{length, length-map}
 use lib.Ieee.{Float, nan, inf, fin, lt}
@@ -16,18 +15,16 @@ use Rattle.message.specs.declared.ReplyKind.{ReplyKind}
 use Rattle.message.specs.Types.{typeNumbered}
 use Rattle.message_config.specs.Timing.{delayOf, startOf}
 use Rattle.message_config.specs.Config.{configStart}
-use Rattle.message_config.specs.declared.Delays.{Delays}
-use Rattle.message_config.specs.declared.MessageConfig.{MessageConfig}
 use Rattle.message_config_laws.proofs.InRange.{TimeInRange, signed-in-range, ErrorInRange}
 use Rattle.message_config_laws.proofs.HoldBack as HoldBack
 use Rattle.message_config_laws.proofs.FirstClock.{first-clock-of}
-use Rattle.reply_samples.specs.Samples.{replySamples, replyCount}
+use Rattle.reply_samples.specs.Samples.{replySamples}
 use Rattle.reply_samples.proofs.Counts.{samples-counted, count-most}
 use Rattle.record.proofs.RecordLength.{record-length}
 use Rattle.draw.specs.declared.Draw.{Draw}
 use Rattle.draw.specs.Fault.{drawFault}
 use Rattle.draw.specs.Config.{typeDrawn, kindDrawn, errorDrawn, startAt, configOf}
-use Rattle.call_lists.specs.Generator.{Generator, Start, negative, from, Pair}
+use Rattle.call_lists.specs.Generator.{from}
 use Rattle.call_lists.specs.PlainRun.{reply, kind}
 use Rattle.call_lists.proofs.StepFacts.{reply-fits, reply-start}
 use Rattle.draw_times.proofs.Times.{NonNeg, GoodTime}

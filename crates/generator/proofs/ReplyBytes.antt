@@ -1,14 +1,13 @@
 -- A made reply has 14 bytes, whatever the type and the picks (`made-bytes`), and, where no field is at fault, its type's kind (`made-kind`). Assumes nothing.
-use Prim.Native.Nat.{ℕ, _+_, _-_, _≤_, min}
-use mathlib.Core.Path.{_≡_, refl, sym, ap, _∙_}
-use mathlib.Core.List.{List, [], _∷_, _++_}
+use Prim.Native.Nat.{ℕ, _+_, _-_, _≤_}
+use mathlib.Core.Path.{_≡_, ap, _∙_}
+use mathlib.Core.List.{List, [], _∷_}
 use native.Mathlib.Omega.{arith}
-use lib.ListN.{length, take, drop, replicate, length-append, length-take, length-replicate}
+use lib.ListN.{length, drop, replicate, length-append, length-take, length-replicate}
 use Rattle.mode_s.specs.Parity.{parityOf, parityBytes, sealed}
 use Rattle.message.specs.declared.MessageType.{MessageType}
 use Rattle.message.specs.declared.MessageType.the-variants.{ExtendedSquitter, AcquisitionSquitter, ShortAp, AllCallReply, LongAp, MilitaryExtendedSquitter, ModeAc}
 use Rattle.message.specs.declared.Picks.{Picks}
-use Rattle.message.specs.declared.Reply.{Reply}
 use Rattle.message.specs.declared.Field.{Field}
 use Rattle.message.specs.declared.Field.the-variants.{Fine, Wrong}
 use Rattle.message.specs.Making.{byte0, later, messageBytes, kindOf, filled, replyOf, fieldFault, madeWhere, made}
@@ -34,7 +33,7 @@ most ModeAc p = omega arith
 
 filled-length : (m : List ℕ) → length m ≤ 14 → length (filled m) ≡ 14
 unfolding filled
-filled-length m h = length-append m (replicate (14 - length m) 0) ∙ ap (λ (n : ℕ). length m + n) (length-replicate (14 - length m) 0) ∙ omega arith
+filled-length m h = length-append m (replicate (14 - length m) 0) ∙ ap (λ (n : ℕ). length m + n) (length-replicate {A = ℕ} (14 - length m) 0) ∙ omega arith
 
 pub made-bytes : (t : MessageType) (p : Picks) → length (made t p .reply .bytes) ≡ 14
 unfolding made
@@ -42,7 +41,7 @@ made-bytes t p = go (fieldFault t p)
   where
     go : (x : Field) → length (madeWhere x (replyOf t p) .reply .bytes) ≡ 14
     go Fine = unfold madeWhere replyOf in filled-length (messageBytes t p) (most t p)
-    go (Wrong k) = unfold madeWhere in length-replicate 14 0
+    go (Wrong k) = unfold madeWhere in length-replicate {A = ℕ} 14 0
 
 -- ---- its kind
 pub made-kind : (t : MessageType) (p : Picks) → fieldFault t p ≡ Fine → made t p .reply .kind ≡ kindOf t

@@ -20,7 +20,8 @@ use Rattle.draw.specs.declared.Draw.{Draw}
 use Rattle.draw.specs.Draw.{drawAt}
 use Rattle.draw.specs.Fault.{drawFault}
 use Rattle.draw.specs.Config.{startAt, configOf}
-use Rattle.reply_samples.specs.Samples.{Sample, replySamples}
+use Rattle.reply_samples.specs.declared.Sample.{Sample}
+use Rattle.reply_samples.specs.Samples.{replySamples}
 use Rattle.record.specs.Record.{recordBytes}
 
 -- a start is negative, or a sample's number
