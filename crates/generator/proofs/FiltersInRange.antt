@@ -50,8 +50,7 @@ module _ (s : Settings) (H : HeldSettings s) (level : Float) (F : T (fits binary
         → groupDelay four level (modeSPrototype four modeS) ≡ At a → modeACGroupDelay four level (modeACPrototype four modeAC) ≡ At b
         → FiltersInRange opened × (n ≤ 2 ^ 52)
     opened-in-range e w v g h =
-        let r = accepted-in-range four s H n all e in
-        (
+        let r = accepted-in-range four s H n all e in (
           record {
             delays = record {
               mode-s = delay-in-range a (delay-most four level (modeSPrototype four modeS) a (lit< tt) (lit≤ tt) F above (prototype-held four _ modeS) w (long _ modeS) g);
