@@ -1,14 +1,12 @@
 -- `settings::first_bad_rate` meets its contract: what the search finds from here on is what it finds from the start. Assumes nothing.
 use borrow.Author.Needs.{needs}
-use Prim.Native.Nat.{ℕ, _+_, _-_, _≤_, _<_}
+use Prim.Native.Nat.{_-_, _≤_}
 use mathlib.Core.Path.{_≡_, sym, ap, _∙_}
-use mathlib.Core.Bool.{Bool, true, false, not}
-use native.Mathlib.Omega.{arith}
-use lib.ListN.{length, drop}
+use lib.ListN.{drop}
 use Rattle.distributions.specs.Asked.{finiteNotNegative}
 use Rattle.settings.specs.Settings.{ratesOf, rateOf}
 use Rattle.settings.specs.Accepted.{firstBadRate}
-use Rattle.settings.proofs.Rates.{good, goes-on, stops, ends, refuted, held}
+use Rattle.settings.proofs.Rates.{goes-on, stops, ends, refuted, held}
 use Rattle.settings.proofs.first_bad_rate.Statement.{statement}
 use Rattle.settings.proofs.first_bad_rate.Tie as tie
 
