@@ -25,14 +25,14 @@ module _ (rates : MessagesPerSecond) (all : Distributions) (rest : List ℕ) (k 
     one-more = rw length-drop (omega arith)
 
     turn : (f : Field) → drawFault rates all (drawAt rest) ≡ f
-      → faultFrom rates all (length rest / 65) k rest ≡ faultAt k f (faultFrom rates all (length (drop 65 rest) / 65) (suc k) (drop 65 rest))
+        → faultFrom rates all (length rest / 65) k rest ≡ faultAt k f (faultFrom rates all (length (drop 65 rest) / 65) (suc k) (drop 65 rest))
     unfolding faultFrom
     turn f e =
         ap (λ (n : ℕ). faultFrom rates all n k rest) one-more
         ∙ ap (λ (x : Field). faultAt k x (faultFrom rates all (length (drop 65 rest) / 65) (suc k) (drop 65 rest))) e
 
     pub goes-on : drawFault rates all (drawAt rest) ≡ Fine
-      → faultFrom rates all (length rest / 65) k rest ≡ faultFrom rates all (length (drop 65 rest) / 65) (k + 1) (drop 65 rest)
+        → faultFrom rates all (length rest / 65) k rest ≡ faultFrom rates all (length (drop 65 rest) / 65) (k + 1) (drop 65 rest)
     unfolding faultAt
     goes-on e = turn Fine e ∙ ap (λ (n : ℕ). faultFrom rates all (length (drop 65 rest) / 65) n (drop 65 rest)) (sym (add-one k))
 

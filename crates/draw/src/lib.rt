@@ -122,7 +122,10 @@ fn within_limit(kind: u8, e: f64) -> bool
     ensures { λ r. ⌜ r ≡ modeACLimit kind e ⌝ }
 {
     if kind == 6 {
-        return float_bits::within(message_config::filter_clock_error(ReplyKind::ModeAc, e), 0.1);
+        return float_bits::within(
+            message_config::filter_clock_error(ReplyKind::ModeAc, e),
+            0.1,
+        );
     }
     true
 }
