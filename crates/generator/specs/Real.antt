@@ -69,7 +69,7 @@ read-held s = record {
   clock = ofBits-fits binary64 _;
 }
 
--- a draw that bytes can hold
+-- a draw that bytes can hold; two with the same fields are the same (`same-draw` of proofs/SameDraw.antt)
 pub record HeldDraw : Type 0 where
   pub draw : Draw
   pub held : Held draw
