@@ -3,7 +3,8 @@ use mathlib.Core.Path.{_≡_, ap, subst}
 use lib.Dec.{T, T-prop}
 use lib.Ieee.{binary32, binary64, fits}
 use Rattle.draw.specs.declared.Draw.{Draw}
-use Rattle.generator.specs.Real.{Held, HeldDraw}
+use Rattle.draw.proofs.Bytes.{Held}
+use Rattle.generator.specs.Real.{HeldDraw}
 
 module _ (d : Draw) where
   abbrev holds : T (fits binary64 (d .gap)) → T (fits binary64 (d .cn0)) → T (fits binary32 (d .amplitude)) → T (fits binary64 (d .carrier)) → T (fits binary64 (d .phase)) → T (fits binary64 (d .clock)) → Held d
