@@ -12,7 +12,7 @@ use lib.Ieee.Bits.{ofBits-fits}
 use Rattle.le_bytes.specs.LeBytes.{leAt}
 use Rattle.settings.proofs.Inside.{number-there}
 use Rattle.draw.specs.declared.Draw.{Draw}
-use Rattle.draw.specs.Draw.{f64At, bytesAt, picksAt, drawAt}
+use Rattle.draw.specs.Draw.{bytesAt, picksAt, drawAt}
 
 -- the bytes from a place on, as many as there are
 pub bytes-inside : (n : ℕ) (s : List ℕ) (at : ℕ) → at + n ≤ length s → bytesAt s at n ≡ take n (drop at s)

@@ -1,16 +1,15 @@
 -- The clock error that a draw in range gives is at most 0.1 in size (`error-within`), and so is the filter's, for every type (`filter-within`), where the settings' clock error is in range. Assumes nothing.
-use Prim.Native.Nat.{ℕ, _≤_}
-use mathlib.Core.Path.{_≡_, refl, sym, ap, _∙_, subst}
+use Prim.Native.Nat.{ℕ}
+use mathlib.Core.Path.{_≡_, sym, subst}
 use mathlib.Core.Bool.{Bool, true, false}
 use native.Mathlib.Omega.{arith}
 use lib.Dec.{T}
-use lib.IntN.{ℤ}
 use lib.Ieee.{Float, nan, inf, fin, binary64, fits, ofBits, le, lt, eq}
 use lib.Ieee.Fits.{and-l, and-r}
 use lib.Ieee.Bits.{ofBits-fits}
 use lib.Ieee.Scale.{finite}
 use Rattle.rounding.proofs.Order.{Le}
-use Rattle.rounding.proofs.Val.{Val, val-of, le-val, val-le}
+use Rattle.rounding.proofs.Val.{val-of, le-val, val-le}
 use Rattle.float_bits.specs.Range.{abs, within}
 use Rattle.distributions.specs.Asked.{upTo, tenth}
 use Rattle.distributions.specs.declared.ClockError as Clock

@@ -13,7 +13,7 @@ use Rattle.settings.specs.declared.MessagesPerSecond.{MessagesPerSecond}
 use Rattle.draw.specs.declared.Draw.{Draw}
 use Rattle.draw.specs.declared.Fault.{Fault}
 use Rattle.draw.specs.declared.Fault.the-variants.{Clean, At}
-use Rattle.draw.specs.Draw.{drawLength, drawAt}
+use Rattle.draw.specs.Draw.{drawAt}
 use Rattle.draw.specs.Fault.{drawFault, faultAt, faultFrom, firstFault}
 
 -- draw i of the bytes

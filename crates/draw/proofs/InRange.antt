@@ -35,7 +35,7 @@ use Rattle.settings.specs.declared.MessagesPerSecond.{MessagesPerSecond}
 use Rattle.settings.specs.Settings.{ratesOf, rateOf}
 use Rattle.draw.specs.declared.Draw.{Draw}
 use Rattle.draw.specs.Fault.{typeFits, amplitudeFits, modeACLimit, clockFits, messageFault, parameterFault, drawFault}
-use Rattle.draw.proofs.Decided.{limited, unlimited}
+use Rattle.draw.proofs.Decided.{limited}
 
 -- fields 7, 8, 9, 11 and 12; those that the type does not use are in range whatever they are, and so is field 10, the 14 bytes
 pub record PicksInRange (t : MessageType) (p : Picks) : Type 0 where
