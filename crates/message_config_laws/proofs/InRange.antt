@@ -1,7 +1,7 @@
 -- What the theorems of this crate take as in range: a draw's time and clock error, and the filters' delays. Each is what document 01's checks, or the theorem about group delays, gives. Assumes nothing.
 use mathlib.Core.Path.{_≡_, refl, sym, ap, _∙_}
-use Prim.Native.Nat.{ℕ, _*_, _/_, _^_, _≤_, _<_, zero-le}
-use native.Mathlib.Nat.{le-trans, le-of-eq, le-of-lt, lt-of-le-of-lt, zero-mul, mul-one, mul-right-comm, mul-le-mul-right, mul-le-mul-left}
+use Prim.Native.Nat.{ℕ, _-_, _*_, _/_, _^_, _≤_, _<_, zero-le}
+use native.Mathlib.Nat.{le-trans, le-of-eq, le-of-lt, lt-of-le-of-lt, zero-mul, mul-one, mul-assoc, mul-right-comm, mul-le-mul-right, mul-le-mul-left}
 use native.Mathlib.Omega.{arith}
 use mathlib.Core.Bool.{Bool, true, false, true≢false}
 use mathlib.Core.List.{List}
@@ -31,7 +31,7 @@ use Rattle.message_config.specs.Timing.{modeACRatio, modeACDelay, delayOf, filt
 use Rattle.pulse_shape.specs.declared.Crossing.the-variants.{At}
 use Rattle.pulse_shape.specs.Accepted.{allWithin16}
 use Rattle.pulse_shape.specs.GroupDelay.{groupDelay}
-use Rattle.pulse_shape.proofs.DelayWithin.{Held, div-units, delay-below}
+use Rattle.pulse_shape.proofs.DelayWithin.{Held, div-units, delay-most}
 
 -- 0.0
 abbrev pub zeroF : Float
@@ -77,7 +77,12 @@ delay-between d F l h =
 
 -- the group delay that a crossing gives is in range
 pub found-delay : (sps : ℕ) (level : Float) (p : List Float) (d : Float) → 0 < sps → sps ≤ 2 ^ 30 → T (fits binary32 level) → T (lt zeroF level) → Held p → allWithin16 p ≡ true → length p ≤ prototypeLength sps → groupDelay sps level p ≡ At d → DelayInRange sps d
-found-delay sps level p d S few FL z H w h e = let r = delay-below sps level p d S few FL z H w h e in record { count = r .0; is = r .1; most = le-of-lt (r .2) }
+found-delay sps level p d S few FL z H w h e =
+    let r = delay-most sps level p d S few FL z H w h e in
+    record { count = r .0; is = r .1; most = le-trans (r .2) (le-trans (mul-le-mul-right (2 ^ 1068) (less sps)) (le-of-eq (mul-assoc (7 * sps) 64 (2 ^ 1068)))) }
+  where
+    less : (s : ℕ) → 64 * s * 7 - 1 ≤ 7 * s * 64
+    less s = omega arith
 
 -- so is the Mode A/C delay: 1500.0/1450.0 is above 1
 ratio-val : Val modeACRatio false (4658896166245341 * 2 ^ 1022)
