@@ -11,7 +11,7 @@ use lib.ListN.{length}
 use lib.Ieee.{Float, fin, binary64, le, fits}
 use Rattle.constants.specs.Rate.{four, replyLimit}
 use Rattle.filterbank.specs.Clocked.{stepOf, startClock}
-use Rattle.filterbank.specs.Apply.{clockCount, clockValues, limitOf, fuelOf, requiredSamples, sampleCount, valueAt, applyFilterbank}
+use Rattle.filterbank.specs.Apply.{clockCount, clockValues, limitOf, fuelOf, sampleCount, valueAt, applyFilterbank}
 use Rattle.filterbank.proofs.ClockAtFour.{grid4, tenth, minusTenth, step-in, starts}
 use Rattle.filterbank.proofs.Ends.{count-values, count-most, count-idle, values-idle}
 
@@ -43,11 +43,6 @@ ends-43 = ends-within 43 218 (lit≤ tt)
 
 pub ends-52 : (phase e : Float) → InRange phase e → sampleCount four 52 phase e ≤ 258
 ends-52 = ends-within 52 258 (lit≤ tt)
-
--- these are the numbers of `required_samples_for_apply`
-pub required : requiredSamples four 0 ∷ requiredSamples four 43 ∷ requiredSamples four 52 ∷ requiredSamples four 128 ∷ requiredSamples four 240 ∷ [] ≡ 0 ∷ 218 ∷ 258 ∷ 596 ∷ 1094 ∷ []
-unfolding requiredSamples
-required = refl
 
 enough : (k : ℕ) → 8192 * k ≤ 1843 * (2 * 4 * k)
 enough k = omega arith

@@ -16,7 +16,6 @@ use Rattle.filterbank.specs.declared.Clock.{Clock}
 use Rattle.filterbank.specs.Taps.{one, scaled, branchOf, tauOf, branch, nextBranch, between, filterTaps}
 use Rattle.pulse_shape.specs.Values.{valuesFrom}
 use Rattle.filterbank.specs.PulseSum.{sumWhere, lateSum}
-use Rattle.filterbank.specs.Apply.{requiredSamples}
 use Rattle.filterbank.specs.Clocked.{stepOf, startClock, settle, advance, in64}
 
 -- 256.0, 1.0 and 4.0
@@ -148,14 +147,3 @@ sum-seven (a ∷ b ∷ c ∷ d ∷ e ∷ f ∷ []) laid i s0 s1 s2 s3 s4 s5 s6 l
 sum-seven (a ∷ b ∷ c ∷ d ∷ e ∷ f ∷ g ∷ x ∷ l) laid i s0 s1 s2 s3 s4 s5 s6 n h e0 e1 e2 e3 e4 e5 e6 = absurd (omega arith)
 sum-seven (a ∷ b ∷ c ∷ d ∷ e ∷ f ∷ g ∷ []) laid i s0 s1 s2 s3 s4 s5 s6 l h e0 e1 e2 e3 e4 e5 e6 =
     rw (e6, e5, e4, e3, e2, e1, e0) (sym (rw (lt-ltb i 246 h) (rw (sub-zero (i + 6), place i 5 1, place i 4 2, place i 3 3, place i 2 4, place i 1 5, place-0 i))))
-
--- ---- the samples that suffice
-pub required-none : (n : ℕ) → n ≡ 0 → 0 ≡ requiredSamples four n
-unfolding requiredSamples
-required-none zero e = refl
-required-none (suc n) e = absurd (omega arith)
-
-pub required-some : (n : ℕ) → (n ≡ 0 → ⊥) → ((n + 6) * 40 + 8) / 9 ≡ requiredSamples four n
-unfolding requiredSamples
-required-some zero h = absurd (h refl)
-required-some (suc n) h = ap (λ (x : ℕ). (x + 8) / 9) (sym (mul-assoc (suc n + 6) 4 10))

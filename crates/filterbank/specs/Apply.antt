@@ -1,6 +1,6 @@
 -- `ApplyFilterbank`: the values that a sequence of pulses becomes, and their number apart from them. Definitions only.
 -- Fuel makes the recursions total. It is idle for each clock error within 0.1 and first phase from 0 to 2 samples: see proofs/EndsByItself.antt.
-use Prim.Native.Nat.{ℕ, zero, suc, _+_, _*_, _/_}
+use Prim.Native.Nat.{ℕ, zero, suc, _+_, _*_}
 use mathlib.Core.List.{List, [], _∷_}
 use mathlib.Core.Bool.{Bool, true, false, cond}
 use lib.Dec.{ltb}
@@ -28,10 +28,6 @@ limitOf (suc n) = suc n + reach
 
 abbrev pub fuelOf : ℕ → ℕ → ℕ
 fuelOf sps limit = 2 * sps * limit
-
--- `required_samples_for_apply`: samples that suffice for n pulses, 4 / 0.9 for each index, rounded up
-unfoldable pub requiredSamples : ℕ → ℕ → ℕ
-requiredSamples sps n = (limitOf n * sps * 10 + 8) / 9
 
 -- the samples of n pulses, from a first phase in samples and a clock error
 unfoldable pub sampleCount : ℕ → ℕ → Float → Float → ℕ

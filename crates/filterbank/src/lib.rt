@@ -9,7 +9,6 @@ ghost use Rattle.constants.specs.Rate.{four};
 ghost use Rattle.filterbank.specs.Taps.{one, scaled, branchOf, tauOf, branch, between, filterTaps};
 ghost use Rattle.filterbank.specs.PulseSum.{late, lateSum};
 ghost use Rattle.filterbank.specs.Clocked.{stepOf, startClock, advance as advanced, in64};
-ghost use Rattle.filterbank.specs.Apply.{requiredSamples};
 
 // The branch at a phase, from the phase times 256.
 fn branch_of(phase: f64) -> usize
@@ -131,16 +130,6 @@ pub fn pulse_sum(taps: [f32; 7], laid: &[bool; 252], index: usize) -> f32
 pub struct Clock {
     pub phase: f64,
     pub index: usize,
-}
-
-// Samples that suffice for so many pulses.
-pub fn required_samples_for_apply(pulses: u16) -> usize
-    ensures { λ r. ⌜ r ≡ requiredSamples four pulses ⌝ }
-{
-    if pulses == 0 {
-        return 0;
-    }
-    ((pulses as usize + 6) * 40 + 8) / 9
 }
 
 // What a sample adds to the phase.

@@ -3,7 +3,8 @@ use mathlib.Core.Path.{_≡_, refl}
 use lib.IntN.{pos}
 use lib.Ieee.{binary64, ofBits, ofInt, div}
 use Rattle.constants.specs.Rate.{four, sampleRate}
-use Rattle.message_config.specs.Timing.{one, modeACRatio}
+use Rattle.pulse_shape.specs.GroupDelay.{modeACRatio}
+use Rattle.message_config.specs.Timing.{one}
 
 pub one-is : one ≡ ofBits binary64 0x3ff0_0000_0000_0000
 unfolding ofInt ofBits

@@ -2,6 +2,7 @@
 use lib.IntN.{ℤ, pos}
 use lib.Ieee.{Float, binary64, ofInt, add, sub, mul, div}
 use Rattle.float_bits.specs.Ceil.{ceilSigned}
+use Rattle.pulse_shape.specs.GroupDelay.{modeACRatio}
 use Rattle.message.specs.declared.ReplyKind.{ReplyKind}
 use Rattle.message.specs.declared.ReplyKind.the-variants.{Short, Long, ModeAc}
 use Rattle.message_config.specs.declared.Delays.{Delays}
@@ -9,14 +10,7 @@ use Rattle.message_config.specs.declared.Delays.{Delays}
 abbrev pub one : Float
 one = ofInt binary64 (pos 1)
 
--- 1500.0/1450.0
-unfoldable pub modeACRatio : Float
-modeACRatio = div binary64 (ofInt binary64 (pos 1500)) (ofInt binary64 (pos 1450))
-
--- "Delay: `compute_group_delay`; for Mode A/C divided by 1500.0/1450.0"
-unfoldable pub modeACDelay : Float → Float
-modeACDelay d = div binary64 d modeACRatio
-
+-- "Delay: `compute_group_delay`; for Mode A/C divided by 1500.0/1450.0", which `pulse_shape` does
 unfoldable pub delayOf : Delays → ReplyKind → Float
 delayOf delays Short = delays .«mode_s»
 delayOf delays Long = delays .«mode_s»

@@ -2,7 +2,7 @@
 // Each function is equal to a definition of specs/ on every input. Assumes nothing.
 ghost use mathlib.Core.Path.{_≡_};
 ghost use Rattle.constants.specs.Rate.{four};
-ghost use Rattle.message_config.specs.Timing.{modeACDelay, delayOf, unroundedStart, startOf, filterClockError, clockPhase};
+ghost use Rattle.message_config.specs.Timing.{delayOf, unroundedStart, startOf, filterClockError, clockPhase};
 ghost use Rattle.message_config.specs.Carrier.{carrierRate, firstPhase};
 ghost use Rattle.message_config.specs.Config.{configStart, configClockPhase, configClockError, configRate, configPhase};
 use message::Reply;
@@ -25,13 +25,6 @@ pub struct Delays {
 }
 
 const MODE_AC_SAMP_RATE_RATIO: f64 = 1.0344827586206897;
-
-// The Mode A/C delay in samples of the run, from the group delay of its prototype.
-pub fn mode_ac_delay(group_delay: f64) -> f64
-    ensures { λ r. ⌜ r ≡ modeACDelay «group_delay» ⌝ }
-{
-    group_delay / MODE_AC_SAMP_RATE_RATIO
-}
 
 pub fn group_delay(delays: Delays, kind: ReplyKind) -> f64
     ensures { λ r. ⌜ r ≡ delayOf delays kind ⌝ }

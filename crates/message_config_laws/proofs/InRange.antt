@@ -27,10 +27,10 @@ use Rattle.message.specs.declared.ReplyKind.{ReplyKind}
 use Rattle.message.specs.declared.ReplyKind.the-variants.{Short, Long, ModeAc}
 use Rattle.message_config.specs.declared.Delays.{Delays}
 use Rattle.message_config.specs.declared.MessageConfig.{MessageConfig}
-use Rattle.message_config.specs.Timing.{modeACRatio, modeACDelay, delayOf, filterClockError}
+use Rattle.message_config.specs.Timing.{delayOf, filterClockError}
 use Rattle.pulse_shape.specs.declared.Crossing.the-variants.{At}
 use Rattle.pulse_shape.specs.Accepted.{allWithin16}
-use Rattle.pulse_shape.specs.GroupDelay.{groupDelay}
+use Rattle.pulse_shape.specs.GroupDelay.{groupDelay, modeACRatio}
 use Rattle.pulse_shape.proofs.DelayWithin.{Held, div-units, delay-most}
 
 -- 0.0
@@ -83,25 +83,6 @@ found-delay sps level p d S few FL z H w h e =
   where
     less : (s : ℕ) → 64 * s * 7 - 1 ≤ 7 * s * 64
     less s = omega arith
-
--- so is the Mode A/C delay: 1500.0/1450.0 is above 1
-ratio-val : Val modeACRatio false (4658896166245341 * 2 ^ 1022)
-unfolding modeACRatio ofInt div
-ratio-val = (refl, refl)
-
-pub mode-ac-delay : (sps : ℕ) (d : Float) → sps ≤ 2 ^ 30 → DelayInRange sps d → DelayInRange sps (modeACDelay d)
-unfolding modeACDelay
-mode-ac-delay sps d few r =
-    let n = r .count in
-    let k = 4658896166245341 * 2 ^ 1022 in
-    let m : G n k ≤ 7 * sps * 2 ^ 1074 = G-le n k (7 * sps) 1074 (lit< tt) (room sps few) (le-trans (mul-le-mul-right (2 ^ 1074) (r .most)) (mul-le-mul-left (7 * sps * 2 ^ 1074) (lit≤ {m = 2 ^ 1074} {n = k} tt))) in
-    record { count = G n k; is = div-units d modeACRatio n k (r .is) (val-units modeACRatio k ratio-val) (lit< tt) (lt-of-le-of-lt m (lt-of-le-of-lt (mul-le-mul-right (2 ^ 1074) (less sps few)) (lit< {m = 2 ^ 40 * 2 ^ 1074} {n = overflow binary64} tt))); most = m }
-  where
-    room : (s : ℕ) → s ≤ 2 ^ 30 → 7 * s < 2 ^ 53
-    room s h = omega arith
-
-    less : (s : ℕ) → s ≤ 2 ^ 30 → 7 * s ≤ 2 ^ 40
-    less s h = omega arith
 
 -- ---- a clock error is within 0.1 in size, and so is the filter's; for Mode S they are one
 pub record ErrorInRange (kind : ReplyKind) (e : Float) : Type 0 where
