@@ -1,4 +1,4 @@
-// Functions of the port under C names, for the differential harness to call: each only calls, and promises what it calls promises. Assumes nothing.
+// Functions of the port under C names, for the differential harness to call: each only calls, and promises what it calls promises. What is called has must-fail edits of its own, so that one for each function is enough here. Assumes nothing.
 ghost use mathlib.Core.Path.{_≡_};
 ghost use lib.Ieee.{toUnsigned};
 ghost use Rattle.float_bits.specs.Narrow.{narrow as narrowed};

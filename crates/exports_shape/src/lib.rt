@@ -1,4 +1,4 @@
-// Functions of the port on the shape of pulses under C names, for the differential harness to call: each only calls, turns an answer into numbers, and promises what it calls promises. Assumes nothing.
+// Functions of the port on the shape of pulses under C names, for the differential harness to call: each only calls, turns an answer into numbers, and promises what it calls promises. What is called has must-fail edits of its own, so that one for each function is enough here. Assumes nothing.
 use filterbank::Clock;
 use pulse_shape::Crossing;
 ghost use mathlib.Core.Path.{_≡_};
@@ -16,16 +16,16 @@ ghost use Rattle.exports_shape.specs.Crossed.{delayNumber, clockAt};
 pub extern "C" fn port_mode_s_prototype(lowpass: &[f32], out: &mut [f32; 1792])
     ensures { λ _. ⌜ now (out .exit) ≡ modeSPrototype four (now (lowpass .entry)) ⌝ }
 {
-    let p = pulse_shape::mode_s_prototype(lowpass);
-    *out = p;
+    let mode_s = pulse_shape::mode_s_prototype(lowpass);
+    *out = mode_s;
 }
 
 #[no_mangle]
 pub extern "C" fn port_mode_ac_prototype(lowpass: &[f32], out: &mut [f32; 1792])
     ensures { λ _. ⌜ now (out .exit) ≡ modeACPrototype four (now (lowpass .entry)) ⌝ }
 {
-    let p = pulse_shape::mode_ac_prototype(lowpass);
-    *out = p;
+    let mode_ac = pulse_shape::mode_ac_prototype(lowpass);
+    *out = mode_ac;
 }
 
 fn delay_number(crossing: Crossing) -> f64
@@ -96,16 +96,16 @@ pub extern "C" fn port_clock_step(e: f64) -> f64
 pub extern "C" fn port_start_clock_phase(phase: f64) -> f64
     ensures { λ r. ⌜ r ≡ startClock four phase .phase ⌝ }
 {
-    let c = filterbank::start_clock(phase);
-    c.phase
+    let clock = filterbank::start_clock(phase);
+    clock.phase
 }
 
 #[no_mangle]
 pub extern "C" fn port_start_clock_index(phase: f64) -> usize
     ensures { λ r. ⌜ r ≡ startClock four phase .index ⌝ }
 {
-    let c = filterbank::start_clock(phase);
-    c.index
+    let started = filterbank::start_clock(phase);
+    started.index
 }
 
 // The phase after one sample more, and the index.
@@ -113,26 +113,26 @@ pub extern "C" fn port_start_clock_index(phase: f64) -> usize
 pub extern "C" fn port_advance_phase(phase: f64, index: usize, step: f64) -> f64
     ensures { λ r. ⌜ r ≡ in64 (advance step (clockAt phase index)) .phase ⌝ }
 {
-    let c = filterbank::advance(
+    let next = filterbank::advance(
         Clock {
             phase: phase,
             index: index,
         },
         step,
     );
-    c.phase
+    next.phase
 }
 
 #[no_mangle]
 pub extern "C" fn port_advance_index(phase: f64, index: usize, step: f64) -> usize
     ensures { λ r. ⌜ r ≡ in64 (advance step (clockAt phase index)) .index ⌝ }
 {
-    let c = filterbank::advance(
+    let advanced = filterbank::advance(
         Clock {
             phase: phase,
             index: index,
         },
         step,
     );
-    c.index
+    advanced.index
 }

@@ -1,6 +1,4 @@
 -- `exports_replies::port_duration_as_samples` meets its contract. Assumes nothing.
-use mathlib.Core.Path.{ap, _∙_}
-use Rattle.exports_replies.specs.Crossing.{samplesNumber}
 use borrow.Author.Needs.{needs}
 use Rattle.exports_replies.proofs.port_duration_as_samples.Statement.{statement}
 use Rattle.exports_replies.proofs.port_duration_as_samples.Tie as tie
@@ -12,7 +10,7 @@ samples-number-requires : tie.Need-samples-number-requires
 samples-number-requires c κs = search needs
 
 returns : tie.Need-returns
-returns c = c .samples-number .ensures ∙ ap samplesNumber (c .before .duration-as-samples .ensures)
+returns c = cc
 
 pub port-duration-as-samples-spec : {M : Type 1} → statement M
 port-duration-as-samples-spec =

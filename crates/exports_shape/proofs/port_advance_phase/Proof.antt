@@ -1,6 +1,4 @@
 -- `exports_shape::port_advance_phase` meets its contract. Assumes nothing.
-use mathlib.Core.Path.{ap}
-use Rattle.filterbank.specs.declared.Clock.{Clock}
 use Rattle.exports_shape.specs.Crossed.{clockAt}
 use borrow.Author.Needs.{needs}
 use Rattle.exports_shape.proofs.port_advance_phase.Statement.{statement}
@@ -11,7 +9,7 @@ advance-requires c κs = search needs
 
 returns : tie.Need-returns
 unfolding clockAt
-returns c = ap (λ (k : Clock). k .phase) (c .advance .ensures)
+returns c = cc
 
 pub port-advance-phase-spec : {M : Type 1} → statement M
 port-advance-phase-spec = tie.close (tie.spec advance-requires returns)

@@ -1,6 +1,4 @@
 -- `exports_shape::port_mode_ac_group_delay` meets its contract. Assumes nothing.
-use mathlib.Core.Path.{ap, _∙_}
-use Rattle.exports_shape.specs.Crossed.{delayNumber}
 use borrow.Author.Needs.{needs}
 use Rattle.exports_shape.proofs.port_mode_ac_group_delay.Statement.{statement}
 use Rattle.exports_shape.proofs.port_mode_ac_group_delay.Tie as tie
@@ -12,7 +10,7 @@ delay-number-requires : tie.Need-delay-number-requires
 delay-number-requires c κs = search needs
 
 returns : tie.Need-returns
-returns c = c .delay-number .ensures ∙ ap delayNumber (c .before .mode-ac-group-delay .ensures)
+returns c = cc
 
 pub port-mode-ac-group-delay-spec : {M : Type 1} → statement M
 port-mode-ac-group-delay-spec =

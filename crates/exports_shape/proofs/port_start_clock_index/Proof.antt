@@ -1,6 +1,4 @@
 -- `exports_shape::port_start_clock_index` meets its contract. Assumes nothing.
-use mathlib.Core.Path.{ap}
-use Rattle.filterbank.specs.declared.Clock.{Clock}
 use borrow.Author.Needs.{needs}
 use Rattle.exports_shape.proofs.port_start_clock_index.Statement.{statement}
 use Rattle.exports_shape.proofs.port_start_clock_index.Tie as tie
@@ -9,7 +7,7 @@ start-clock-requires : tie.Need-start-clock-requires
 start-clock-requires c κs = search needs
 
 returns : tie.Need-returns
-returns c = ap (λ (k : Clock). k .index) (c .start-clock .ensures)
+returns c = cc
 
 pub port-start-clock-index-spec : {M : Type 1} → statement M
 port-start-clock-index-spec = tie.close (tie.spec start-clock-requires returns)

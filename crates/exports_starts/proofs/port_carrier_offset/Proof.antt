@@ -1,7 +1,5 @@
 -- `exports_starts::port_carrier_offset` meets its contract. Assumes nothing.
-use mathlib.Core.Path.{ap, _∙_}
-use Rattle.distributions.specs.declared.OffsetAnswer.{OffsetAnswer}
-use Rattle.exports_starts.specs.Drawn.{askedOf, offsetDrawn}
+use Rattle.exports_starts.specs.Drawn.{askedOf}
 use borrow.Author.Needs.{needs}
 use Rattle.exports_starts.proofs.port_carrier_offset.Statement.{statement}
 use Rattle.exports_starts.proofs.port_carrier_offset.Tie as tie
@@ -14,7 +12,7 @@ offset-drawn-requires c κs = search needs
 
 returns : tie.Need-returns
 unfolding askedOf
-returns c = c .offset-drawn .ensures ∙ ap (λ (a : OffsetAnswer). offsetDrawn a (c .before .before .args .draw)) (c .before .carrier-offset .ensures)
+returns c = cc
 
 pub port-carrier-offset-spec : {M : Type 1} → statement M
 port-carrier-offset-spec =

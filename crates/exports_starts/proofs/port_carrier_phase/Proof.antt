@@ -1,7 +1,5 @@
 -- `exports_starts::port_carrier_phase` meets its contract. Assumes nothing.
-use mathlib.Core.Path.{ap, _∙_}
-use Rattle.distributions.specs.declared.PhaseAnswer.{PhaseAnswer}
-use Rattle.exports_starts.specs.Drawn.{askedOf, phaseDrawn}
+use Rattle.exports_starts.specs.Drawn.{askedOf}
 use borrow.Author.Needs.{needs}
 use Rattle.exports_starts.proofs.port_carrier_phase.Statement.{statement}
 use Rattle.exports_starts.proofs.port_carrier_phase.Tie as tie
@@ -14,7 +12,7 @@ phase-drawn-requires c κs = search needs
 
 returns : tie.Need-returns
 unfolding askedOf
-returns c = c .phase-drawn .ensures ∙ ap (λ (a : PhaseAnswer). phaseDrawn a (c .before .before .args .draw)) (c .before .carrier-phase .ensures)
+returns c = cc
 
 pub port-carrier-phase-spec : {M : Type 1} → statement M
 port-carrier-phase-spec = tie.close (tie.spec carrier-phase-requires phase-drawn-requires returns)
