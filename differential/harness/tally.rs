@@ -138,7 +138,11 @@ pub fn pattern32(x: f32) -> u32 {
 
 /// The bits of an f64; one pattern for every NaN.
 pub fn pattern64(x: f64) -> u64 {
-    if x.is_nan() { 0x7ff8_0000_0000_0000 } else { x.to_bits() }
+    if x.is_nan() {
+        0x7ff8_0000_0000_0000
+    } else {
+        x.to_bits()
+    }
 }
 
 /// The bits of each.

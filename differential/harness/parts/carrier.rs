@@ -17,14 +17,26 @@ pub fn compare(t: &mut Tally, r: &mut Random, count: u64) {
     let some: Vec<f64> = (0..count).map(|_| phase(r)).collect();
     for x in special.chain(some) {
         let wrapped = math::phase_wrap_f64(x);
-        t.same("phase_wrap_f64", x, pattern64(wrapped), pattern64(port_phase_wrap_f64(x)));
+        t.same(
+            "phase_wrap_f64",
+            x,
+            pattern64(wrapped),
+            pattern64(port_phase_wrap_f64(x)),
+        );
         let once = math::phase_wrap_once_f64(x);
-        t.same("phase_wrap_once_f64", x, pattern64(once), pattern64(port_phase_wrap_once_f64(x)));
+        t.same(
+            "phase_wrap_once_f64",
+            x,
+            pattern64(once),
+            pattern64(port_phase_wrap_once_f64(x)),
+        );
         let (sin, cos) = lent::sin_cos_by_steps(x);
         t.same("sine", x, pattern64(sin), pattern64(port_sine(x)));
         t.same("cosine", x, pattern64(cos), pattern64(port_cosine(x)));
         if (-PI..=PI).contains(&x) {
-            let far = (port_sine(x) - x.sin()).abs().max((port_cosine(x) - x.cos()).abs());
+            let far = (port_sine(x) - x.sin())
+                .abs()
+                .max((port_cosine(x) - x.cos()).abs());
             t.same("sine and cosine near sin_cos", x, true, far <= 2f64.powi(-23));
         }
     }

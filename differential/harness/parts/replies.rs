@@ -42,7 +42,12 @@ pub fn compare(t: &mut Tally, r: &mut Random, count: u64) {
     every_mode_ac(t);
     for n in 0..=240 {
         let ours = port_required_samples_for_apply(n) as usize;
-        t.alike("required_samples_for_apply", n, required_samples_for_apply(n as usize), ours);
+        t.alike(
+            "required_samples_for_apply",
+            n,
+            required_samples_for_apply(n as usize),
+            ours,
+        );
     }
 }
 
@@ -73,13 +78,21 @@ fn class(t: &mut Tally, r: &mut Random) {
         SSRReply::ModeAC(ModeACReply::new(0, false).unwrap()),
     ];
     for (kind, m) in all.iter().enumerate() {
-        t.alike("from_message", (kind, long), number(MessageType::from_message(m)), port_from_message(kind as u8, &long));
+        t.alike(
+            "from_message",
+            (kind, long),
+            number(MessageType::from_message(m)),
+            port_from_message(kind as u8, &long),
+        );
     }
 }
 
 /// The number of a type, 7 for none.
 fn number(class: Option<MessageType>) -> u8 {
-    MessageType::ALL.iter().position(|t| Some(*t) == class).unwrap_or(7) as u8
+    MessageType::ALL
+        .iter()
+        .position(|t| Some(*t) == class)
+        .unwrap_or(7) as u8
 }
 
 fn duration(t: &mut Tally, r: &mut Random) {
@@ -90,7 +103,16 @@ fn duration(t: &mut Tally, r: &mut Random) {
     };
     let nanoseconds = match r.below(4) {
         0 => r.word() as u32,
-        1 => r.pick(&[0, 124, 125, 421_312_124, 421_312_125, 999_999_999, 1_000_000_000, u32::MAX]),
+        1 => r.pick(&[
+            0,
+            124,
+            125,
+            421_312_124,
+            421_312_125,
+            999_999_999,
+            1_000_000_000,
+            u32::MAX,
+        ]),
         _ => r.below(1_000_000_000) as u32,
     };
     let samples = u128::from(seconds) * 8_000_000 + u128::from(nanoseconds) / 125;
@@ -122,7 +144,9 @@ fn made(t: &mut Tally, r: &mut Random, count: u64) {
             }
             done += 1;
             let mut bytes = [0xaa; 14];
-            let fault = port_make(d.kind, d.df_pick, d.ca_pick, d.overlay, &d.bytes, d.data, d.spi, &mut bytes);
+            let fault = port_make(
+                d.kind, d.df_pick, d.ca_pick, d.overlay, &d.bytes, d.data, d.spi, &mut bytes,
+            );
             let kind = port_make_kind(d.kind, d.df_pick, d.ca_pick, d.overlay, &d.bytes, d.data, d.spi);
             let expected = rules::field_at_fault(&s, &d);
             t.alike("field of making at fault", d, expected.unwrap_or(0), fault);
@@ -136,8 +160,18 @@ fn made(t: &mut Tally, r: &mut Random, count: u64) {
             let length = reply.len();
             reply.resize(14, 0);
             let lengths = [7, 14, 2];
-            t.alike("making", d, (reply.as_slice(), length), (&bytes, lengths[usize::from(kind)]));
-            t.alike("class of a made message", d, number(MessageType::from_message(&m)), port_from_message(kind, &bytes));
+            t.alike(
+                "making",
+                d,
+                (reply.as_slice(), length),
+                (&bytes, lengths[usize::from(kind)]),
+            );
+            t.alike(
+                "class of a made message",
+                d,
+                number(MessageType::from_message(&m)),
+                port_from_message(kind, &bytes),
+            );
             t.see(&format!("type {} made", d.kind));
             pulses(t, &m);
             lengths_of(t, &m);

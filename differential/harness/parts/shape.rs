@@ -38,7 +38,12 @@ pub fn compare(t: &mut Tally, r: &mut Random, count: u64) {
     }
     for n in 0..=240 {
         let ours = port_filterbank_required_samples(n);
-        t.alike("filterbank's required samples", n, required_samples_for_apply(usize::from(n)), ours);
+        t.alike(
+            "filterbank's required samples",
+            n,
+            required_samples_for_apply(usize::from(n)),
+            ours,
+        );
     }
 }
 
@@ -56,7 +61,11 @@ pub fn prototypes_of(taps: &[f32]) -> [[f32; 1792]; 2] {
 fn prototypes(t: &mut Tally, taps: &[f32]) -> [Vec<f32>; 2] {
     let expected = judge::prototypes(taps);
     let ours = prototypes_of(taps);
-    for ((name, a), b) in ["mode_s_prototype", "mode_ac_prototype"].into_iter().zip(&expected).zip(&ours) {
+    for ((name, a), b) in ["mode_s_prototype", "mode_ac_prototype"]
+        .into_iter()
+        .zip(&expected)
+        .zip(&ours)
+    {
         t.alike(name, taps, patterns(a), patterns(b));
     }
     expected
@@ -77,7 +86,17 @@ fn delay(t: &mut Tally, r: &mut Random, p: &[f32]) {
     let mut other = p.to_vec();
     for _ in 0..r.below(6) {
         let k = r.below(other.len());
-        other[k] = r.pick(&[0.5, 0.0, -0.0, 16.0, 0.49999997, 0.50000006, f32::NAN, f32::INFINITY, f32::NEG_INFINITY]);
+        other[k] = r.pick(&[
+            0.5,
+            0.0,
+            -0.0,
+            16.0,
+            0.49999997,
+            0.50000006,
+            f32::NAN,
+            f32::INFINITY,
+            f32::NEG_INFINITY,
+        ]);
     }
     let low: Vec<f32> = p.iter().map(|x| x.clamp(-16.0, 0.5)).collect();
     for q in [p, &other, &low, &p[..r.below(3)]] {
@@ -86,7 +105,11 @@ fn delay(t: &mut Tally, r: &mut Random, p: &[f32]) {
             true => (open::group_delay(q), open::group_delay(q) / (1500.0 / 1450.0)),
             false => (-1.0, -1.0),
         };
-        t.see(if crosses { "prototype that crosses 0.5" } else { "prototype that does not cross 0.5" });
+        t.see(if crosses {
+            "prototype that crosses 0.5"
+        } else {
+            "prototype that does not cross 0.5"
+        });
         let [ours, ours_ac] = delays_of(q, q);
         t.alike("group_delay", q, pattern64(plain), pattern64(ours));
         t.alike("mode_ac_group_delay", q, pattern64(mode_ac), pattern64(ours_ac));
@@ -119,7 +142,12 @@ fn taps_at(t: &mut Tally, r: &mut Random, p: &[f32]) {
     let sum = open::convolve_taps_pulses(&expected, &on[..length], index);
     let mut laid = [true; 252];
     port_lay_late(&on, length, &mut laid);
-    t.alike("pulse_sum", (expected, on, length, index), pattern32(sum), pattern32(port_pulse_sum(&expected, &laid, index)));
+    t.alike(
+        "pulse_sum",
+        (expected, on, length, index),
+        pattern32(sum),
+        pattern32(port_pulse_sum(&expected, &laid, index)),
+    );
 }
 
 /// The filterbank's values of a message by the port's functions.
@@ -134,7 +162,10 @@ pub fn values_of(prototype: &[f32], message: &SSRReply, phase: f64, error: f64) 
     while index < length + 6 {
         unsafe { port_filter_taps(prototype.as_ptr(), prototype.len(), phase, &mut taps) };
         all.push(port_pulse_sum(&taps, &laid, index));
-        (phase, index) = (port_advance_phase(phase, index, step), port_advance_index(phase, index, step));
+        (phase, index) = (
+            port_advance_phase(phase, index, step),
+            port_advance_index(phase, index, step),
+        );
     }
     all
 }
@@ -154,8 +185,18 @@ fn messages(t: &mut Tally, r: &mut Random, all: &[Vec<f32>; 2], taps: &[f32]) {
         let expected = open::values(p, &m, phase, error);
         t.range("values of a message", expected.len() as u64);
         let ours = values_of(p, &m, phase, error);
-        t.alike("values of whole messages", (&m, phase, error), patterns(&expected), patterns(&ours));
+        t.alike(
+            "values of whole messages",
+            (&m, phase, error),
+            patterns(&expected),
+            patterns(&ours),
+        );
         let most = required_samples_for_apply(simulation::open::pulses(&m).len());
-        t.alike("values within the required samples", (&m, phase, error), true, expected.len() <= most);
+        t.alike(
+            "values within the required samples",
+            (&m, phase, error),
+            true,
+            expected.len() <= most,
+        );
     }
 }

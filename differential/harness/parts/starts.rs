@@ -48,10 +48,12 @@ pub fn compare(t: &mut Tally, r: &mut Random, count: u64) {
             if time <= 2f64.powi(52) {
                 samples(t, &m, draw, &all, delays);
             }
-            m.timestamp_samples = r.any_f64();
-            let (within, any) = (r.within(0.1), r.any_f64());
-            m.symbol_clock_error = r.pick(&[within, 0.1, -0.1, any]);
-            starts(t, &m, delays);
+            for _ in 0..10 {
+                let (within, any) = (r.within(0.1), r.any_f64());
+                m.timestamp_samples = r.any_f64();
+                m.symbol_clock_error = r.pick(&[within, 0.1, -0.1, any]);
+                starts(t, &m, delays);
+            }
         }
     }
 }
@@ -94,7 +96,11 @@ fn asked(t: &mut Tally, r: &mut Random, worked: &Settings, mut d: Draw) {
                 [m.carrier_frequency_offset, m.carrier_phase, m.symbol_clock_error][place]
             }
         };
-        t.see(if expected.is_nan() { "distribution refused" } else { "distribution accepted" });
+        t.see(if expected.is_nan() {
+            "distribution refused"
+        } else {
+            "distribution accepted"
+        });
         let (name, ours) = ours_drawn(place, a, &d);
         t.alike(name, (a, d), pattern64(expected), pattern64(ours));
     }
@@ -102,9 +108,18 @@ fn asked(t: &mut Tally, r: &mut Random, worked: &Settings, mut d: Draw) {
 
 fn ours_drawn(place: usize, a: Asked, d: &Draw) -> (&'static str, f64) {
     match place {
-        0 => ("carrier offset", port_carrier_offset(a.kind, a.first, a.second, d.carrier)),
-        1 => ("carrier phase", port_carrier_phase(a.kind, a.first, a.second, d.phase)),
-        _ => ("clock error", port_clock_error(a.kind, a.first, a.second, d.clock)),
+        0 => (
+            "carrier offset",
+            port_carrier_offset(a.kind, a.first, a.second, d.carrier),
+        ),
+        1 => (
+            "carrier phase",
+            port_carrier_phase(a.kind, a.first, a.second, d.phase),
+        ),
+        _ => (
+            "clock error",
+            port_clock_error(a.kind, a.first, a.second, d.clock),
+        ),
     }
 }
 
@@ -123,10 +138,20 @@ fn carrier(t: &mut Tally, r: &mut Random) {
     let (any, low) = (r.word() as i64, r.below(100_000) as i64);
     let first = r.pick(&[any, low, time.ceil() as i64]);
     let rate = 2.0 * PI * offset / 8_000_000.0;
-    t.same("carrier_rate", offset, pattern64(rate), pattern64(port_carrier_rate(offset)));
+    t.same(
+        "carrier_rate",
+        offset,
+        pattern64(rate),
+        pattern64(port_carrier_rate(offset)),
+    );
     let expected = math::phase_wrap_f64(phase - (time - first as f64) * rate);
     let ours = port_first_phase(phase, time, first, rate);
-    t.alike("first_phase", (phase, time, first, rate), pattern64(expected), pattern64(ours));
+    t.alike(
+        "first_phase",
+        (phase, time, first, rate),
+        pattern64(expected),
+        pattern64(ours),
+    );
 }
 
 fn delay(m: &MessageConfig, delays: [f64; 2]) -> f64 {
@@ -146,14 +171,39 @@ fn filter_error(m: &MessageConfig) -> f64 {
 
 fn starts(t: &mut Tally, m: &MessageConfig, delays: [f64; 2]) {
     let (time, e, delay) = (m.timestamp_samples, m.symbol_clock_error, delay(m, delays));
-    t.alike("group_delay of a message", m, pattern64(open::group_delay(m)), pattern64(delay));
-    t.alike("first_sample_index", m, open::first_sample_index(m), port_start(time, delay, e));
+    t.alike(
+        "group_delay of a message",
+        m,
+        pattern64(open::group_delay(m)),
+        pattern64(delay),
+    );
+    t.alike(
+        "first_sample_index",
+        m,
+        open::first_sample_index(m),
+        port_start(time, delay, e),
+    );
     let error = filter_error(m);
-    t.alike("clock_error_for_filterbank", m, pattern64(open::clock_error_for_filterbank(m)), pattern64(error));
+    t.alike(
+        "clock_error_for_filterbank",
+        m,
+        pattern64(open::clock_error_for_filterbank(m)),
+        pattern64(error),
+    );
     let phase = port_clock_phase(time, delay, e, error);
-    t.alike("clock_phase", m, pattern64(open::clock_phase(m)), pattern64(phase));
+    t.alike(
+        "clock_phase",
+        m,
+        pattern64(open::clock_phase(m)),
+        pattern64(phase),
+    );
     let ratio = 1500.0 / 1450.0;
-    t.same("mode_ac_delay", time, pattern64(time / ratio), pattern64(port_mode_ac_delay(time)));
+    t.same(
+        "mode_ac_delay",
+        time,
+        pattern64(time / ratio),
+        pattern64(port_mode_ac_delay(time)),
+    );
 }
 
 /// The samples that a message adds, from the port's functions.
@@ -167,8 +217,16 @@ fn samples(t: &mut Tally, m: &MessageConfig, d: &Draw, prototypes: &[[f32; 1792]
     let mut ours = Vec::new();
     for x in values_of(p, &m.message, port_clock_phase(time, delay, e, error), error) {
         let x = d.amplitude * x;
-        ours.extend([x * port_narrow(port_cosine(phase)), x * port_narrow(port_sine(phase))]);
+        ours.extend([
+            x * port_narrow(port_cosine(phase)),
+            x * port_narrow(port_sine(phase)),
+        ]);
         phase = port_phase_wrap_once_f64(phase + rate);
     }
-    t.alike("samples of whole messages", (m, d.amplitude), patterns(&expected), patterns(&ours));
+    t.alike(
+        "samples of whole messages",
+        (m, d.amplitude),
+        patterns(&expected),
+        patterns(&ours),
+    );
 }

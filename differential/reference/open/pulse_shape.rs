@@ -41,7 +41,18 @@ pub fn convolve_taps_pulses(taps: &[f32; super::TAPS_PER_BRANCH], pulses: &[bool
 }
 
 /// The filterbank's values of a whole message.
-pub fn values(prototype: &[f32], message: &super::super::SSRReply, clock_phase: f64, clock_error: f64) -> Vec<f32> {
+pub fn values(
+    prototype: &[f32],
+    message: &super::super::SSRReply,
+    clock_phase: f64,
+    clock_error: f64,
+) -> Vec<f32> {
     let pulses = super::super::message_to_pulses(message);
-    super::apply_filterbank(&super::prototype_to_bank(prototype), pulses, clock_phase, clock_error).collect()
+    super::apply_filterbank(
+        &super::prototype_to_bank(prototype),
+        pulses,
+        clock_phase,
+        clock_error,
+    )
+    .collect()
 }

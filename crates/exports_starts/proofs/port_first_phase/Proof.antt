@@ -1,8 +1,6 @@
 -- `exports_starts::port_first_phase` meets its contract. Assumes nothing.
-use mathlib.Core.Path.{ap, _∙_}
-use lib.IntN.{ℤ}
+use mathlib.Core.Path.{_∙_}
 use mir.Facts.{toZ-ofZ}
-use Rattle.message_config.specs.Carrier.{firstPhase}
 use borrow.Author.Needs.{needs}
 use Rattle.exports_starts.proofs.port_first_phase.Statement.{statement}
 use Rattle.exports_starts.proofs.port_first_phase.Tie as tie
@@ -11,7 +9,7 @@ first-phase-requires : tie.Need-first-phase-requires
 first-phase-requires c κs = search needs
 
 returns : tie.Need-returns
-returns c = let a = c .before .args in c .first-phase .ensures ∙ ap (λ (z : ℤ). firstPhase (a .phase) (a .time) z (a .rate)) (toZ-ofZ (c .before .fits .first))
+returns c = c .first-phase .ensures ∙ simp (toZ-ofZ (c .before .fits .first))
 
 pub port-first-phase-spec : {M : Type 1} → statement M
 port-first-phase-spec = tie.close (tie.spec first-phase-requires returns)
