@@ -1,4 +1,4 @@
-// Functions of the port on the shape of pulses under C names, for the differential harness to call: each only calls, turns an answer into numbers, and promises what it calls promises. What is called has must-fail edits of its own, so that one for each function is enough here. Assumes nothing.
+// Functions of the port on the shape of pulses under C names, for the differential harness to call: each only calls, turns an answer into numbers, and promises what it calls promises. Assumes nothing.
 use filterbank::Clock;
 use pulse_shape::Crossing;
 ghost use mathlib.Core.Path.{_≡_};
