@@ -1,12 +1,20 @@
-//! Parts of the port against the reference, function by function: the port's static library (crate `exports`) linked
-//! into this program. A part is one file in parts/ and its two lines here.
+//! Parts of the port against the reference, function by function: the port's static libraries (the crates `exports..`)
+//! linked into this program. A part is one file in parts/ and its two lines here.
 // What is shared with the other program is used in part.
 #![allow(dead_code)]
 
+mod judge;
+mod make;
 mod random;
+mod rules;
 mod tally;
+mod tape;
 mod parts {
+    pub mod carrier;
     pub mod floats;
+    pub mod replies;
+    pub mod shape;
+    pub mod starts;
 }
 
 use random::Random;
@@ -22,6 +30,10 @@ fn main() {
     let mut tally = Tally::new(PathBuf::from(folder));
     let mut r = Random::new(seed);
     parts::floats::compare(&mut tally, &mut r, count);
+    parts::carrier::compare(&mut tally, &mut r, count);
+    parts::replies::compare(&mut tally, &mut r, count);
+    parts::shape::compare(&mut tally, &mut r, count);
+    parts::starts::compare(&mut tally, &mut r, count);
     tally.print();
     let (n, wrong) = tally.totals();
     println!("parts: {n} comparisons, {wrong} differences");

@@ -58,6 +58,23 @@ impl Tally {
         self.compare(name, &format!("{bits:016x}"), &bits.to_le_bytes(), wrong);
     }
 
+    /// One comparison of an answer to anything; where it differs, the file that is kept holds the input as text.
+    pub fn alike<I: std::fmt::Debug, T: PartialEq + std::fmt::Debug>(
+        &mut self,
+        name: &'static str,
+        input: I,
+        reference: T,
+        ours: T,
+    ) {
+        if reference == ours {
+            return self.compare(name, "", &[], None);
+        }
+        let number = self.counts.get(name).map_or(0, |c| c.0);
+        let text = format!("{input:?}: {reference:?} by the reference, {ours:?} by ours");
+        let short = text.chars().take(400).collect();
+        self.compare(name, &format!("case {number}"), text.as_bytes(), Some(short));
+    }
+
     /// Counts what came about, so that a reader sees what was tried.
     pub fn see(&mut self, what: &str) {
         *self.seen.entry(what.to_string()).or_default() += 1;
@@ -112,4 +129,23 @@ pub fn first_difference(what: &str, reference: &[u8], ours: &[u8]) -> Option<Str
 /// f32 values as bytes, so that every bit counts.
 pub fn bytes_of(values: &[f32]) -> Vec<u8> {
     values.iter().flat_map(|x| x.to_le_bytes()).collect()
+}
+
+/// The bits of an f32; one pattern for every NaN.
+pub fn pattern32(x: f32) -> u32 {
+    if x.is_nan() { 0x7fc0_0000 } else { x.to_bits() }
+}
+
+/// The bits of an f64; one pattern for every NaN.
+pub fn pattern64(x: f64) -> u64 {
+    if x.is_nan() {
+        0x7ff8_0000_0000_0000
+    } else {
+        x.to_bits()
+    }
+}
+
+/// The bits of each.
+pub fn patterns(values: &[f32]) -> Vec<u32> {
+    values.iter().map(|x| pattern32(*x)).collect()
 }

@@ -1,8 +1,10 @@
-// Functions of the port under C names, for the differential harness to call: each only calls, and promises what it calls promises. Assumes nothing.
+// Functions of the port under C names, for the differential harness to call: each only calls, and promises what it calls promises. What is called has must-fail edits of its own, so that one for each function is enough here. Assumes nothing.
 ghost use mathlib.Core.Path.{_≡_};
 ghost use lib.Ieee.{toUnsigned};
 ghost use Rattle.float_bits.specs.Narrow.{narrow as narrowed};
 ghost use Rattle.float_bits.specs.Ceil.{ceilSigned};
+ghost use Rattle.math.specs.Phase.{phaseWrap, phaseWrapOnce};
+ghost use Rattle.math.specs.Carrier.{sinCos};
 
 // Rust's `x as f32`.
 #[no_mangle]
@@ -26,4 +28,34 @@ pub extern "C" fn port_to_u64(x: f64) -> u64
     ensures { λ r. ⌜ r ≡ toUnsigned 64 x ⌝ }
 {
     float_bits::to_u64(x)
+}
+
+#[no_mangle]
+pub extern "C" fn port_phase_wrap_f64(phase: f64) -> f64
+    ensures { λ r. ⌜ r ≡ phaseWrap phase ⌝ }
+{
+    math::phase_wrap_f64(phase)
+}
+
+#[no_mangle]
+pub extern "C" fn port_phase_wrap_once_f64(phase: f64) -> f64
+    ensures { λ r. ⌜ r ≡ phaseWrapOnce phase ⌝ }
+{
+    math::phase_wrap_once_f64(phase)
+}
+
+#[no_mangle]
+pub extern "C" fn port_sine(p: f64) -> f64
+    ensures { λ r. ⌜ r ≡ (sinCos p) .sin ⌝ }
+{
+    let y = math::sin_cos(p);
+    y.sin
+}
+
+#[no_mangle]
+pub extern "C" fn port_cosine(p: f64) -> f64
+    ensures { λ r. ⌜ r ≡ (sinCos p) .cos ⌝ }
+{
+    let y = math::sin_cos(p);
+    y.cos
 }

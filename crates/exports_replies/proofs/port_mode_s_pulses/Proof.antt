@@ -1,0 +1,13 @@
+-- `exports_replies::port_mode_s_pulses` meets its contract. Assumes nothing.
+use borrow.Author.Needs.{needs}
+use Rattle.exports_replies.proofs.port_mode_s_pulses.Statement.{statement}
+use Rattle.exports_replies.proofs.port_mode_s_pulses.Tie as tie
+
+mode-s-pulses-requires : tie.Need-mode-s-pulses-requires
+mode-s-pulses-requires c κs = search needs
+
+returns : tie.Need-returns
+returns c = (cc, cc)
+
+pub port-mode-s-pulses-spec : {M : Type 1} → statement M
+port-mode-s-pulses-spec = tie.close (tie.spec mode-s-pulses-requires returns)

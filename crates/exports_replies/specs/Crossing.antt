@@ -1,0 +1,55 @@
+-- How replies, classes and refusals cross to the Rust, as numbers. Definitions only.
+use Prim.Native.Nat.{ℕ, zero, suc}
+use mathlib.Core.Bool.{Bool}
+use mathlib.Core.List.{List}
+use lib.ListN.{replicate}
+use Rattle.message.specs.declared.ReplyKind.{ReplyKind}
+use Rattle.message.specs.declared.ReplyKind.the-variants.{Short, Long, ModeAc}
+use Rattle.message.specs.declared.Reply.{Reply}
+use Rattle.message.specs.declared.Picks.{Picks}
+use Rattle.message.specs.declared.Field.{Field}
+use Rattle.message.specs.declared.Field.the-variants.{Fine, Wrong}
+use Rattle.message.specs.declared.Made.{Made}
+use Rattle.message.specs.declared.TypeFound.{TypeFound}
+use Rattle.message.specs.declared.TypeFound.the-variants.{Of, Unknown}
+use Rattle.message.specs.Types.{typeNumber}
+use Rattle.message.specs.Making.{made}
+use Rattle.duration.specs.Duration.{Answer, samples, refusal}
+
+-- the kinds: 0 short, 1 long, and Mode A/C
+unfoldable pub kindNumber : ReplyKind → ℕ
+kindNumber Short = 0
+kindNumber Long = 1
+kindNumber ModeAc = 2
+
+unfoldable pub kindNumbered : ℕ → ReplyKind
+kindNumbered zero = Short
+kindNumbered (suc zero) = Long
+kindNumbered (suc (suc n)) = ModeAc
+
+-- the field at fault, 0 for none: making faults no field 0
+unfoldable pub fieldNumber : Field → ℕ
+fieldNumber Fine = 0
+fieldNumber (Wrong n) = n
+
+-- the fields of a draw that a reply is made of
+unfoldable pub picksOf : ℕ → ℕ → ℕ → List ℕ → ℕ → ℕ → Picks
+picksOf f c o b d s = record { format = f; capability = c; overlay = o; bytes = b; «data» = d; spi = s }
+
+-- what making answers for a type's number; a number of no type is a fault of field 1
+unfoldable pub madeFor : TypeFound → Picks → Made
+madeFor (Of t) p = made t p
+madeFor Unknown p = record { fault = Wrong 1; reply = record { kind = Short; bytes = replicate 14 0 } }
+
+-- a type by its number, none as 7
+unfoldable pub classNumber : TypeFound → ℕ
+classNumber (Of t) = typeNumber t
+classNumber Unknown = 7
+
+unfoldable pub replyWith : ℕ → List ℕ → Reply
+replyWith k b = record { kind = kindNumbered k; bytes = b }
+
+-- samples as they are, a refusal as a number that none of them is
+unfoldable pub samplesNumber : Answer → ℕ
+samplesNumber (samples n) = n
+samplesNumber (refusal n) = 0xffff_ffff_ffff_ffff

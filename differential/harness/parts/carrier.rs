@@ -1,0 +1,57 @@
+//! The crate `math`: the wraps against the reference's, sine and cosine against document 01's steps.
+
+use crate::random::Random;
+use crate::tally::{Tally, pattern64};
+use reference::math;
+use std::f64::consts::PI;
+
+unsafe extern "C" {
+    pub safe fn port_phase_wrap_f64(phase: f64) -> f64;
+    pub safe fn port_phase_wrap_once_f64(phase: f64) -> f64;
+    pub safe fn port_sine(p: f64) -> f64;
+    pub safe fn port_cosine(p: f64) -> f64;
+}
+
+pub fn compare(t: &mut Tally, r: &mut Random, count: u64) {
+    let special = crate::random::SPECIAL.into_iter();
+    let some: Vec<f64> = (0..count).map(|_| phase(r)).collect();
+    for x in special.chain(some) {
+        let wrapped = math::phase_wrap_f64(x);
+        t.same(
+            "phase_wrap_f64",
+            x,
+            pattern64(wrapped),
+            pattern64(port_phase_wrap_f64(x)),
+        );
+        let once = math::phase_wrap_once_f64(x);
+        t.same(
+            "phase_wrap_once_f64",
+            x,
+            pattern64(once),
+            pattern64(port_phase_wrap_once_f64(x)),
+        );
+        let (sin, cos) = lent::sin_cos_by_steps(x);
+        t.same("sine", x, pattern64(sin), pattern64(port_sine(x)));
+        t.same("cosine", x, pattern64(cos), pattern64(port_cosine(x)));
+        if (-PI..=PI).contains(&x) {
+            let far = (port_sine(x) - x.sin())
+                .abs()
+                .max((port_cosine(x) - x.cos()).abs());
+            t.same("sine and cosine near sin_cos", x, true, far <= 2f64.powi(-23));
+        }
+    }
+}
+
+/// A phase from -PI to PI, one near a limit of the wraps or the quadrants, or any f64.
+fn phase(r: &mut Random) -> f64 {
+    match r.below(4) {
+        0 => r.argument(),
+        1 => {
+            let limit = r.pick(&[0.25, 0.5, 0.75, 1.0, 2.0, 3.0]) * PI;
+            let near = r.pick(&[limit, limit.next_up(), limit.next_down()]);
+            if r.once_in(2) { near } else { -near }
+        }
+        2 => r.within(3.0 * PI),
+        _ => r.within(PI),
+    }
+}

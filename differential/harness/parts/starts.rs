@@ -1,0 +1,232 @@
+//! The crates `distributions` and `message_config`: what is accepted, what a draw becomes, starts and phases; last, the
+//! samples of whole messages from all parts together.
+
+use crate::parts::carrier::{port_cosine, port_phase_wrap_once_f64, port_sine};
+use crate::parts::floats::port_narrow;
+use crate::parts::shape::{delays_of, prototypes_of, values_of};
+use crate::random::Random;
+use crate::tally::{Tally, pattern64, patterns};
+use crate::tape::{Asked, Draw, Settings};
+use crate::{judge, make};
+use reference::math;
+use reference::simulation::{MessageConfig, SSRReply, open};
+use std::f64::consts::PI;
+
+unsafe extern "C" {
+    safe fn port_mode_ac_delay(group_delay: f64) -> f64;
+    safe fn port_start(time: f64, delay: f64, e: f64) -> i64;
+    safe fn port_mode_s_filter_clock_error(e: f64) -> f64;
+    safe fn port_mode_ac_filter_clock_error(e: f64) -> f64;
+    safe fn port_clock_phase(time: f64, delay: f64, e: f64, filter_error: f64) -> f64;
+    safe fn port_carrier_rate(offset: f64) -> f64;
+    safe fn port_first_phase(phase: f64, time: f64, first: i64, rate: f64) -> f64;
+    safe fn port_carrier_offset(kind: u8, first: f64, second: f64, draw: f64) -> f64;
+    safe fn port_carrier_phase(kind: u8, first: f64, second: f64, draw: f64) -> f64;
+    safe fn port_clock_error(kind: u8, first: f64, second: f64, draw: f64) -> f64;
+}
+
+pub fn compare(t: &mut Tally, r: &mut Random, count: u64) {
+    let worked = make::worked();
+    for _ in 0..count / 4 {
+        asked(t, r, &worked.settings, worked.draws[0]);
+        carrier(t, r);
+    }
+    for _ in 0..(count / 1000).max(1) {
+        let taps = make::taps(r);
+        lent::lend_taps(&taps);
+        let all = prototypes_of(&taps);
+        let delays = delays_of(&all[0], &all[1]);
+        let s = make::settings(r, 6000);
+        let d = judge::distributions(&s).expect("accepted settings");
+        let mut time = 0.0;
+        for draw in make::draws(r, &s, 6000).iter().take(5) {
+            time += draw.gap;
+            let mut m = judge::config(draw, time, d);
+            drawn(t, &s, draw, &m);
+            starts(t, &m, delays);
+            // Beyond the longest run the start saturates, and the Rust panics.
+            if time <= 2f64.powi(52) {
+                samples(t, &m, draw, &all, delays);
+            }
+            for _ in 0..10 {
+                let (within, any) = (r.within(0.1), r.any_f64());
+                m.timestamp_samples = r.any_f64();
+                m.symbol_clock_error = r.pick(&[within, 0.1, -0.1, any]);
+                starts(t, &m, delays);
+            }
+        }
+    }
+}
+
+/// A distribution of any kind with any numbers: refused, a NaN, or what the draw becomes.
+fn asked(t: &mut Tally, r: &mut Random, worked: &Settings, mut d: Draw) {
+    let near = |r: &mut Random| match r.below(4) {
+        0 => r.any_f64(),
+        1 => {
+            let x = r.pick(&[4e6, 0.1, 0.0, 5e-324, f64::MAX]);
+            let y = r.pick(&[x, x.next_up(), x.next_down()]);
+            if r.once_in(2) { y } else { -y }
+        }
+        2 => r.within(0.1),
+        _ => r.within(5e6),
+    };
+    let a = Asked {
+        kind: r.pick(&[0, 0, 1, 1, 2, 255]),
+        first: near(r),
+        second: near(r),
+    };
+    let plain = Asked {
+        kind: 0,
+        first: 0.0,
+        second: 0.0,
+    };
+    let some = r.normal();
+    d.carrier = r.pick(&[some, some, 0.0, -0.0, 1e300, -1e300, 5e-324]);
+    (d.phase, d.clock) = (r.within(PI), r.within(0.1));
+    for place in 0..3 {
+        let mut s = worked.clone();
+        (s.carrier, s.phase, s.clock) = (plain, plain, plain);
+        *[&mut s.carrier, &mut s.phase, &mut s.clock][place] = a;
+        let expected = match judge::distributions(&s) {
+            // The Rust has no third kind.
+            _ if a.kind > 1 => f64::NAN,
+            Err(_) => f64::NAN,
+            Ok(all) => {
+                let m = judge::config(&d, 0.0, all);
+                [m.carrier_frequency_offset, m.carrier_phase, m.symbol_clock_error][place]
+            }
+        };
+        t.see(if expected.is_nan() {
+            "distribution refused"
+        } else {
+            "distribution accepted"
+        });
+        let (name, ours) = ours_drawn(place, a, &d);
+        t.alike(name, (a, d), pattern64(expected), pattern64(ours));
+    }
+}
+
+fn ours_drawn(place: usize, a: Asked, d: &Draw) -> (&'static str, f64) {
+    match place {
+        0 => (
+            "carrier offset",
+            port_carrier_offset(a.kind, a.first, a.second, d.carrier),
+        ),
+        1 => (
+            "carrier phase",
+            port_carrier_phase(a.kind, a.first, a.second, d.phase),
+        ),
+        _ => (
+            "clock error",
+            port_clock_error(a.kind, a.first, a.second, d.clock),
+        ),
+    }
+}
+
+/// What the draws of accepted tapes become.
+fn drawn(t: &mut Tally, s: &Settings, d: &Draw, m: &MessageConfig) {
+    let expected = [m.carrier_frequency_offset, m.carrier_phase, m.symbol_clock_error];
+    for (place, a) in [s.carrier, s.phase, s.clock].into_iter().enumerate() {
+        let (name, ours) = ours_drawn(place, a, d);
+        t.alike(name, (a, d), pattern64(expected[place]), pattern64(ours));
+    }
+}
+
+/// The two lines of `samples` on the carrier, which are not functions of their own in the Rust.
+fn carrier(t: &mut Tally, r: &mut Random) {
+    let (offset, phase, time) = (r.any_f64(), r.any_f64(), r.any_f64());
+    let (any, low) = (r.word() as i64, r.below(100_000) as i64);
+    let first = r.pick(&[any, low, time.ceil() as i64]);
+    let rate = 2.0 * PI * offset / 8_000_000.0;
+    t.same(
+        "carrier_rate",
+        offset,
+        pattern64(rate),
+        pattern64(port_carrier_rate(offset)),
+    );
+    let expected = math::phase_wrap_f64(phase - (time - first as f64) * rate);
+    let ours = port_first_phase(phase, time, first, rate);
+    t.alike(
+        "first_phase",
+        (phase, time, first, rate),
+        pattern64(expected),
+        pattern64(ours),
+    );
+}
+
+fn delay(m: &MessageConfig, delays: [f64; 2]) -> f64 {
+    delays[usize::from(mode_ac(m))]
+}
+
+fn mode_ac(m: &MessageConfig) -> bool {
+    matches!(m.message, SSRReply::ModeAC(_))
+}
+
+fn filter_error(m: &MessageConfig) -> f64 {
+    match mode_ac(m) {
+        true => port_mode_ac_filter_clock_error(m.symbol_clock_error),
+        false => port_mode_s_filter_clock_error(m.symbol_clock_error),
+    }
+}
+
+fn starts(t: &mut Tally, m: &MessageConfig, delays: [f64; 2]) {
+    let (time, e, delay) = (m.timestamp_samples, m.symbol_clock_error, delay(m, delays));
+    t.alike(
+        "group_delay of a message",
+        m,
+        pattern64(open::group_delay(m)),
+        pattern64(delay),
+    );
+    t.alike(
+        "first_sample_index",
+        m,
+        open::first_sample_index(m),
+        port_start(time, delay, e),
+    );
+    let error = filter_error(m);
+    t.alike(
+        "clock_error_for_filterbank",
+        m,
+        pattern64(open::clock_error_for_filterbank(m)),
+        pattern64(error),
+    );
+    let phase = port_clock_phase(time, delay, e, error);
+    t.alike(
+        "clock_phase",
+        m,
+        pattern64(open::clock_phase(m)),
+        pattern64(phase),
+    );
+    let ratio = 1500.0 / 1450.0;
+    t.same(
+        "mode_ac_delay",
+        time,
+        pattern64(time / ratio),
+        pattern64(port_mode_ac_delay(time)),
+    );
+}
+
+/// The samples that a message adds, from the port's functions.
+fn samples(t: &mut Tally, m: &MessageConfig, d: &Draw, prototypes: &[[f32; 1792]; 2], delays: [f64; 2]) {
+    let expected: Vec<f32> = open::samples(m).iter().flat_map(|z| [z.re, z.im]).collect();
+    let (time, e, delay) = (m.timestamp_samples, m.symbol_clock_error, delay(m, delays));
+    let error = filter_error(m);
+    let rate = port_carrier_rate(m.carrier_frequency_offset);
+    let mut phase = port_first_phase(m.carrier_phase, time, port_start(time, delay, e), rate);
+    let p = &prototypes[usize::from(mode_ac(m))];
+    let mut ours = Vec::new();
+    for x in values_of(p, &m.message, port_clock_phase(time, delay, e, error), error) {
+        let x = d.amplitude * x;
+        ours.extend([
+            x * port_narrow(port_cosine(phase)),
+            x * port_narrow(port_sine(phase)),
+        ]);
+        phase = port_phase_wrap_once_f64(phase + rate);
+    }
+    t.alike(
+        "samples of whole messages",
+        (m, d.amplitude),
+        patterns(&expected),
+        patterns(&ours),
+    );
+}
