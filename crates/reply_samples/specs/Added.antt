@@ -1,17 +1,18 @@
 -- Samples added into working memory: a flat list of f32, two for each place of a ring, real part first. Definitions only.
 use Prim.Native.Nat.{ℕ, _+_, _-_, _*_}
-use mathlib.Core.Bool.{cond}
+use mathlib.Core.Bool.{Bool, cond, _&&_}
 use mathlib.Core.List.{List, [], _∷_}
-use lib.Dec.{ltb}
-use lib.ListN.{getD, set}
+use lib.Dec.{ltb, eqb}
+use lib.ListN.{length, getD, set}
 use lib.Ieee.{Float, nan, binary32, add}
-use Rattle.constants.specs.Rate.{replyLimit, holdBack}
-use Rattle.reply_samples.specs.Samples.{Sample}
+use Rattle.constants.specs.Rate.{replyLimit, holdBack, workingMemory}
+use Rattle.reply_samples.specs.declared.Sample.{Sample}
 
 -- the places of the ring: 1,126
 abbrev pub ringPlaces : ℕ → ℕ
 ringPlaces sps = replyLimit sps + holdBack sps
 
+-- a sample added at a place
 unfoldable pub addedAt : List Float → ℕ → Sample → List Float
 addedAt memory place z =
     set (set memory (2 * place) (add binary32 (getD memory (2 * place) nan) (z .re))) (2 * place + 1) (add binary32 (getD memory (2 * place + 1) nan) (z .im))
@@ -24,3 +25,15 @@ nextPlace sps place = cond (ltb place (ringPlaces sps - 1)) (place + 1) 0
 unfoldable pub addedFrom : ℕ → List Float → ℕ → List Sample → List Float
 addedFrom sps memory place [] = memory
 addedFrom sps memory place (z ∷ zs) = addedFrom sps (addedAt memory place z) (nextPlace sps place) zs
+
+-- the memory has the length of working memory, and the place is one of its ring. A run refuses other memory, and names no other place
+unfoldable pub isPlace : ℕ → List Float → ℕ → Bool
+isPlace sps memory place = eqb (length memory) (workingMemory sps) && ltb place (ringPlaces sps)
+
+-- what a call leaves in memory, given a reply's samples: at what is no place, nothing is added
+unfoldable pub addedReply : ℕ → List Float → ℕ → List Sample → List Float
+addedReply sps memory place zs = cond (isPlace sps memory place) (addedFrom sps memory place zs) memory
+
+-- what it answers, given their number: at what is no place, 0
+unfoldable pub addedCount : ℕ → List Float → ℕ → ℕ → ℕ
+addedCount sps memory place n = cond (isPlace sps memory place) n 0

@@ -1,3 +1,4 @@
 pub mod ReplyPulses
 pub mod Samples
 pub mod Added
+pub mod Mirror

@@ -10,6 +10,7 @@ use Rattle.message.specs.declared.ReplyKind.the-variants.{Short, Long, ModeAc}
 use Rattle.pulses.specs.declared.Pulses.{Pulses}
 use Rattle.pulses.specs.ModeS.{modeSPulses}
 use Rattle.pulses.specs.ModeAC.{modeACPulses}
+use Rattle.pulse_length.specs.Length.{modeSNumSamples, modeACNumSamples}
 
 -- "Mode A/C is 2 bytes, low first, SPI as bit 12"
 unfoldable pub dataOf : List ℕ → ℕ
@@ -29,3 +30,12 @@ pulsesOf r = pulsesOfKind (r .kind) (r .bytes)
 -- the places that a reply takes, and whether a pulse stands at each
 unfoldable pub placesOf : Reply → List Bool
 placesOf r = take (pulsesOf r .len) (pulsesOf r .on)
+
+-- `message_num_samples`: the samples that a reply lasts at the nominal clock rate
+abbrev pub numSamplesOfKind : ℕ → ReplyKind → List ℕ → ℕ
+numSamplesOfKind sps Short bytes = modeSNumSamples sps false
+numSamplesOfKind sps Long bytes = modeSNumSamples sps true
+numSamplesOfKind sps ModeAc bytes = modeACNumSamples sps (spiOf bytes)
+
+unfoldable pub numSamplesOf : ℕ → Reply → ℕ
+numSamplesOf sps r = numSamplesOfKind sps (r .kind) (r .bytes)

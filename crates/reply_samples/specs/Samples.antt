@@ -1,6 +1,5 @@
 -- The samples that a reply adds, from its first one on: `MessageConfig::samples` of the Rust, which knows not where they are added. Their number is a definition apart from their values. Definitions only.
 use Prim.Native.Nat.{ℕ}
-use mathlib.Core.Bool.{Bool}
 use mathlib.Core.List.{List, [], _∷_}
 use lib.ListN.{length}
 use lib.Ieee.{Float, binary32, binary64, add, mul}
@@ -13,12 +12,8 @@ use Rattle.message_config.specs.declared.Delays.{Delays}
 use Rattle.message_config.specs.declared.MessageConfig.{MessageConfig}
 use Rattle.message_config.specs.Config.{configClockPhase, configClockError, configRate, configPhase}
 use Rattle.filterbank.specs.Apply.{applyFilterbank, sampleCount}
+use Rattle.reply_samples.specs.declared.Sample.{Sample}
 use Rattle.reply_samples.specs.ReplyPulses.{placesOf}
-
--- a complex sample: real and imaginary part
-pub record Sample : Type 0 where
-  pub re : Float
-  pub im : Float
 
 -- a value of the filterbank times the amplitude, and that times the cosine and the sine of a phase, each narrowed to f32
 unfoldable pub sampleAt : Float → Float → Float → Sample
@@ -31,17 +26,20 @@ unfoldable pub turned : Float → Float → Float → List Float → List Sample
 turned amplitude rate phase [] = []
 turned amplitude rate phase (v ∷ vs) = sampleAt amplitude v phase ∷ turned amplitude rate (phaseWrapOnce (add binary64 phase rate)) vs
 
+-- the samples of a reply by a prototype, given the delays and the draw's amplitude
+unfoldable pub samplesBy : ℕ → List Float → Delays → Float → MessageConfig → List Sample
+samplesBy sps prototype delays amplitude c =
+    turned amplitude (configRate sps c) (configPhase sps delays c) (applyFilterbank sps prototype (placesOf (c .reply)) (configClockPhase delays c) (configClockError c))
+
 -- each kind of reply has its prototype
 unfoldable pub prototypeOf : ReplyKind → List Float → List Float → List Float
 prototypeOf Short modeS modeAC = modeS
 prototypeOf Long modeS modeAC = modeS
 prototypeOf ModeAc modeS modeAC = modeAC
 
--- the samples of a reply, given the two prototypes, the delays and the draw's amplitude
+-- the samples of a reply, given the two prototypes
 unfoldable pub replySamples : ℕ → List Float → List Float → Delays → Float → MessageConfig → List Sample
-replySamples sps modeS modeAC delays amplitude c =
-    turned amplitude (configRate sps c) (configPhase sps delays c)
-    (applyFilterbank sps (prototypeOf (c .reply .kind) modeS modeAC) (placesOf (c .reply)) (configClockPhase delays c) (configClockError c))
+replySamples sps modeS modeAC delays amplitude c = samplesBy sps (prototypeOf (c .reply .kind) modeS modeAC) delays amplitude c
 
 -- how many they are: document 01's count of a reply
 unfoldable pub replyCount : ℕ → Delays → MessageConfig → ℕ

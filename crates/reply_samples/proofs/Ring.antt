@@ -1,0 +1,50 @@
+-- The ring: the place after that of sample s is that of sample s + 1, a place being the sample's number modulo the places; and adding keeps the memory's length. Assumes nothing.
+use Prim.Native.Nat.{ℕ, _+_, _-_, _%_, _<_, _≤_}
+use native.Mathlib.Nat.{mod-lt, mod-self, mod-eq-of-lt, mod-add-mod}
+use native.Mathlib.Omega.{arith}
+use mathlib.Core.Path.{_≡_, refl, sym, ap, _∙_}
+use mathlib.Core.Logic.{inl, inr}
+use mathlib.Core.Bool.{Bool, true, false, cond}
+use mathlib.Core.List.{List, [], _∷_}
+use borrow.Author.Tests.{lt-ltb, le-ltb}
+use lib.Dec.{ltb, lit≤}
+use lib.ListN.{length}
+use lib.Ieee.{Float}
+use Rattle.constants.specs.Rate.{four}
+use Rattle.filterbank.proofs.Laid.{le-or-lt}
+use Rattle.reply_samples.specs.declared.Sample.{Sample}
+use Rattle.reply_samples.specs.Added.{ringPlaces, addedAt, nextPlace, addedFrom, isPlace, addedReply}
+use Rattle.reply_samples.proofs.Turns.{added-length}
+
+-- among W places the next is one more, and 0 after the last
+step : (W s : ℕ) → 0 < W → cond (ltb (s % W) (W - 1)) (s % W + 1) 0 ≡ (s + 1) % W
+step W s h = elim (le-or-lt (W - 1) (s % W)) [
+  | inl l ↦ ap (λ (t : Bool). cond t (s % W + 1) 0) (le-ltb (s % W) (W - 1) l) ∙ sym (mod-self W) ∙ ap (λ (n : ℕ). n % W) (last W (s % W) h l (mod-lt s h)) ∙ mod-add-mod s W 1
+  | inr l ↦ ap (λ (t : Bool). cond t (s % W + 1) 0) (lt-ltb (s % W) (W - 1) l) ∙ sym (mod-eq-of-lt (inside W (s % W) l)) ∙ mod-add-mod s W 1
+]
+  where
+    last : (W r : ℕ) → 0 < W → W - 1 ≤ r → r < W → W ≡ r + 1
+    last W r h l k = omega arith
+
+    inside : (W r : ℕ) → r < W - 1 → r + 1 < W
+    inside W r l = omega arith
+
+pub next-ring : (sps s : ℕ) → 0 < ringPlaces sps → nextPlace sps (s % ringPlaces sps) ≡ (s + 1) % ringPlaces sps
+unfolding nextPlace
+next-ring sps s h = step (ringPlaces sps) s h
+
+pub next-at-four : (s : ℕ) → nextPlace four (s % 1126) ≡ (s + 1) % 1126
+next-at-four s = next-ring four s (lit≤ tt)
+
+pub length-kept : (sps : ℕ) (m : List Float) (place : ℕ) (zs : List Sample) → length (addedFrom sps m place zs) ≡ length m
+unfolding addedFrom
+length-kept sps m place [] = refl
+length-kept sps m place (z ∷ zs) = length-kept sps (addedAt m place z) (nextPlace sps place) zs ∙ added-length m place z
+
+pub reply-length-kept : (sps : ℕ) (m : List Float) (place : ℕ) (zs : List Sample) → length (addedReply sps m place zs) ≡ length m
+unfolding addedReply
+reply-length-kept sps m place zs = go (isPlace sps m place)
+  where
+    go : (b : Bool) → length (cond b (addedFrom sps m place zs) m) ≡ length m
+    go true = length-kept sps m place zs
+    go false = refl
