@@ -9,7 +9,6 @@ ghost use Rattle.pulse_shape.specs.GroupDelay.{groupDelay, modeACGroupDelay};
 ghost use Rattle.filterbank.specs.Taps.{filterTaps};
 ghost use Rattle.filterbank.specs.PulseSum.{late, lateSum};
 ghost use Rattle.filterbank.specs.Clocked.{stepOf, startClock, advance, in64};
-ghost use Rattle.filterbank.specs.Apply.{requiredSamples};
 ghost use Rattle.exports_shape.specs.Crossed.{delayNumber, clockAt};
 
 #[no_mangle]
@@ -75,13 +74,6 @@ pub extern "C" fn port_pulse_sum(taps: &[f32; 7], laid: &[bool; 252], index: usi
 {
     let t = *taps;
     filterbank::pulse_sum(t, laid, index)
-}
-
-#[no_mangle]
-pub extern "C" fn port_filterbank_required_samples(pulses: u16) -> usize
-    ensures { λ r. ⌜ r ≡ requiredSamples four pulses ⌝ }
-{
-    filterbank::required_samples_for_apply(pulses)
 }
 
 #[no_mangle]

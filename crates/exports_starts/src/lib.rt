@@ -7,16 +7,9 @@ use message::ReplyKind;
 ghost use mathlib.Core.Path.{_≡_};
 ghost use Rattle.constants.specs.Rate.{four};
 ghost use Rattle.distributions.specs.Asked.{carrierOffset, carrierPhase, clockError};
-ghost use Rattle.message_config.specs.Timing.{modeACDelay, startOf, filterClockError, clockPhase};
+ghost use Rattle.message_config.specs.Timing.{startOf, filterClockError, clockPhase};
 ghost use Rattle.message_config.specs.Carrier.{carrierRate, firstPhase};
 ghost use Rattle.exports_starts.specs.Drawn.{askedOf, offsetDrawn, phaseDrawn, errorDrawn};
-
-#[no_mangle]
-pub extern "C" fn port_mode_ac_delay(group_delay: f64) -> f64
-    ensures { λ r. ⌜ r ≡ modeACDelay «group_delay» ⌝ }
-{
-    message_config::mode_ac_delay(group_delay)
-}
 
 #[no_mangle]
 pub extern "C" fn port_start(time: f64, delay: f64, e: f64) -> i64

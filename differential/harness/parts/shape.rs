@@ -16,7 +16,6 @@ unsafe extern "C" {
     fn port_filter_taps(prototype: *const f32, length: usize, phase: f64, out: &mut [f32; 7]);
     safe fn port_lay_late(on: &[bool; 240], length: usize, out: &mut [bool; 252]);
     safe fn port_pulse_sum(taps: &[f32; 7], laid: &[bool; 252], index: usize) -> f32;
-    safe fn port_filterbank_required_samples(pulses: u16) -> usize;
     safe fn port_clock_step(e: f64) -> f64;
     safe fn port_start_clock_phase(phase: f64) -> f64;
     safe fn port_start_clock_index(phase: f64) -> usize;
@@ -35,15 +34,6 @@ pub fn compare(t: &mut Tally, r: &mut Random, count: u64) {
             delay(t, r, p);
         }
         messages(t, r, &all, &taps);
-    }
-    for n in 0..=240 {
-        let ours = port_filterbank_required_samples(n);
-        t.alike(
-            "filterbank's required samples",
-            n,
-            required_samples_for_apply(usize::from(n)),
-            ours,
-        );
     }
 }
 

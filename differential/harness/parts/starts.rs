@@ -1,19 +1,17 @@
-//! The crates `distributions` and `message_config`: what is accepted, what a draw becomes, starts and phases; last, the
-//! samples of whole messages from all parts together.
+//! The crates `distributions`, `message_config` and `reply_samples`: what is accepted, what a draw becomes, starts and
+//! phases; last, whole replies added into working memory.
 
-use crate::parts::carrier::{port_cosine, port_phase_wrap_once_f64, port_sine};
-use crate::parts::floats::port_narrow;
-use crate::parts::shape::{delays_of, prototypes_of, values_of};
+use crate::parts::shape::{delays_of, prototypes_of};
 use crate::random::Random;
 use crate::tally::{Tally, pattern64, patterns};
 use crate::tape::{Asked, Draw, Settings};
 use crate::{judge, make};
 use reference::math;
+use reference::mode_s::ModeSMessage;
 use reference::simulation::{MessageConfig, SSRReply, open};
 use std::f64::consts::PI;
 
 unsafe extern "C" {
-    safe fn port_mode_ac_delay(group_delay: f64) -> f64;
     safe fn port_start(time: f64, delay: f64, e: f64) -> i64;
     safe fn port_mode_s_filter_clock_error(e: f64) -> f64;
     safe fn port_mode_ac_filter_clock_error(e: f64) -> f64;
@@ -23,7 +21,28 @@ unsafe extern "C" {
     safe fn port_carrier_offset(kind: u8, first: f64, second: f64, draw: f64) -> f64;
     safe fn port_carrier_phase(kind: u8, first: f64, second: f64, draw: f64) -> f64;
     safe fn port_clock_error(kind: u8, first: f64, second: f64, draw: f64) -> f64;
+    fn port_add_reply(
+        mode_s: *const f32,
+        mode_s_length: usize,
+        mode_ac: *const f32,
+        mode_ac_length: usize,
+        time: f64,
+        offset: f64,
+        phase: f64,
+        error: f64,
+        kind: u8,
+        bytes: &[u8; 14],
+        amplitude: f32,
+        delay_s: f64,
+        delay_ac: f64,
+        memory: *mut f32,
+        memory_length: usize,
+        place: usize,
+    ) -> u16;
 }
+
+/// Samples of the ring.
+const RING: usize = 1126;
 
 pub fn compare(t: &mut Tally, r: &mut Random, count: u64) {
     let worked = make::worked();
@@ -46,7 +65,7 @@ pub fn compare(t: &mut Tally, r: &mut Random, count: u64) {
             starts(t, &m, delays);
             // Beyond the longest run the start saturates, and the Rust panics.
             if time <= 2f64.powi(52) {
-                samples(t, &m, draw, &all, delays);
+                reply(t, r, &m, draw, &all, delays);
             }
             for _ in 0..10 {
                 let (within, any) = (r.within(0.1), r.any_f64());
@@ -197,36 +216,61 @@ fn starts(t: &mut Tally, m: &MessageConfig, delays: [f64; 2]) {
         pattern64(open::clock_phase(m)),
         pattern64(phase),
     );
-    let ratio = 1500.0 / 1450.0;
-    t.same(
-        "mode_ac_delay",
-        time,
-        pattern64(time / ratio),
-        pattern64(port_mode_ac_delay(time)),
-    );
 }
 
-/// The samples that a message adds, from the port's functions.
-fn samples(t: &mut Tally, m: &MessageConfig, d: &Draw, prototypes: &[[f32; 1792]; 2], delays: [f64; 2]) {
-    let expected: Vec<f32> = open::samples(m).iter().flat_map(|z| [z.re, z.im]).collect();
-    let (time, e, delay) = (m.timestamp_samples, m.symbol_clock_error, delay(m, delays));
-    let error = filter_error(m);
-    let rate = port_carrier_rate(m.carrier_frequency_offset);
-    let mut phase = port_first_phase(m.carrier_phase, time, port_start(time, delay, e), rate);
-    let p = &prototypes[usize::from(mode_ac(m))];
-    let mut ours = Vec::new();
-    for x in values_of(p, &m.message, port_clock_phase(time, delay, e, error), error) {
-        let x = d.amplitude * x;
-        ours.extend([
-            x * port_narrow(port_cosine(phase)),
-            x * port_narrow(port_sine(phase)),
-        ]);
-        phase = port_phase_wrap_once_f64(phase + rate);
+/// A message's kind, as a number, and its bytes.
+fn crossed(m: &SSRReply) -> (u8, [u8; 14]) {
+    let mut bytes = [0; 14];
+    let kind = match m {
+        SSRReply::ModeS(ModeSMessage::Short(b)) => {
+            bytes[..7].copy_from_slice(b);
+            0
+        }
+        SSRReply::ModeS(ModeSMessage::Long(b)) => {
+            bytes = *b;
+            1
+        }
+        SSRReply::ModeAC(x) => {
+            bytes[..2].copy_from_slice(&(x.data() | u16::from(x.spi()) << 12).to_le_bytes());
+            2
+        }
+    };
+    (kind, bytes)
+}
+
+/// A reply added into working memory from any place on, with what the memory held before.
+fn reply(t: &mut Tally, r: &mut Random, m: &MessageConfig, d: &Draw, all: &[[f32; 1792]; 2], delays: [f64; 2]) {
+    let samples = open::samples(m);
+    let place = r.below(RING);
+    let before: Vec<f32> = (0..2 * RING).map(|_| r.within(100.0) as f32).collect();
+    let mut expected = before.clone();
+    for (k, z) in samples.iter().enumerate() {
+        let q = (place + k) % RING;
+        expected[2 * q] += z.re;
+        expected[2 * q + 1] += z.im;
     }
-    t.alike(
-        "samples of whole messages",
-        (m, d.amplitude),
-        patterns(&expected),
-        patterns(&ours),
-    );
+    let mut ours = before;
+    let (kind, bytes) = crossed(&m.message);
+    let count = unsafe {
+        port_add_reply(
+            all[0].as_ptr(),
+            all[0].len(),
+            all[1].as_ptr(),
+            all[1].len(),
+            m.timestamp_samples,
+            m.carrier_frequency_offset,
+            m.carrier_phase,
+            m.symbol_clock_error,
+            kind,
+            &bytes,
+            d.amplitude,
+            delays[0],
+            delays[1],
+            ours.as_mut_ptr(),
+            ours.len(),
+            place,
+        )
+    };
+    t.alike("replies added into memory", (m, d.amplitude, place), patterns(&expected), patterns(&ours));
+    t.alike("counts of replies", m, samples.len(), usize::from(count));
 }

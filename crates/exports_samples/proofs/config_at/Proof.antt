@@ -1,0 +1,12 @@
+-- `exports_samples::config_at` meets its contract. Assumes nothing.
+use borrow.Author.Needs.{needs}
+use Rattle.exports_samples.specs.Crossed.{configAt}
+use Rattle.exports_samples.proofs.config_at.Statement.{statement}
+use Rattle.exports_samples.proofs.config_at.Tie as tie
+
+returns : tie.Need-returns
+unfolding configAt
+returns c = search needs
+
+pub config-at-spec : {M : Type 1} → statement M
+config-at-spec = tie.close (tie.spec returns)
