@@ -32,7 +32,7 @@ module _ (sps n : ℕ) (s : Settings) where
   rate-refused k e = ap (totalThen sps n s) e
 
   by-total : (b : Bool) → firstBadRate 0 (ratesOf (s .rates)) ≡ Nowhere → totalFits (totalOf (ratesOf (s .rates))) ≡ b
-    → ratesThen sps n s ≡ cond b (distributionsOf sps n s) (Refused Refusal.Total)
+      → ratesThen sps n s ≡ cond b (distributionsOf sps n s) (Refused Refusal.Total)
   unfolding ratesThen totalThen
   by-total b e t = ap (totalThen sps n s) e ∙ ap (λ (x : Bool). cond x (distributionsOf sps n s) (Refused Refusal.Total)) t
 

@@ -53,11 +53,11 @@ pub data Answered (sps : ℕ) (s : Settings) : Checked → Type 0 where
   refused-3 : {n : ℕ} → Lasts sps s n → GoodRates s 7 → goodTotal s ≡ false → Answered sps s (Refused Refusal.Total)
   refused-4-0 : {n : ℕ} → Passed sps s n → carrierOffset sps (s .carrier) ≡ Offset.the-variants.Refused → Answered sps s (Refused (Refusal.Distribution 0))
   refused-4-1 : {n : ℕ} {o : CarrierOffset} → Passed sps s n → carrierOffset sps (s .carrier) ≡ Offset.the-variants.Accepted o
-    → carrierPhase (s .phase) ≡ Phase.the-variants.Refused → Answered sps s (Refused (Refusal.Distribution 1))
+      → carrierPhase (s .phase) ≡ Phase.the-variants.Refused → Answered sps s (Refused (Refusal.Distribution 1))
   refused-4-2 : {n : ℕ} {o : CarrierOffset} {p : CarrierPhase} → Passed sps s n → carrierOffset sps (s .carrier) ≡ Offset.the-variants.Accepted o
-    → carrierPhase (s .phase) ≡ Phase.the-variants.Accepted p → clockError (s .clock) ≡ Clock.the-variants.Refused → Answered sps s (Refused (Refusal.Distribution 2))
+      → carrierPhase (s .phase) ≡ Phase.the-variants.Accepted p → clockError (s .clock) ≡ Clock.the-variants.Refused → Answered sps s (Refused (Refusal.Distribution 2))
   accepted : {n : ℕ} {d : Distributions} → Passed sps s n → carrierOffset sps (s .carrier) ≡ Offset.the-variants.Accepted (d .carrier)
-    → carrierPhase (s .phase) ≡ Phase.the-variants.Accepted (d .phase) → clockError (s .clock) ≡ Clock.the-variants.Accepted (d .clock) → Answered sps s (Accepted n d)
+      → carrierPhase (s .phase) ≡ Phase.the-variants.Accepted (d .phase) → clockError (s .clock) ≡ Clock.the-variants.Accepted (d .clock) → Answered sps s (Accepted n d)
 
 -- ---- for its cause only
 -- a duration is refused with the number 1
@@ -82,13 +82,13 @@ at-most sps a b n = go (leb 1000000000 b) (ltb mostSamples (samplesOf sps a b)) 
 
 module _ (sps : ℕ) (s : Settings) where
   by-clock : (n : ℕ) (o : CarrierOffset) (p : CarrierPhase) → Passed sps s n → carrierOffset sps (s .carrier) ≡ Offset.the-variants.Accepted o
-    → carrierPhase (s .phase) ≡ Phase.the-variants.Accepted p → (a : Clock.ClockAnswer) → clockError (s .clock) ≡ a → Answered sps s (withClock n o p a)
+      → carrierPhase (s .phase) ≡ Phase.the-variants.Accepted p → (a : Clock.ClockAnswer) → clockError (s .clock) ≡ a → Answered sps s (withClock n o p a)
   unfolding withClock
   by-clock n o p P f g (Clock.the-variants.Accepted c) e = accepted P f g e
   by-clock n o p P f g Clock.the-variants.Refused e = refused-4-2 P f g e
 
   by-phase : (n : ℕ) (o : CarrierOffset) → Passed sps s n → carrierOffset sps (s .carrier) ≡ Offset.the-variants.Accepted o
-    → (a : Phase.PhaseAnswer) → carrierPhase (s .phase) ≡ a → Answered sps s (withPhase n o a (clockError (s .clock)))
+      → (a : Phase.PhaseAnswer) → carrierPhase (s .phase) ≡ a → Answered sps s (withPhase n o a (clockError (s .clock)))
   unfolding withPhase
   by-phase n o P f (Phase.the-variants.Accepted p) e = by-clock n o p P f e (clockError (s .clock)) refl
   by-phase n o P f Phase.the-variants.Refused e = refused-4-1 P f e
@@ -117,7 +117,7 @@ module _ (sps : ℕ) (s : Settings) where
   unfolding acceptedOf
   answered = by-duration (durationOf sps (s .seconds) (s .nanoseconds)) refl
 
--- ---- and the first
+  -- ---- and the first
   passes : (n : ℕ) → Passed sps s n → acceptedOf sps s ≡ distributionsOf sps n s
   unfolding ratesOf
   passes n P = duration-passes sps s n (P .lasts) ∙ rates-pass sps n s (finds-none 0 (ratesOf (s .rates)) (P .rates)) (P .total)

@@ -79,12 +79,12 @@ split false b e = let z : _≡_ {A = ℕ} 0 1 = cc in absurd (omega arith)
 
 module _ (sps : ℕ) (x : Float) (H : Held x) where
   constant-offset : (b : Bool) → within x (offsetLimit sps) ≡ b → (o : Offset.CarrierOffset)
-    → cond b (OffsetAnswer.the-variants.Accepted (Offset.the-variants.Constant x)) OffsetAnswer.the-variants.Refused ≡ OffsetAnswer.the-variants.Accepted o → OffsetInRange sps o
+      → cond b (OffsetAnswer.the-variants.Accepted (Offset.the-variants.Constant x)) OffsetAnswer.the-variants.Refused ≡ OffsetAnswer.the-variants.Accepted o → OffsetInRange sps o
   constant-offset true t o e = let f : Offset.the-variants.Constant x ≡ o = cc in subst (OffsetInRange sps) f (H, subst T (sym t) tt)
   constant-offset false t o e = let z : _≡_ {A = ℕ} 0 1 = cc in absurd (omega arith)
 
   normal-offset : (y : Float) → Held y → (b : Bool) → finiteNotNegative x && upTo y (offsetLimit sps) ≡ b → (o : Offset.CarrierOffset)
-    → cond b (OffsetAnswer.the-variants.Accepted (Offset.the-variants.ClampedNormal x y)) OffsetAnswer.the-variants.Refused ≡ OffsetAnswer.the-variants.Accepted o → OffsetInRange sps o
+      → cond b (OffsetAnswer.the-variants.Accepted (Offset.the-variants.ClampedNormal x y)) OffsetAnswer.the-variants.Refused ≡ OffsetAnswer.the-variants.Accepted o → OffsetInRange sps o
   normal-offset y K true t o e =
       let f : Offset.the-variants.ClampedNormal x y ≡ o = cc in
       let both = split (finiteNotNegative x) (upTo y (offsetLimit sps)) t in
@@ -96,11 +96,11 @@ unfolding carrierOffset clampedNormal byKind
 offset-in-range sps a H o = go (a .kind)
   where
     go : (k : ℕ)
-      → byKind k (cond (within (a .first) (offsetLimit sps)) (OffsetAnswer.the-variants.Accepted (Offset.the-variants.Constant (a .first))) OffsetAnswer.the-variants.Refused)
-      (clampedNormal sps (a .first) (a .second))
-      OffsetAnswer.the-variants.Refused
-      ≡ OffsetAnswer.the-variants.Accepted o
-      → OffsetInRange sps o
+        → byKind k (cond (within (a .first) (offsetLimit sps)) (OffsetAnswer.the-variants.Accepted (Offset.the-variants.Constant (a .first))) OffsetAnswer.the-variants.Refused)
+        (clampedNormal sps (a .first) (a .second))
+        OffsetAnswer.the-variants.Refused
+        ≡ OffsetAnswer.the-variants.Accepted o
+        → OffsetInRange sps o
     go zero e = constant-offset sps (a .first) (H .0) (within (a .first) (offsetLimit sps)) refl o e
     go (suc zero) e = normal-offset sps (a .first) (H .0) (a .second) (H .1) (finiteNotNegative (a .first) && upTo (a .second) (offsetLimit sps)) refl o e
     go (suc (suc k)) e = let z : _≡_ {A = ℕ} 0 1 = cc in absurd (omega arith)
@@ -110,17 +110,17 @@ unfolding carrierPhase byKind
 phase-in-range a H p = go (a .kind)
   where
     constant : (b : Bool) → finite (a .first) ≡ b
-      → cond b (PhaseAnswer.the-variants.Accepted (Phase.the-variants.Constant (phaseWrap (a .first)))) PhaseAnswer.the-variants.Refused ≡ PhaseAnswer.the-variants.Accepted p
-      → PhaseInRange p
+        → cond b (PhaseAnswer.the-variants.Accepted (Phase.the-variants.Constant (phaseWrap (a .first)))) PhaseAnswer.the-variants.Refused ≡ PhaseAnswer.the-variants.Accepted p
+        → PhaseInRange p
     constant true t e = let f : Phase.the-variants.Constant (phaseWrap (a .first)) ≡ p = cc in subst PhaseInRange f (wrapped (a .first) (H .0) (subst T (sym t) tt))
     constant false t e = let z : _≡_ {A = ℕ} 0 1 = cc in absurd (omega arith)
 
     go : (k : ℕ)
-      → byKind k (cond (finite (a .first)) (PhaseAnswer.the-variants.Accepted (Phase.the-variants.Constant (phaseWrap (a .first)))) PhaseAnswer.the-variants.Refused)
-      (PhaseAnswer.the-variants.Accepted Phase.the-variants.Uniform)
-      PhaseAnswer.the-variants.Refused
-      ≡ PhaseAnswer.the-variants.Accepted p
-      → PhaseInRange p
+        → byKind k (cond (finite (a .first)) (PhaseAnswer.the-variants.Accepted (Phase.the-variants.Constant (phaseWrap (a .first)))) PhaseAnswer.the-variants.Refused)
+        (PhaseAnswer.the-variants.Accepted Phase.the-variants.Uniform)
+        PhaseAnswer.the-variants.Refused
+        ≡ PhaseAnswer.the-variants.Accepted p
+        → PhaseInRange p
     go zero e = constant (finite (a .first)) refl e
     go (suc zero) e = let f : Phase.the-variants.Uniform ≡ p = cc in subst PhaseInRange f tt
     go (suc (suc k)) e = let z : _≡_ {A = ℕ} 0 1 = cc in absurd (omega arith)
@@ -130,21 +130,21 @@ unfolding clockError byKind
 clock-in-range a H c = go (a .kind)
   where
     constant : (b : Bool) → within (a .first) tenth ≡ b
-      → cond b (ClockAnswer.the-variants.Accepted (Clock.the-variants.Constant (a .first))) ClockAnswer.the-variants.Refused ≡ ClockAnswer.the-variants.Accepted c → ClockInRange c
+        → cond b (ClockAnswer.the-variants.Accepted (Clock.the-variants.Constant (a .first))) ClockAnswer.the-variants.Refused ≡ ClockAnswer.the-variants.Accepted c → ClockInRange c
     constant true t e = let f : Clock.the-variants.Constant (a .first) ≡ c = cc in subst ClockInRange f (H .0, subst T (sym t) tt)
     constant false t e = let z : _≡_ {A = ℕ} 0 1 = cc in absurd (omega arith)
 
     uniform : (b : Bool) → upTo (a .first) tenth ≡ b
-      → cond b (ClockAnswer.the-variants.Accepted (Clock.the-variants.Uniform (a .first))) ClockAnswer.the-variants.Refused ≡ ClockAnswer.the-variants.Accepted c → ClockInRange c
+        → cond b (ClockAnswer.the-variants.Accepted (Clock.the-variants.Uniform (a .first))) ClockAnswer.the-variants.Refused ≡ ClockAnswer.the-variants.Accepted c → ClockInRange c
     uniform true t e = let f : Clock.the-variants.Uniform (a .first) ≡ c = cc in subst ClockInRange f (H .0, subst T (sym t) tt)
     uniform false t e = let z : _≡_ {A = ℕ} 0 1 = cc in absurd (omega arith)
 
     go : (k : ℕ)
-      → byKind k (cond (within (a .first) tenth) (ClockAnswer.the-variants.Accepted (Clock.the-variants.Constant (a .first))) ClockAnswer.the-variants.Refused)
-      (cond (upTo (a .first) tenth) (ClockAnswer.the-variants.Accepted (Clock.the-variants.Uniform (a .first))) ClockAnswer.the-variants.Refused)
-      ClockAnswer.the-variants.Refused
-      ≡ ClockAnswer.the-variants.Accepted c
-      → ClockInRange c
+        → byKind k (cond (within (a .first) tenth) (ClockAnswer.the-variants.Accepted (Clock.the-variants.Constant (a .first))) ClockAnswer.the-variants.Refused)
+        (cond (upTo (a .first) tenth) (ClockAnswer.the-variants.Accepted (Clock.the-variants.Uniform (a .first))) ClockAnswer.the-variants.Refused)
+        ClockAnswer.the-variants.Refused
+        ≡ ClockAnswer.the-variants.Accepted c
+        → ClockInRange c
     go zero e = constant (within (a .first) tenth) refl e
     go (suc zero) e = uniform (upTo (a .first) tenth) refl e
     go (suc (suc k)) e = let z : _≡_ {A = ℕ} 0 1 = cc in absurd (omega arith)

@@ -24,7 +24,7 @@ check-rates-requires c κs = search needs
 
 returns-2 : tie.Need-returns-2
 unfolding answerOf
-returns-2 c = 
+returns-2 c =
     let a = c .before .before .before .before .before .args in
     c .check-rates .ensures ∙ sym (duration-passes 4 (a .s) _ (sym (c .before .before .before .before .duration-as-samples .ensures) ∙ ap answerOf (c .before .before .n .given .1)))
 

@@ -27,7 +27,7 @@ enum-told-2 : tie.Need-enum-told-2
 enum-told-2 c = search needs
 
 returns-2 : tie.Need-returns-2
-returns-2 c = 
+returns-2 c =
     let a = c .before .before .before .before .before .before .before .before .before .before .args in
     sym (phase-refused 4 (a .n) (a .s) _ (sym (c .before .before .before .before .before .before .carrier-offset .ensures) ∙ c .before .before .before .before .carrier .given .1) (sym (c .before .before .carrier-phase .ensures) ∙ c .enum-told2 .given .1))
 
@@ -41,12 +41,12 @@ enum-told-3 : tie.Need-enum-told-3
 enum-told-3 c = search needs
 
 returns-3 : tie.Need-returns-3
-returns-3 c = 
+returns-3 c =
     let a = c .before .before .before .before .before .before .before .before .before .before .before .before .before .before .args in
     sym (clock-refused 4 (a .n) (a .s) _ (sym (c .before .before .before .before .before .before .before .before .before .before .carrier-offset .ensures) ∙ c .before .before .before .before .before .before .before .before .carrier .given .1) _ (sym (c .before .before .before .before .before .before .carrier-phase .ensures) ∙ c .before .before .before .before .phase .given .1) (sym (c .before .before .clock-error .ensures) ∙ c .enum-told3 .given .1))
 
 returns-4 : tie.Need-returns-4
-returns-4 c = 
+returns-4 c =
     let a = c .before .before .before .before .before .before .before .before .before .before .before .before .before .before .before .args in
     sym (all-accepted 4 (a .n) (a .s) _ (sym (c .before .before .before .before .before .before .before .before .before .before .before .carrier-offset .ensures) ∙ c .before .before .before .before .before .before .before .before .before .carrier .given .1) _ (sym (c .before .before .before .before .before .before .before .carrier-phase .ensures) ∙ c .before .before .before .before .before .phase .given .1) _ (sym (c .before .before .before .clock-error .ensures) ∙ c .before .clock .given .1))
 

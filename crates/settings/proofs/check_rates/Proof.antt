@@ -28,13 +28,13 @@ check-distributions-requires : tie.Need-check-distributions-requires
 check-distributions-requires c κs = search needs
 
 returns-2 : tie.Need-returns-2
-returns-2 c = 
+returns-2 c =
     let a = c .before .before .before .before .before .before .before .before .args in
     c .check-distributions .ensures
     ∙ sym (rates-pass 4 (a .n) (a .s) (sym (c .before .before .before .before .before .before .first-bad-rate .ensures) ∙ c .before .before .before .before .enum-told .given .1) (ap totalFits (sym (c .before .before .before .total-of .ensures)) ∙ sym (c .before .before .total-fits .ensures) ∙ c .before .if1 .taken))
 
 returns-3 : tie.Need-returns-3
-returns-3 c = 
+returns-3 c =
     let a = c .before .before .before .before .before .before .before .args in
     sym (total-refused 4 (a .n) (a .s) (sym (c .before .before .before .before .before .first-bad-rate .ensures) ∙ c .before .before .before .enum-told .given .1) (ap totalFits (sym (c .before .before .total-of .ensures)) ∙ sym (c .before .total-fits .ensures) ∙ c .if1 .left))
 

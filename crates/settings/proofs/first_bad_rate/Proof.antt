@@ -46,8 +46,7 @@ unfolding rateOf ratesOf
 loop-again c =
     let l = c .before .before .before .before .loop in
     let r = c .before .before .before .before .before .args .rates in
-    let fine = held _ (c .if1 .left) in
-    (
+    let fine = held _ (c .if1 .left) in (
       search needs,
       sym (goes-on (ratesOf r) (l .k) (c .before .before .before .loop-test .taken) (ap finiteNotNegative (sym (c .before .before .rate-of .ensures)) ∙ sym (c .before .finite-not-negative .ensures) ∙ fine)) ∙ l .inv .1,
     )

@@ -27,7 +27,7 @@ u32-at-requires c κs = search needs
 
 returns : tie.Need-returns
 unfolding settingsOf
-returns c = 
+returns c =
     let s = c .before .before .before .before .before .before .before .before .before .before .before .before .args .s .now in
     cc (number-there 8 s 0 (search needs), number-there 4 s 8 (search needs))
 

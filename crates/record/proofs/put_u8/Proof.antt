@@ -1,0 +1,17 @@
+-- `record::put_u8` meets its contract. Assumes nothing.
+use borrow.Author.Needs.{needs}
+use Rattle.le_bytes.proofs.Halves.{laid-one}
+use Rattle.record.proofs.put_u8.Statement.{statement}
+use Rattle.record.proofs.put_u8.Tie as tie
+
+slice-write-d : tie.Need-slice-write-d
+slice-write-d c = search needs
+
+same-length : tie.Need-same-length
+same-length c = search needs
+
+returns : tie.Need-returns
+returns c = laid-one (c .args .d .now) (c .args .at) (c .args .v) (c .pre)
+
+pub put-u8-spec : {M : Type 1} → statement M
+put-u8-spec = tie.close (tie.spec slice-write-d same-length returns)
