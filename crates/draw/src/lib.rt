@@ -2,6 +2,8 @@
 ghost use mathlib.Core.Path.{_≡_};
 ghost use Prim.Native.Nat.{_≤_, _<_, _+_, _*_};
 ghost use lib.ListN.{length, getD};
+ghost use Rattle.message.specs.Types.{typeNumbered};
+ghost use Rattle.message.specs.Making.{checked, kindOf};
 ghost use Rattle.draw.specs.Draw.{picksAt, drawAt, bytesAt};
 ghost use Rattle.draw.specs.Fault.{typeFits, amplitudeFits, modeACLimit, clockFits, parameterFault, messageFault, drawFault, firstFault};
 ghost use Rattle.draw.specs.Config.{typeDrawn, timeAfter, startAt, configOf};
@@ -120,7 +122,10 @@ fn within_limit(kind: u8, e: f64) -> bool
     ensures { λ r. ⌜ r ≡ modeACLimit kind e ⌝ }
 {
     if kind == 6 {
-        return float_bits::within(message_config::filter_clock_error(ReplyKind::ModeAc, e), 0.1);
+        return float_bits::within(
+            message_config::filter_clock_error(ReplyKind::ModeAc, e),
+            0.1,
+        );
     }
     true
 }
@@ -136,8 +141,8 @@ fn clock_fits(all: Distributions, kind: u8, draw: f64) -> bool
 }
 
 // A field's number where it does not fit, or else what comes of the later fields.
-fn checked(field: u64, fits: bool, rest: Field) -> Field
-    ensures { λ r. ⌜ r ≡ Rattle.message.specs.Making.checked field fits rest ⌝ }
+fn fault_or(field: u64, fits: bool, rest: Field) -> Field
+    ensures { λ r. ⌜ r ≡ checked field fits rest ⌝ }
 {
     if fits {
         return rest;
@@ -147,7 +152,7 @@ fn checked(field: u64, fits: bool, rest: Field) -> Field
 
 // Fields 7 to 12.
 fn message_fault(d: Draw) -> Field
-    ensures { λ r. ⌜ r ≡ messageFault (Rattle.message.specs.Types.typeNumbered (d .kind)) d ⌝ }
+    ensures { λ r. ⌜ r ≡ messageFault (typeNumbered (d .kind)) d ⌝ }
 {
     let p = d.picks;
     match message::message_type(d.kind) {
@@ -162,13 +167,13 @@ fn parameter_fault(all: Distributions, d: Draw) -> Field
 {
     let carrier = all.carrier;
     let phase = all.phase;
-    checked(
+    fault_or(
         4,
         distributions::offset_draw_fits(carrier, d.carrier),
-        checked(
+        fault_or(
             5,
             distributions::phase_draw_fits(phase, d.phase),
-            checked(6, clock_fits(all, d.kind, d.clock), message_fault(d)),
+            fault_or(6, clock_fits(all, d.kind, d.clock), message_fault(d)),
         ),
     )
 }
@@ -177,16 +182,16 @@ fn parameter_fault(all: Distributions, d: Draw) -> Field
 pub fn field_fault(rates: MessagesPerSecond, all: Distributions, d: Draw) -> Field
     ensures { λ r. ⌜ r ≡ drawFault rates all d ⌝ }
 {
-    checked(
+    fault_or(
         0,
         distributions::finite_not_negative(d.gap),
-        checked(
+        fault_or(
             1,
             type_fits(rates, d.kind),
-            checked(
+            fault_or(
                 2,
                 float_bits::finite(d.cn0),
-                checked(3, amplitude_fits(d.amplitude), parameter_fault(all, d)),
+                fault_or(3, amplitude_fits(d.amplitude), parameter_fault(all, d)),
             ),
         ),
     )
@@ -211,7 +216,7 @@ pub fn first_fault(draws: &[u8], rates: MessagesPerSecond, all: Distributions) -
 }
 
 fn type_drawn(kind: u8) -> MessageType
-    ensures { λ r. ⌜ r ≡ typeDrawn (Rattle.message.specs.Types.typeNumbered kind) ⌝ }
+    ensures { λ r. ⌜ r ≡ typeDrawn (typeNumbered kind) ⌝ }
 {
     match message::message_type(kind) {
         TypeFound::Of(t) => t,
@@ -220,7 +225,7 @@ fn type_drawn(kind: u8) -> MessageType
 }
 
 fn kind_of(t: MessageType) -> ReplyKind
-    ensures { λ r. ⌜ r ≡ Rattle.message.specs.Making.kindOf t ⌝ }
+    ensures { λ r. ⌜ r ≡ kindOf t ⌝ }
 {
     match t {
         MessageType::ExtendedSquitter => ReplyKind::Long,

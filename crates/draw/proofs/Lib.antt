@@ -1,0 +1,2 @@
+mod Decided
+mod Scan

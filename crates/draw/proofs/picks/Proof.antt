@@ -1,0 +1,39 @@
+-- `draw::picks` meets its contract. Assumes nothing.
+use borrow.Author.Needs.{needs}
+use Rattle.draw.specs.Draw.{picksAt}
+use Rattle.draw.proofs.picks.Statement.{statement}
+use Rattle.draw.proofs.picks.Tie as tie
+
+message-bytes-requires : tie.Need-message-bytes-requires
+message-bytes-requires c κs = search needs
+
+byte-at-requires : tie.Need-byte-at-requires
+byte-at-requires c κs = search needs
+
+byte-at-requires-2 : tie.Need-byte-at-requires-2
+byte-at-requires-2 c κs = search needs
+
+byte-at-requires-3 : tie.Need-byte-at-requires-3
+byte-at-requires-3 c κs = search needs
+
+u16-at-requires : tie.Need-u16-at-requires
+u16-at-requires c κs = search needs
+
+byte-at-requires-4 : tie.Need-byte-at-requires-4
+byte-at-requires-4 c κs = search needs
+
+returns : tie.Need-returns
+unfolding picksAt
+returns c = cc
+
+pub picks-spec : {M : Type 1} → statement M
+picks-spec =
+    tie.close
+    (tie.spec
+    message-bytes-requires
+    byte-at-requires
+    byte-at-requires-2
+    byte-at-requires-3
+    u16-at-requires
+    byte-at-requires-4
+    returns)

@@ -1,0 +1,47 @@
+-- `draw::read` meets its contract. Assumes nothing.
+use borrow.Author.Needs.{needs}
+use Rattle.draw.specs.Draw.{drawAt}
+use Rattle.draw.proofs.read.Statement.{statement}
+use Rattle.draw.proofs.read.Tie as tie
+
+picks-requires : tie.Need-picks-requires
+picks-requires c κs = search needs
+
+f64-at-requires : tie.Need-f64-at-requires
+f64-at-requires c κs = search needs
+
+byte-at-requires : tie.Need-byte-at-requires
+byte-at-requires c κs = search needs
+
+f64-at-requires-2 : tie.Need-f64-at-requires-2
+f64-at-requires-2 c κs = search needs
+
+f32-at-requires : tie.Need-f32-at-requires
+f32-at-requires c κs = search needs
+
+f64-at-requires-3 : tie.Need-f64-at-requires-3
+f64-at-requires-3 c κs = search needs
+
+f64-at-requires-4 : tie.Need-f64-at-requires-4
+f64-at-requires-4 c κs = search needs
+
+f64-at-requires-5 : tie.Need-f64-at-requires-5
+f64-at-requires-5 c κs = search needs
+
+returns : tie.Need-returns
+unfolding drawAt
+returns c = cc
+
+pub read-spec : {M : Type 1} → statement M
+read-spec =
+    tie.close
+    (tie.spec
+    picks-requires
+    f64-at-requires
+    byte-at-requires
+    f64-at-requires-2
+    f32-at-requires
+    f64-at-requires-3
+    f64-at-requires-4
+    f64-at-requires-5
+    returns)
