@@ -9,11 +9,10 @@ use Rattle.call_lists.specs.PlainRun.{Kind, ignored, ends, reply, kind, 
 use Rattle.call_lists.specs.Laws.{Laws, AllInRange}
 use Rattle.call_lists.specs.Demand3.{Reach, AllReach}
 use Rattle.call_lists.proofs.PlainFacts.{hit-before, hit-behind}
-use Rattle.call_lists.proofs.StepFacts.{reply-start}
 use Rattle.call_lists.proofs.Reached.{good-on}
 
 module _ (G : Generator) (L : Laws G) where
-  open Generator G using (Draw, Time, after, start)
+  open Generator G using (Draw, Time, after)
 
   pub all-reach : (t : Time) (ds : List Draw) → L .Good t → AllInRange G ds → AllReach G (replies G t ds)
   all-reach t [] g h = tt
@@ -24,7 +23,7 @@ module _ (G : Generator) (L : Laws G) where
 
       reach : (s : ℕ) → kind G (after t d) d ≡ reply s → Reach G (replyOf G (after t d) d s)
       reach s e =
-          let few = L .short (after t d) d s good (h .0) (reply-start G (start (after t d) d) s e) in
+          let few = L .short (after t d) d s good (h .0) e in
           record {
             few = few;
             none-before = λ a n lt. hit-before G a (replyOf G (after t d) d s) n lt;

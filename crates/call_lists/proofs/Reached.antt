@@ -13,7 +13,7 @@ use Rattle.call_lists.specs.PlainRun.{Kind, ignored, ends, reply, Reply,
 use Rattle.call_lists.specs.PlainBench.{Lent, jumpsBack, latest, Bench, bench0}
 use Rattle.call_lists.specs.Laws.{Laws, NotAfter, InRange, GapInRange, AllInRange, NoJump, Accepted}
 use Rattle.call_lists.proofs.PlainFacts.{time-append, ended-append, replies-still, replies-append, sum-append, hit-before, hit-behind, samplesFrom-append, samplesFrom-same}
-use Rattle.call_lists.proofs.StepFacts.{Drains, Dues, Takes, reply-fits, reply-start}
+use Rattle.call_lists.proofs.StepFacts.{Drains, Dues, Takes, reply-fits}
 
 module _ (G : Generator) (L : Laws G) where
   open Generator G using (Draw, Time, t0, after, before, start, adds, limit, hold, total)
@@ -208,7 +208,7 @@ module _ (G : Generator) (L : Laws G) where
     good-next = good-on (timeOf G t0 (b .taken)) d (h .good) (take-left .in-range .0)
 
     pub take-short : (x : ℕ) → k ≡ reply x → length (adds (after (timeOf G t0 (b .taken)) d) d x) ≤ limit
-    take-short x e = L .short (after (timeOf G t0 (b .taken)) d) d x good-next (take-left .in-range .0) (reply-start G (start (after (timeOf G t0 (b .taken)) d) d) x (s .is ∙ e))
+    take-short x e = L .short (after (timeOf G t0 (b .taken)) d) d x good-next (take-left .in-range .0) (s .is ∙ e)
 
     take-behind : (k′ : Kind) → k ≡ k′ → (n : ℕ) → length (b .used) + (limit + hold) ≤ n → sumFrom G (sumAt G (replies G t0 (b .taken)) n) (push G k′ (after (timeOf G t0 (b .taken)) d) d []) n ≡ silence G
     take-behind ignored e n le = h .behind n le

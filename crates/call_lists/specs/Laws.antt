@@ -7,12 +7,12 @@ use mathlib.Core.Logic.{_≢_}
 use mathlib.Core.Path.{_≡_}
 use Prim.Native.Nat.{ℕ, zero, _+_, _≤_, _<_}
 use lib.ListN.{length}
-use Rattle.call_lists.specs.Generator.{Generator, from}
+use Rattle.call_lists.specs.Generator.{Generator}
 use Rattle.call_lists.specs.PlainRun.{reply, kind}
 use Rattle.call_lists.specs.PlainBench.{jumpsBack}
 
 module _ (G : Generator) where
-  open Generator G using (Draw, Time, t0, after, before, start, adds, entry, fault, recordBytes, limit, hold)
+  open Generator G using (Draw, Time, t0, after, before, adds, entry, fault, recordBytes, limit, hold)
 
   -- a is not after b
   abbrev pub NotAfter : Time → Time → Type 0
@@ -41,7 +41,7 @@ module _ (G : Generator) where
         (t t′ : Time) (d d′ : Draw) (s s′ : ℕ) → Good t → Good t′ → InRange d → InRange d′ → NotAfter t t′
         → kind G t d ≡ reply s → kind G t′ d′ ≡ reply s′ → s ≤ s′ + hold
     -- Count bound: a reply adds to at most `limit` samples.
-    pub short : (t : Time) (d : Draw) (s : ℕ) → Good t → InRange d → start t d ≡ from s → length (adds t d s) ≤ limit
+    pub short : (t : Time) (d : Draw) (s : ℕ) → Good t → InRange d → kind G t d ≡ reply s → length (adds t d s) ≤ limit
     pub some-limit : zero < limit
     pub entry-length : (t : Time) (d : Draw) (s n : ℕ) → length (entry t d s n) ≡ recordBytes
 

@@ -7,7 +7,6 @@ use mathlib.Core.Path.{_≡_, refl}
 use Prim.Native.Nat.{ℕ, _+_, _≤_, _<_}
 use lib.Ieee.{Float, binary32, binary64, fits, lt, ofBits}
 use lib.ListN.{length}
-use Rattle.call_lists.specs.Generator.{from}
 use Rattle.call_lists.specs.PlainRun.{reply, kind}
 use Rattle.call_lists.specs.Laws.{Laws}
 use Rattle.call_lists.specs.Demand3.{Demand3}
@@ -25,7 +24,7 @@ pub record DrawLaws (S : Draws) (sps total : ℕ) : Type 0 where
       (t t′ : Float) (d d′ : S .Draw) (s s′ : ℕ) → GoodTime t → GoodTime t′ → S .fault d ≡ none → S .fault d′ ≡ none → lt t′ t ≡ false
       → kind (generator S sps total) t d ≡ reply s → kind (generator S sps total) t′ d′ ≡ reply s′ → s ≤ s′ + holdBack sps
   -- Count bound: a reply adds to at most 1,094 samples
-  pub short : (t : Float) (d : S .Draw) (s : ℕ) → GoodTime t → S .fault d ≡ none → S .start t d ≡ from s → length (S .adds t d s) ≤ replyLimit sps
+  pub short : (t : Float) (d : S .Draw) (s : ℕ) → GoodTime t → S .fault d ≡ none → kind (generator S sps total) t d ≡ reply s → length (S .adds t d s) ≤ replyLimit sps
   pub some-limit : 0 < replyLimit sps
   pub entry-length : (t : Float) (d : S .Draw) (s n : ℕ) → length (S .entry t d s n) ≡ 66
 

@@ -3,8 +3,10 @@ use Prim.Native.Nat.{ℕ}
 use mathlib.Core.Bool.{Bool, not}
 use mathlib.Core.List.{List, map}
 use mathlib.Core.Option.{Option, none, some}
+use lib.Dec.{T}
 use lib.IntN.{ℤ, pos, negsuc}
-use lib.Ieee.{Float, binary32, ofBits}
+use lib.Ieee.{Float, binary32, binary64, ofBits, fits}
+use lib.Ieee.Bits.{ofBits-fits}
 use Rattle.constants.specs.Rate.{four}
 use Rattle.call_lists.specs.Generator.{Generator, Start, negative, from, Pair}
 use Rattle.draw_times.specs.FloatGenerator.{Draws, generator}
@@ -18,7 +20,8 @@ use Rattle.draw.specs.declared.Draw.{Draw}
 use Rattle.draw.specs.Draw.{drawAt}
 use Rattle.draw.specs.Fault.{drawFault}
 use Rattle.draw.specs.Config.{startAt, configOf}
-use Rattle.reply_samples.specs.Samples.{Sample, replySamples}
+use Rattle.reply_samples.specs.declared.Sample.{Sample}
+use Rattle.reply_samples.specs.Samples.{replySamples}
 use Rattle.record.specs.Record.{recordBytes}
 
 -- a start is negative, or a sample's number
@@ -45,16 +48,42 @@ pub record Filters : Type 0 where
   pub modeS : List Float
   pub modeAC : List Float
 
+-- the numbers of a draw are values of `f64`, its amplitude one of `f32`
+pub record Held (d : Draw) : Type 0 where
+  pub gap : T (fits binary64 (d .gap))
+  pub cn0 : T (fits binary64 (d .cn0))
+  pub amplitude : T (fits binary32 (d .amplitude))
+  pub carrier : T (fits binary64 (d .carrier))
+  pub phase : T (fits binary64 (d .phase))
+  pub clock : T (fits binary64 (d .clock))
+
+-- as those of every 65 bytes are
+pub read-held : (s : List ℕ) → Held (drawAt s)
+unfolding drawAt
+read-held s = record {
+  gap = ofBits-fits binary64 _;
+  cn0 = ofBits-fits binary64 _;
+  amplitude = ofBits-fits binary32 _;
+  carrier = ofBits-fits binary64 _;
+  phase = ofBits-fits binary64 _;
+  clock = ofBits-fits binary64 _;
+}
+
+-- a draw that bytes can hold
+pub record HeldDraw : Type 0 where
+  pub draw : Draw
+  pub held : Held draw
+
 abbrev pub draws : Filters → Draws
 draws f = record {
-  Draw = Draw;
-  gap = λ d. d .gap;
-  start = λ t d. startFrom (startAt (f .distributions) (f .delays) t d);
-  adds = λ t d s. map pairOf (replySamples four (f .modeS) (f .modeAC) (f .delays) (d .amplitude) (configOf (f .distributions) t d));
-  entry = λ t d s n. recordBytes (configOf (f .distributions) t d) s (d .kind) n;
-  fault = λ d. faultOf (drawFault (f .rates) (f .distributions) d);
+  Draw = HeldDraw;
+  gap = λ d. d .draw .gap;
+  start = λ t d. startFrom (startAt (f .distributions) (f .delays) t (d .draw));
+  adds = λ t d s. map pairOf (replySamples four (f .modeS) (f .modeAC) (f .delays) (d .draw .amplitude) (configOf (f .distributions) t (d .draw)));
+  entry = λ t d s n. recordBytes (configOf (f .distributions) t (d .draw)) s (d .draw .kind) n;
+  fault = λ d. faultOf (drawFault (f .rates) (f .distributions) (d .draw));
   loud = loud;
-  drawAt = drawAt;
+  drawAt = λ s. record { draw = drawAt s; held = read-held s };
 }
 
 -- the generator of a run of so many samples

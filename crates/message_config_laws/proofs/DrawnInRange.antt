@@ -1,19 +1,17 @@
--- What is drawn is in range: of a distribution that the settings' checks accept and a draw that the draws' checks accept, the clock error is within 0.1 in size (`drawn-error`), the carrier offset within 4,000,000 (`drawn-offset`) and the phase from -PI to PI (`drawn-phase`). Assumes nothing.
+-- What is drawn is in range: of a distribution that the settings' checks accept and a draw that the draws' checks accept, the clock error is within 0.1 in size (`drawn-error`), the carrier offset within 4,000,000 at document 01's rate (`drawn-offset`) and the phase from -PI to PI (`drawn-phase`). Assumes nothing.
 use mathlib.Core.Path.{_≡_, refl, sym, _∙_, subst}
-use Prim.Native.Nat.{ℕ, zero, suc, _+_, _*_, _≤_, zero-le}
+use Prim.Native.Nat.{ℕ, zero, suc, _+_, _*_, _^_, _≤_, zero-le}
 use native.Mathlib.Nat.{le-trans, le-of-eq}
 use native.Mathlib.Omega.{arith}
 use mathlib.Core.Bool.{Bool, true, false, not, _&&_, cond, true≢false}
-use lib.IntN.{ℤ, pos, negsuc}
 use lib.Dec.{T, ltb, nltb→le}
 use lib.Ieee.{Float, nan, inf, fin, binary64, up, down, unlike, round, ofBits, neg, add, mul, below, lt, le, fits, isNan}
 use lib.Ieee.Fits.{and-l, and-r, neg-fits, mul-fits, sub-fits}
 use lib.Ieee.Scale.{finite}
-use Rattle.constants.specs.Rate.{four}
 use Rattle.rounding.proofs.Order.{Le, Signed, round-signed}
 use Rattle.rounding.proofs.Val.{Val, neg-val, le-val}
 use Rattle.float_bits.specs.Range.{within}
-use Rattle.float_bits.proofs.Ranges.{within-test, within-finite, within-val, val-within}
+use Rattle.float_bits.proofs.Ranges.{within-test, within-val, val-within}
 use Rattle.math.specs.Phase.{pi, twoPi, remEuclid, phaseWrap}
 use Rattle.math.proofs.Size.{number}
 use Rattle.math.proofs.Order.{lt-val}
@@ -30,16 +28,16 @@ use Rattle.distributions.specs.Drawn.{clamped, offsetOf, phaseOf, errorOf, offs
 use Rattle.message.specs.declared.ReplyKind.{ReplyKind}
 use Rattle.message.specs.declared.ReplyKind.the-variants.{Short, Long, ModeAc}
 use Rattle.message_config.specs.Timing.{filterClockError}
-use Rattle.message_config_laws.proofs.InRange.{ErrorInRange, tenthUnits, tenth-is, tenth-val, offset-val, offsetUnits, offset-is}
+use Rattle.message_config_laws.proofs.InRange.{ErrorInRange, tenthUnits, tenth-val, offset-val, offsetUnits, within-number}
 
 -- ---- distributions that the checks accept
 abbrev pub ClockAccepted : Clock.ClockError → Type 0
 ClockAccepted (Clock.the-variants.Constant x) = T (fits binary64 x) × T (within x tenth)
 ClockAccepted (Clock.the-variants.Uniform max) = T (fits binary64 max) × T (upTo max tenth)
 
-abbrev pub OffsetAccepted : Offset.CarrierOffset → Type 0
-OffsetAccepted (Offset.the-variants.Constant x) = T (fits binary64 x) × T (within x (offsetLimit four))
-OffsetAccepted (Offset.the-variants.ClampedNormal sigma max) = T (finiteNotNegative sigma) × T (fits binary64 max) × T (upTo max (offsetLimit four))
+abbrev pub OffsetAccepted : ℕ → Offset.CarrierOffset → Type 0
+OffsetAccepted sps (Offset.the-variants.Constant x) = T (fits binary64 x) × T (within x (offsetLimit sps))
+OffsetAccepted sps (Offset.the-variants.ClampedNormal sigma max) = T (finiteNotNegative sigma) × T (fits binary64 max) × T (upTo max (offsetLimit sps))
 
 abbrev pub PhaseAccepted : Phase.CarrierPhase → Type 0
 PhaseAccepted (Phase.the-variants.Constant x) = T (fits binary64 x) × Between pi x
@@ -71,26 +69,26 @@ accepted-clock a d F e =
     (by-cond ClockRight (upTo (a .first) tenth) (ClockAnswer.the-variants.Accepted (Clock.the-variants.Uniform (a .first))) ClockAnswer.the-variants.Refused (λ t. (F, t)) tt)
     tt)
 
-abbrev OffsetRight : OffsetAnswer.OffsetAnswer → Type 0
-OffsetRight (OffsetAnswer.the-variants.Accepted d) = OffsetAccepted d
-OffsetRight OffsetAnswer.the-variants.Refused = Unit {0}
+abbrev OffsetRight : ℕ → OffsetAnswer.OffsetAnswer → Type 0
+OffsetRight sps (OffsetAnswer.the-variants.Accepted d) = OffsetAccepted sps d
+OffsetRight sps OffsetAnswer.the-variants.Refused = Unit {0}
 
-normal-right : (sigma max : Float) → T (fits binary64 max) → OffsetRight (clampedNormal four sigma max)
+normal-right : (sps : ℕ) (sigma max : Float) → T (fits binary64 max) → OffsetRight sps (clampedNormal sps sigma max)
 unfolding clampedNormal
-normal-right sigma max F =
-    by-cond OffsetRight (finiteNotNegative sigma && upTo max (offsetLimit four)) (OffsetAnswer.the-variants.Accepted (Offset.the-variants.ClampedNormal sigma max)) OffsetAnswer.the-variants.Refused
-    (λ t. (and-l (finiteNotNegative sigma) (upTo max (offsetLimit four)) t, F, and-r (finiteNotNegative sigma) (upTo max (offsetLimit four)) t)) tt
+normal-right sps sigma max F =
+    by-cond (OffsetRight sps) (finiteNotNegative sigma && upTo max (offsetLimit sps)) (OffsetAnswer.the-variants.Accepted (Offset.the-variants.ClampedNormal sigma max)) OffsetAnswer.the-variants.Refused
+    (λ t. (and-l (finiteNotNegative sigma) (upTo max (offsetLimit sps)) t, F, and-r (finiteNotNegative sigma) (upTo max (offsetLimit sps)) t)) tt
 
-pub accepted-offset : (a : Asked) (d : Offset.CarrierOffset) → T (fits binary64 (a .first)) → T (fits binary64 (a .second)) → carrierOffset four a ≡ OffsetAnswer.the-variants.Accepted d → OffsetAccepted d
+pub accepted-offset : (sps : ℕ) (a : Asked) (d : Offset.CarrierOffset) → T (fits binary64 (a .first)) → T (fits binary64 (a .second)) → carrierOffset sps a ≡ OffsetAnswer.the-variants.Accepted d → OffsetAccepted sps d
 unfolding carrierOffset
-accepted-offset a d F G e =
-    subst OffsetRight e
-    (by-kind OffsetRight (a .kind)
-    (cond (within (a .first) (offsetLimit four)) (OffsetAnswer.the-variants.Accepted (Offset.the-variants.Constant (a .first))) OffsetAnswer.the-variants.Refused)
-    (clampedNormal four (a .first) (a .second))
+accepted-offset sps a d F G e =
+    subst (OffsetRight sps) e
+    (by-kind (OffsetRight sps) (a .kind)
+    (cond (within (a .first) (offsetLimit sps)) (OffsetAnswer.the-variants.Accepted (Offset.the-variants.Constant (a .first))) OffsetAnswer.the-variants.Refused)
+    (clampedNormal sps (a .first) (a .second))
     OffsetAnswer.the-variants.Refused
-    (by-cond OffsetRight (within (a .first) (offsetLimit four)) (OffsetAnswer.the-variants.Accepted (Offset.the-variants.Constant (a .first))) OffsetAnswer.the-variants.Refused (λ t. (F, t)) tt)
-    (normal-right (a .first) (a .second) G)
+    (by-cond (OffsetRight sps) (within (a .first) (offsetLimit sps)) (OffsetAnswer.the-variants.Accepted (Offset.the-variants.Constant (a .first))) OffsetAnswer.the-variants.Refused (λ t. (F, t)) tt)
+    (normal-right sps (a .first) (a .second) G)
     tt)
 
 abbrev PhaseRight : PhaseAnswer.PhaseAnswer → Type 0
@@ -114,12 +112,14 @@ accepted-phase a d F e =
     tt)
 
 -- ---- from 0 to a limit, in units
-up-to-finite : (x : Float) (m : ℕ) (e : ℤ) → T (upTo x (fin false m e)) → T (finite x)
+up-to-finite : (x l : Float) (k : ℕ) → Val l false k → T (upTo x l) → T (finite x)
 unfolding upTo ofBits le
-up-to-finite nan m e t = absurd (and-l (le (ofBits binary64 0) nan) (le nan (fin false m e)) t)
-up-to-finite (inf true) m e t = absurd (and-l (le (ofBits binary64 0) (inf true)) (le (inf true) (fin false m e)) t)
-up-to-finite (inf false) m e t = absurd (and-r (le (ofBits binary64 0) (inf false)) (le (inf false) (fin false m e)) t)
-up-to-finite (fin s n d) m e t = tt
+up-to-finite nan l k v t = absurd (and-l (le (ofBits binary64 0) nan) (le nan l) t)
+up-to-finite (inf true) l k v t = absurd (and-l (le (ofBits binary64 0) (inf true)) (le (inf true) l) t)
+up-to-finite (inf false) nan k v t = absurd v
+up-to-finite (inf false) (inf u) k v t = absurd v
+up-to-finite (inf false) (fin u m e) k v t = absurd (and-r (le (ofBits binary64 0) (inf false)) (le (inf false) (fin u m e)) t)
+up-to-finite (fin s n d) l k v t = tt
 
 zero-val : Val (ofBits binary64 0) false 0
 unfolding ofBits
@@ -136,10 +136,10 @@ no-more : (s : Bool) (n k : ℕ) → Le false 0 s n → Le s n false k → n ≤
 no-more false n k l h = h
 no-more true n k l h = le-trans (le-of-eq (l .1)) zero-le
 
-up-to-units : (x limit : Float) (m : ℕ) (e : ℤ) (k : ℕ) → limit ≡ fin false m e → Val limit false k → T (fits binary64 x) → T (upTo x limit) → UpTo x k
+up-to-units : (x limit : Float) (k : ℕ) → Val limit false k → T (fits binary64 x) → T (upTo x limit) → UpTo x k
 unfolding upTo
-up-to-units x limit m e k i v F t =
-    let N = number x F (up-to-finite x m e (subst (λ (l : Float). T (upTo x l)) i t)) in
+up-to-units x limit k v F t =
+    let N = number x F (up-to-finite x limit k v t) in
     let l = le-val (ofBits binary64 0) x false (N .sign) 0 (N .count) zero-val (N .is) (and-l (le (ofBits binary64 0) x) (le x limit) t) in
     record { sign = N .sign; count = N .count; is = N .is; least = l; under = no-more (N .sign) (N .count) k l (le-val x limit (N .sign) false (N .count) k (N .is) v (and-r (le (ofBits binary64 0) x) (le x limit) t)) }
 
@@ -156,18 +156,12 @@ within-count x l s false n k v w h = within-val x l s n k v w h
 within-count x l false true n k v w h = le-trans (le-of-eq (le-val x l false true n k v w (within-tests x l h .1) .0)) zero-le
 within-count x l true true n k v w h = le-trans (le-of-eq (le-val (neg l) x false true k n (neg-val l true k w) v (within-tests x l h .0) .1)) zero-le
 
--- a value within a finite one is finite
-within-number : (x l : Float) (t : Bool) (k : ℕ) → Val l t k → T (within x l) → T (finite x)
-within-number x nan t k w h = absurd w
-within-number x (inf u) t k w h = absurd w
-within-number x (fin u m e) t k w h = within-finite x u m e h
-
 -- ---- the clock error
 pub drawn-error : (d : Clock.ClockError) (draw : Float) → ClockAccepted d → T (fits binary64 draw) → T (clockDrawFits d draw) → T (fits binary64 (errorOf d draw)) × T (within (errorOf d draw) tenth)
 unfolding errorOf clockDrawFits
 drawn-error (Clock.the-variants.Constant x) draw a F t = a
 drawn-error (Clock.the-variants.Uniform max) draw a F t =
-    let u = up-to-units max tenth 3602879701896397 (negsuc 54) tenthUnits tenth-is tenth-val (a .0) (a .1) in
+    let u = up-to-units max tenth tenthUnits tenth-val (a .0) (a .1) in
     let N = number draw F (within-number draw max (u .sign) (u .count) (u .is) t) in
     (F, val-within draw tenth (N .sign) (N .count) tenthUnits (N .is) tenth-val (le-trans (within-count draw max (N .sign) (u .sign) (N .count) (u .count) (N .is) (u .is) t) (u .under)))
 
@@ -224,30 +218,30 @@ between-count true true n k p q = part k n (not-less 0 (n + k) p)
     part : (k n : ℕ) → n + k ≤ 0 → n ≤ k
     part k n h = omega arith
 
-clamped-within : (x max : Float) → T (fits binary64 x) → T (not (isNan x)) → T (fits binary64 max) → UpTo max offsetUnits → T (fits binary64 (clamped x max)) × T (within (clamped x max) (offsetLimit four))
+clamped-within : (sps : ℕ) → sps ≤ 2 ^ 30 → (x max : Float) → T (fits binary64 x) → T (not (isNan x)) → T (fits binary64 max) → UpTo max (offsetUnits sps) → T (fits binary64 (clamped x max)) × T (within (clamped x max) (offsetLimit sps))
 unfolding clamped
-clamped-within x max F h G u = low (lt x (neg max)) refl
+clamped-within sps few x max F h G u = low (lt x (neg max)) refl
   where
     Fine : Float → Type 0
-    Fine y = T (fits binary64 y) × T (within y (offsetLimit four))
+    Fine y = T (fits binary64 y) × T (within y (offsetLimit sps))
 
     inner : lt x (neg max) ≡ false → lt max x ≡ false → Fine x
     inner p q =
         let N = number x F (between-finite x max (u .sign) (u .count) (u .is) h p q) in
         let n-le = between-count (N .sign) (u .sign) (N .count) (u .count) (sym (lt-val x (neg max) (N .sign) (not (u .sign)) (N .count) (u .count) (N .is) (neg-val max (u .sign) (u .count) (u .is))) ∙ p) (sym (lt-val max x (u .sign) (N .sign) (u .count) (N .count) (u .is) (N .is)) ∙ q) in
-        (F, val-within x (offsetLimit four) (N .sign) (N .count) offsetUnits (N .is) offset-val (le-trans n-le (u .under)))
+        (F, val-within x (offsetLimit sps) (N .sign) (N .count) (offsetUnits sps) (N .is) (offset-val sps few) (le-trans n-le (u .under)))
 
     high : (b : Bool) → lt max x ≡ b → lt x (neg max) ≡ false → Fine (cond b max x)
-    high true q p = (G, val-within max (offsetLimit four) (u .sign) (u .count) offsetUnits (u .is) offset-val (u .under))
+    high true q p = (G, val-within max (offsetLimit sps) (u .sign) (u .count) (offsetUnits sps) (u .is) (offset-val sps few) (u .under))
     high false q p = inner p q
 
     low : (b : Bool) → lt x (neg max) ≡ b → Fine (cond b (neg max) (cond (lt max x) max x))
-    low true p = (neg-fits binary64 max G, val-within (neg max) (offsetLimit four) (not (u .sign)) (u .count) offsetUnits (neg-val max (u .sign) (u .count) (u .is)) offset-val (u .under))
+    low true p = (neg-fits binary64 max G, val-within (neg max) (offsetLimit sps) (not (u .sign)) (u .count) (offsetUnits sps) (neg-val max (u .sign) (u .count) (u .is)) (offset-val sps few) (u .under))
     low false p = high (lt max x) refl p
 
-pub drawn-offset : (d : Offset.CarrierOffset) (draw : Float) → OffsetAccepted d → T (offsetDrawFits d draw) → T (fits binary64 (offsetOf d draw)) × T (within (offsetOf d draw) (offsetLimit four))
+pub drawn-offset : (sps : ℕ) → sps ≤ 2 ^ 30 → (d : Offset.CarrierOffset) (draw : Float) → OffsetAccepted sps d → T (offsetDrawFits d draw) → T (fits binary64 (offsetOf d draw)) × T (within (offsetOf d draw) (offsetLimit sps))
 unfolding offsetOf offsetDrawFits finiteNotNegative
-drawn-offset (Offset.the-variants.Constant x) draw a t = a
-drawn-offset (Offset.the-variants.ClampedNormal sigma max) draw a t =
-    clamped-within (mul binary64 draw sigma) max (mul-fits binary64 draw sigma) (product-number draw sigma t (and-r (le (ofBits binary64 0) sigma) (finite sigma) (a .0))) (a .1)
-    (up-to-units max (offsetLimit four) 15625 (pos 8) offsetUnits offset-is offset-val (a .1) (a .2))
+drawn-offset sps few (Offset.the-variants.Constant x) draw a t = a
+drawn-offset sps few (Offset.the-variants.ClampedNormal sigma max) draw a t =
+    clamped-within sps few (mul binary64 draw sigma) max (mul-fits binary64 draw sigma) (product-number draw sigma t (and-r (le (ofBits binary64 0) sigma) (finite sigma) (a .0))) (a .1)
+    (up-to-units max (offsetLimit sps) (offsetUnits sps) (offset-val sps few) (a .1) (a .2))

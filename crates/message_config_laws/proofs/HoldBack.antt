@@ -26,7 +26,7 @@ use Rattle.message_config.specs.declared.MessageConfig.{MessageConfig}
 use Rattle.message_config.specs.Timing.{one, delayOf, unroundedStart, startOf}
 use Rattle.message_config.specs.Config.{configStart}
 use Rattle.message_config_laws.proofs.InRange.{TimeInRange, DelayInRange, DelaysInRange, ErrorInRange, delay-of, within-tenth}
-use Rattle.message_config_laws.proofs.Starts.{Counted, counted, finite-reply, clocked-delay, sub-mul, halves, upward-le, upward-mono, upward-ge, upward-gt, upward-lt, start-units, reply-start, start-negative, held-few, without-half, at-most-time, later, sooner}
+use Rattle.message_config_laws.proofs.Starts.{Counted, counted, finite-reply, clocked-delay, sub-mul, halves, upward-le, upward-mono, upward-ge, upward-gt, upward-lt, start-units, reply-start, start-negative, held-some, held-few, without-half, at-most-time, later, sooner}
 
 -- the samples of a time of n units, rounded up
 abbrev N-of : ℕ → ℕ
@@ -147,7 +147,7 @@ module _ (H : ℕ) (some : 1 ≤ H) (few : H ≤ 2 ^ 40) where
 
 -- ---- times
 -- a time that is not after a finite one is finite, and no more units
-not-after-finite : (t t′ : Float) → TimeInRange t → T (finite t′) → lt t′ t ≡ false → T (finite t)
+pub not-after-finite : (t t′ : Float) → TimeInRange t → T (finite t′) → lt t′ t ≡ false → T (finite t)
 unfolding le lt
 not-after-finite nan t′ r f h = absurd (r .low)
 not-after-finite (inf true) t′ r f h = absurd (r .low)
@@ -156,7 +156,7 @@ not-after-finite (inf false) (inf u) r f h = absurd f
 not-after-finite (inf false) (fin u m e) r f h = absurd (true≢false h)
 not-after-finite (fin u m e) t′ r f h = tt
 
-no-more-units : (t t′ : Float) (n n′ : ℕ) → Units t n → Units t′ n′ → lt t′ t ≡ false → n ≤ n′
+pub no-more-units : (t t′ : Float) (n n′ : ℕ) → Units t n → Units t′ n′ → lt t′ t ≡ false → n ≤ n′
 no-more-units nan t′ n n′ u w h = absurd u
 no-more-units (inf s) t′ n n′ u w h = absurd u
 no-more-units (fin true m e) t′ n n′ u w h = le-trans (le-of-eq (u .1)) zero-le
@@ -176,12 +176,9 @@ module _ (sps : ℕ) (S : 3 ≤ sps) (M : sps ≤ 2 ^ 30) (delays : Delays) (R :
       let C′ = counted t′ A′ f′ in
       let C = counted t A (not-after-finite t t′ A f′ o) in
       let n-le : C .count ≤ C′ .count = no-more-units t t′ (C .count) (C′ .count) (C .is) (C′ .is) o in
-      le-trans (earlier-start (8 * sps) (some sps S) (held-few sps M) t d C (q .0) (q .1) (q .2) s p)
+      le-trans (earlier-start (8 * sps) (held-some sps S) (held-few sps M) t d C (q .0) (q .1) (q .2) s p)
       (le-trans (upward-mono (C .count) (2 ^ 1074) (C′ .count) (pow-pos 1074) n-le)
-      (later-start (8 * sps) (some sps S) (held-few sps M) t′ d′ C′ (q′ .0) (q′ .1) (q′ .2) s′ p′ small))
-    where
-      some : (s : ℕ) → 3 ≤ s → 1 ≤ 8 * s
-      some s h = omega arith
+      (later-start (8 * sps) (held-some sps S) (held-few sps M) t′ d′ C′ (q′ .0) (q′ .1) (q′ .2) s′ p′ small))
 
 -- ---- at document 01's rate
 -- a delay divided by 1 + e is at most 31.5 samples

@@ -1,21 +1,23 @@
 -- What the theorems of this crate take as in range: a draw's time and clock error, and the filters' delays. Each is what document 01's checks, or the theorem about group delays, gives. Assumes nothing.
-use mathlib.Core.Path.{_≡_, refl, subst}
-use Prim.Native.Nat.{ℕ, _*_, _^_, _≤_, _<_, zero-le}
-use native.Mathlib.Nat.{le-trans, le-of-eq, le-of-lt, lt-of-le-of-lt, zero-mul, mul-le-mul-right, mul-le-mul-left}
+use mathlib.Core.Path.{_≡_, refl, sym, ap, _∙_}
+use Prim.Native.Nat.{ℕ, _*_, _/_, _^_, _≤_, _<_, zero-le}
+use native.Mathlib.Nat.{le-trans, le-of-eq, le-of-lt, lt-of-le-of-lt, zero-mul, mul-one, mul-right-comm, mul-le-mul-right, mul-le-mul-left}
 use native.Mathlib.Omega.{arith}
-use mathlib.Core.Bool.{true, false, true≢false}
+use mathlib.Core.Bool.{Bool, true, false, true≢false}
 use mathlib.Core.List.{List}
-use lib.IntN.{pos, negsuc}
+use lib.IntN.{pos}
 use lib.Dec.{T, lit≤, lit<}
 use lib.ListN.{length}
-use lib.Ieee.{Float, nan, inf, fin, binary32, binary64, down, ofBits, lt, le, fits, div, mul, add, ofInt}
+use lib.Ieee.{Float, nan, inf, fin, binary32, binary64, up, down, ofBits, lt, le, fits, div, mul, add, ofInt}
 use lib.Ieee.Fits.{sub-fits}
-use lib.Ieee.Scale.{overflow}
-use Rattle.constants.specs.Rate.{four, tapsPerBranch, prototypeLength}
+use lib.Ieee.Exact.{HasValue}
+use lib.Ieee.Scale.{overflow, finite}
+use Rattle.constants.specs.Rate.{four, tapsPerBranch, prototypeLength, largestOffset}
 use Rattle.rounding.proofs.Order.{Signed, fin-le}
 use Rattle.rounding.proofs.Units.{G, G-le, Units, units-of, lt-finite, lt-units}
 use Rattle.rounding.proofs.Val.{Val, val-units}
 use Rattle.float_bits.specs.Range.{within}
+use Rattle.float_bits.proofs.Exact.{whole-value}
 use Rattle.float_bits.proofs.Ranges.{within-finite, within-val}
 use Rattle.math.proofs.Size.{Within, number}
 use Rattle.math.specs.Phase.{pi}
@@ -106,18 +108,21 @@ pub record ErrorInRange (kind : ReplyKind) (e : Float) : Type 0 where
 abbrev pub tenthUnits : ℕ
 tenthUnits = 3602879701896397 * 2 ^ 1019
 
-pub tenth-is : tenth ≡ fin false 3602879701896397 (negsuc 54)
-unfolding tenth ofBits
-tenth-is = refl
-
 pub tenth-val : Val tenth false tenthUnits
 unfolding tenth ofBits
 tenth-val = (refl, refl)
 
+-- a value within a finite one is finite
+pub within-number : (x l : Float) (t : Bool) (k : ℕ) → Val l t k → T (within x l) → T (finite x)
+within-number x nan t k w h = absurd w
+within-number x (inf u) t k w h = absurd w
+within-number x (fin u m e) t k w h = within-finite x u m e h
+
+pub within-units : (x l : Float) (k : ℕ) → Val l false k → T (fits binary64 x) → T (within x l) → Within x k
+within-units x l k v F t = let N = number x F (within-number x l false k v t) in (N .sign, N .count, N .is, within-val x l (N .sign) (N .count) k (N .is) v t)
+
 pub within-tenth : (e : Float) → T (fits binary64 e) → T (within e tenth) → Within e tenthUnits
-within-tenth e F t =
-    let N = number e F (within-finite e false 3602879701896397 (negsuc 54) (subst (λ (l : Float). T (within e l)) tenth-is t)) in
-    (N .sign, N .count, N .is, within-val e tenth (N .sign) (N .count) tenthUnits (N .is) tenth-val t)
+within-tenth e F t = within-units e tenth tenthUnits tenth-val F t
 
 pub filter-fits : (kind : ReplyKind) (e : Float) → T (fits binary64 e) → T (fits binary64 (filterClockError kind e))
 unfolding filterClockError
@@ -125,23 +130,30 @@ filter-fits Short e F = F
 filter-fits Long e F = F
 filter-fits ModeAc e F = sub-fits binary64 (mul binary64 modeACRatio (add binary64 (ofInt binary64 (pos 1)) e)) (ofInt binary64 (pos 1))
 
--- ---- the largest carrier offset: 4,000,000
-abbrev pub offsetUnits : ℕ
-offsetUnits = 4000000 * 2 ^ 1074
+-- ---- the largest carrier offset: 4,000,000 at document 01's rate
+abbrev pub offsetUnits : ℕ → ℕ
+offsetUnits sps = largestOffset sps * 2 ^ 1074
 
-pub offset-is : offsetLimit four ≡ fin false 15625 (pos 8)
-unfolding offsetLimit ofInt
-offset-is = refl
+pub whole-val : (n : ℕ) → n ≤ 2 ^ 53 → Val (ofInt binary64 (pos n)) false (n * 2 ^ 1074)
+whole-val n h = go (ofInt binary64 (pos n)) (whole-value n h)
+  where
+    go : (x : Float) → HasValue x false n 1 → Val x false (n * 2 ^ 1074)
+    go nan v = v
+    go (inf s) v = v
+    go (fin t m e) v = (v .0, ap (λ (x : ℕ). x * 2 ^ 1074) (sym (mul-one (m * up e)) ∙ v .1) ∙ mul-right-comm n (down e) (2 ^ 1074))
 
-pub offset-val : Val (offsetLimit four) false offsetUnits
-unfolding offsetLimit ofInt
-offset-val = (refl, refl)
+pub offset-val : (sps : ℕ) → sps ≤ 2 ^ 30 → Val (offsetLimit sps) false (offsetUnits sps)
+unfolding offsetLimit
+offset-val sps few = whole-val (largestOffset sps) (room sps few)
+  where
+    room : (s : ℕ) → s ≤ 2 ^ 30 → 2000000 * s / 2 ≤ 2 ^ 53
+    room s h = omega arith
 
--- ---- a message is in range: its time, its clock error, its carrier's offset within 4,000,000 in size, and its phase from -PI to PI
-pub record MessageInRange (c : MessageConfig) : Type 0 where
+-- ---- a message is in range: its time, its clock error, its carrier's offset within 4,000,000 in size at document 01's rate, and its phase from -PI to PI
+pub record MessageInRange (sps : ℕ) (c : MessageConfig) : Type 0 where
   pub time : TimeInRange (c .time)
   pub error : ErrorInRange (c .reply .kind) (c .error)
   pub offset-fit : T (fits binary64 (c .offset))
-  pub offset : T (within (c .offset) (offsetLimit four))
+  pub offset : T (within (c .offset) (offsetLimit sps))
   pub phase-fit : T (fits binary64 (c .phase))
   pub phase : Between pi (c .phase)

@@ -1,6 +1,7 @@
 pub mod InRange
 pub mod Starts
 pub mod HoldBack
+pub mod Times
 pub mod FirstClock
 pub mod NeverNan
 pub mod DrawnInRange

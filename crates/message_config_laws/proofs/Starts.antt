@@ -84,6 +84,9 @@ quotient-room sps v u S =
     at : (s : ℕ) → 3 ≤ s → 7 * s * 2 * 8192 ≤ (2 * (8 * s) - 1) * 7372
     at s h = omega arith
 
+pub held-some : (sps : ℕ) → 3 ≤ sps → 1 ≤ holdBack sps
+held-some sps h = omega arith
+
 pub held-few : (sps : ℕ) → sps ≤ 2 ^ 30 → holdBack sps ≤ 2 ^ 40
 held-few sps h = omega arith
 

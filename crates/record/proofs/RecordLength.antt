@@ -1,7 +1,6 @@
 -- A record has 66 bytes (`record-length`), its reply having 14. Assumes nothing.
 use Prim.Native.Nat.{ℕ}
 use mathlib.Core.Path.{_≡_}
-use native.Mathlib.Omega.{arith}
 use lib.ListN.{length, length-append}
 use Rattle.le_bytes.proofs.Halves.{length-bytes}
 use Rattle.message.specs.declared.Reply.{Reply}

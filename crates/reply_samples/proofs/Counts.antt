@@ -1,21 +1,20 @@
 -- A reply has as many samples as its count says, at any rate; and for a clock error of its filter within 0.1 and a first phase from 0 to 2 samples at most 1,094, a short message 596, Mode A/C 218 and with SPI 258. Assumes nothing.
-use Prim.Native.Nat.{ℕ, zero, suc, _+_, _*_, _≤_}
+use Prim.Native.Nat.{ℕ, zero, suc, _*_, _≤_}
 use native.Mathlib.Omega.{arith}
 use mathlib.Core.Path.{_≡_, refl, sym, ap, _∙_, subst}
-use mathlib.Core.Bool.{Bool, true, false}
+use mathlib.Core.Bool.{true, false}
 use mathlib.Core.List.{List, [], _∷_}
 use lib.Dec.{lit≤}
 use lib.ListN.{length}
 use lib.Ieee.{Float, binary64, add}
 use Rattle.constants.specs.Rate.{four, replyLimit}
 use Rattle.math.specs.Phase.{phaseWrapOnce}
-use Rattle.message.specs.declared.ReplyKind.{ReplyKind}
-use Rattle.message.specs.declared.ReplyKind.the-variants.{Short, Long, ModeAc}
+use Rattle.message.specs.declared.ReplyKind.the-variants.{Short, ModeAc}
 use Rattle.message_config.specs.declared.Delays.{Delays}
 use Rattle.message_config.specs.declared.MessageConfig.{MessageConfig}
 use Rattle.message_config.specs.Config.{configClockPhase, configClockError, configRate, configPhase}
 use Rattle.pulses.specs.ModeAC.{modeACLength}
-use Rattle.filterbank.specs.Apply.{limitOf, applyFilterbank, sampleCount}
+use Rattle.filterbank.specs.Apply.{limitOf, applyFilterbank}
 use Rattle.filterbank.proofs.EndsByItself.{InRange, ends-within, values-counted}
 use Rattle.reply_samples.specs.ReplyPulses.{spiOf, placesOf}
 use Rattle.reply_samples.specs.Samples.{turned, samplesBy, prototypeOf, replySamples, replyCount}

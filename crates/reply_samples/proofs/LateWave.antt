@@ -1,6 +1,6 @@
 -- The samples of a wave over pulses laid late are those of the reply. Assumes nothing.
 use Prim.Native.Nat.{ℕ, zero, suc, _≤_}
-use native.Mathlib.Nat.{le-refl, le-of-eq}
+use native.Mathlib.Nat.{le-of-eq}
 use mathlib.Core.Path.{_≡_, refl, sym, ap, _∙_}
 use mathlib.Core.Bool.{Bool, true, false, cond}
 use mathlib.Core.List.{List, [], _∷_}
@@ -20,7 +20,6 @@ use Rattle.filterbank.specs.PulseSum.{late}
 use Rattle.filterbank.specs.Clocked.{stepOf, startClock, advance}
 use Rattle.filterbank.specs.Apply.{clockCount, clockValues, limitOf, fuelOf, valueAt, applyFilterbank, sampleCount}
 use Rattle.filterbank.proofs.LateSum.{late-sum}
-use Rattle.reply_samples.specs.declared.Sample.{Sample}
 use Rattle.reply_samples.specs.ReplyPulses.{pulsesOf, placesOf}
 use Rattle.reply_samples.specs.Samples.{turned, samplesBy, prototypeOf, replyCount, replySamples}
 use Rattle.reply_samples.specs.Mirror.{isModeAC, lateValue, waveOf, waveSamples, waveCount}
@@ -37,9 +36,6 @@ taps-seven : (prototype : List Float) (phase : Float) → length (filterTaps fou
 unfolding filterTaps branch
 taps-seven prototype phase = go (eqb (length prototype) (prototypeLength four))
   where
-    a : ℕ
-    a = branchOf four phase
-
     go : (t : Bool) → length (cond t (between (tauOf four phase) (branch four prototype (branchOf four phase)) (nextBranch four prototype (branchOf four phase))) (replicate tapsPerBranch (ofBits binary32 0))) ≡ 7
     go true = between-length (tauOf four phase) (branch four prototype (branchOf four phase)) (nextBranch four prototype (branchOf four phase)) ∙ length-values _ 7 0
     go false = length-replicate 7 (ofBits binary32 0)

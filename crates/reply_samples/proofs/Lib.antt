@@ -4,3 +4,4 @@ pub mod LateWave
 pub mod Adding
 pub mod Counts
 pub mod Ring
+pub mod MadeModeAC

@@ -1,17 +1,15 @@
 -- The places of a reply: as many as its length says, at most 240; 128 for a short message, 240 for a long one, 43 for Mode A/C and 52 with SPI. And each kind's pulses and samples, as the code meets them. Assumes nothing.
 use mathlib.Core.Path.{_≡_, refl, sym, ap, _∙_, subst}
-use Prim.Native.Nat.{ℕ, zero, suc, _≤_}
+use Prim.Native.Nat.{ℕ, zero, suc, _+_, _*_, _%_, _≤_}
 use native.Mathlib.Nat.{le-trans, le-of-eq}
 use mathlib.Core.Bool.{Bool, true, false}
 use mathlib.Core.List.{List}
 use lib.Dec.{lit≤}
-use lib.ListN.{length, take}
+use lib.ListN.{length, getD}
 use lib.Seq.{length-take-le}
-use Rattle.constants.specs.Rate.{four}
 use Rattle.message.specs.declared.Reply.{Reply}
 use Rattle.message.specs.declared.ReplyKind.{ReplyKind}
 use Rattle.message.specs.declared.ReplyKind.the-variants.{Short, Long, ModeAc}
-use Rattle.pulses.specs.declared.Pulses.{Pulses}
 use Rattle.pulses.specs.Map.{mapFrom, mapOf}
 use Rattle.pulses.specs.ModeS.{modeSPulses, modeSLength, modeSBits}
 use Rattle.pulses.specs.ModeAC.{modeACPulses, modeACLength}
@@ -19,6 +17,10 @@ use Rattle.pulse_length.specs.Length.{modeSNumSamples, modeACNumSamples}
 use Rattle.reply_samples.specs.ReplyPulses.{dataOf, spiOf, pulsesOfKind, pulsesOf, placesOf, numSamplesOfKind, numSamplesOf}
 
 -- ---- by kind
+pub data-is : (b : List ℕ) (x y : ℕ) → x ≡ getD b 0 0 → y ≡ getD b 1 0 → x + y % 16 * 256 ≡ dataOf b
+unfolding dataOf
+data-is b x y e f = ap (λ (n : ℕ). n + y % 16 * 256) e ∙ ap (λ (n : ℕ). getD b 0 0 + n % 16 * 256) f
+
 pub of-short : (r : Reply) → r .kind ≡ Short → modeSPulses (r .bytes) false ≡ pulsesOf r
 unfolding pulsesOf
 of-short r e = ap (λ (k : ReplyKind). pulsesOfKind k (r .bytes)) (sym e)

@@ -1,30 +1,40 @@
 -- The ring: the place after that of sample s is that of sample s + 1, a place being the sample's number modulo the places; and adding keeps the memory's length. Assumes nothing.
-use Prim.Native.Nat.{ℕ, zero, suc, _+_, _-_, _%_, _<_, _≤_}
+use Prim.Native.Nat.{ℕ, _+_, _-_, _%_, _<_, _≤_}
+use native.Mathlib.Nat.{mod-lt, mod-self, mod-eq-of-lt, mod-add-mod}
 use native.Mathlib.Omega.{arith}
 use mathlib.Core.Path.{_≡_, refl, sym, ap, _∙_}
 use mathlib.Core.Logic.{inl, inr}
 use mathlib.Core.Bool.{Bool, true, false, cond}
 use mathlib.Core.List.{List, [], _∷_}
-use lib.Dec.{ltb}
+use borrow.Author.Tests.{lt-ltb, le-ltb}
+use lib.Dec.{ltb, lit≤}
 use lib.ListN.{length}
 use lib.Ieee.{Float}
 use Rattle.constants.specs.Rate.{four}
 use Rattle.filterbank.proofs.Laid.{le-or-lt}
 use Rattle.reply_samples.specs.declared.Sample.{Sample}
 use Rattle.reply_samples.specs.Added.{ringPlaces, addedAt, nextPlace, addedFrom, isPlace, addedReply}
-use Rattle.reply_samples.proofs.Turns.{next-on, next-first, added-length}
+use Rattle.reply_samples.proofs.Turns.{added-length}
 
-pub next-ring : (s : ℕ) → nextPlace four (s % ringPlaces four) ≡ (s + 1) % ringPlaces four
-next-ring s = elim (le-or-lt 1125 (s % 1126)) [
-  | inl h ↦ sym (next-first (s % 1126) h) ∙ back s h
-  | inr h ↦ sym (next-on (s % 1126) h) ∙ on s h
+-- among W places the next is one more, and 0 after the last
+step : (W s : ℕ) → 0 < W → cond (ltb (s % W) (W - 1)) (s % W + 1) 0 ≡ (s + 1) % W
+step W s h = elim (le-or-lt (W - 1) (s % W)) [
+  | inl l ↦ ap (λ (t : Bool). cond t (s % W + 1) 0) (le-ltb (s % W) (W - 1) l) ∙ sym (mod-self W) ∙ ap (λ (n : ℕ). n % W) (last W (s % W) h l (mod-lt s h)) ∙ mod-add-mod s W 1
+  | inr l ↦ ap (λ (t : Bool). cond t (s % W + 1) 0) (lt-ltb (s % W) (W - 1) l) ∙ sym (mod-eq-of-lt (inside W (s % W) l)) ∙ mod-add-mod s W 1
 ]
   where
-    back : (s : ℕ) → 1125 ≤ s % 1126 → 0 ≡ (s + 1) % 1126
-    back s h = omega arith
+    last : (W r : ℕ) → 0 < W → W - 1 ≤ r → r < W → W ≡ r + 1
+    last W r h l k = omega arith
 
-    on : (s : ℕ) → s % 1126 < 1125 → s % 1126 + 1 ≡ (s + 1) % 1126
-    on s h = omega arith
+    inside : (W r : ℕ) → r < W - 1 → r + 1 < W
+    inside W r l = omega arith
+
+pub next-ring : (sps s : ℕ) → 0 < ringPlaces sps → nextPlace sps (s % ringPlaces sps) ≡ (s + 1) % ringPlaces sps
+unfolding nextPlace
+next-ring sps s h = step (ringPlaces sps) s h
+
+pub next-at-four : (s : ℕ) → nextPlace four (s % 1126) ≡ (s + 1) % 1126
+next-at-four s = next-ring four s (lit≤ tt)
 
 pub length-kept : (sps : ℕ) (m : List Float) (place : ℕ) (zs : List Sample) → length (addedFrom sps m place zs) ≡ length m
 unfolding addedFrom

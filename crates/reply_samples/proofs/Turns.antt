@@ -1,17 +1,19 @@
 -- One turn of the loop that adds a wave's samples, its beginning and its two ends; and what the functions that it calls give. Assumes nothing.
-use Prim.Native.Nat.{ℕ, zero, suc, _+_, _-_, _*_, _%_, _^_, _<_, _≤_}
-use native.Mathlib.Nat.{mod-eq-of-lt, sub-zero, zero-add, add-zero}
+use Prim.Native.Nat.{ℕ, zero, suc, _+_, _-_, _*_, _^_, _<_, _≤_}
+use native.Mathlib.Nat.{mod-eq-of-lt, sub-zero, zero-add}
 use native.Mathlib.Omega.{arith}
 use mathlib.Core.Path.{_≡_, refl, sym, ap, _∙_}
 use mathlib.Core.Bool.{Bool, true, false, cond}
 use mathlib.Core.List.{List, [], _∷_}
 use borrow.Author.Tests.{lt-ltb, le-ltb}
-use lib.Dec.{ltb}
 use lib.ListN.{length, getD, set, length-set}
 use lib.Seq.{getD-set-other}
-use lib.Ieee.{Float, nan, binary32, binary64, add, le}
+use lib.Ieee.{Float, nan, binary32, binary64, add, mul, le}
 use Rattle.constants.specs.Rate.{four}
+use Rattle.float_bits.specs.Narrow.{narrow}
+use Rattle.math.specs.declared.SinCos.{SinCos}
 use Rattle.math.specs.Phase.{phaseWrapOnce}
+use Rattle.math.specs.Carrier.{sinCos}
 use Rattle.filterbank.specs.declared.Clock.{Clock}
 use Rattle.filterbank.specs.Clocked.{one, advance, settle, in64}
 use Rattle.filterbank.specs.Apply.{clockCount, clockValues, limitOf}
@@ -33,6 +35,15 @@ next-first p h = sym (ap (λ (t : Bool). cond t (p + 1) 0) (le-ltb p 1125 h))
 pub limit-some : (n : ℕ) → (n ≡ 0 → ⊥) → n + 6 ≡ limitOf n
 limit-some zero h = absurd (h refl)
 limit-some (suc n) h = refl
+
+abbrev sampleOf : Float → Float → Sample
+sampleOf a b = record { re = a; im = b }
+
+pub sample-is : (amplitude value phase co si : Float) (t : SinCos) → t ≡ sinCos phase → co ≡ narrow (t .cos) → si ≡ narrow (t .sin) → sampleOf (mul binary32 (mul binary32 amplitude value) co) (mul binary32 (mul binary32 amplitude value) si) ≡ sampleAt amplitude value phase
+unfolding sampleAt
+sample-is amplitude value phase co si t e f g =
+    ap (λ (k : Float). sampleOf (mul binary32 (mul binary32 amplitude value) k) (mul binary32 (mul binary32 amplitude value) si)) (f ∙ ap (λ (u : SinCos). narrow (u .cos)) e)
+    ∙ ap (λ (k : Float). sampleOf (mul binary32 (mul binary32 amplitude value) (narrow (sinCos phase .cos))) (mul binary32 (mul binary32 amplitude value) k)) (g ∙ ap (λ (u : SinCos). narrow (u .sin)) e)
 
 -- a store at one place leaves the next as it was, so both parts are added to what stood there
 pub two-writes : (m m1 m2 : List Float) (p : ℕ) (z : Sample) → m1 ≡ set m (2 * p) (add binary32 (getD m (2 * p) nan) (z .re)) → m2 ≡ set m1 (2 * p + 1) (add binary32 (getD m1 (2 * p + 1) nan) (z .im)) → m2 ≡ addedAt m p z

@@ -1,6 +1,5 @@
 -- The samples that a reply adds, from its first one on: `MessageConfig::samples` of the Rust, which knows not where they are added. Their number is a definition apart from their values. Definitions only.
 use Prim.Native.Nat.{ℕ}
-use mathlib.Core.Bool.{Bool}
 use mathlib.Core.List.{List, [], _∷_}
 use lib.ListN.{length}
 use lib.Ieee.{Float, binary32, binary64, add, mul}

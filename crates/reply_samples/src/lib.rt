@@ -1,13 +1,12 @@
 // A reply's pulses and samples, after `message_to_pulses` and `MessageConfig::samples` of simulation.rs, and their addition into working memory that is used as a ring.
 // Each function is equal to a definition of specs/ on every input. Assumes nothing.
 ghost use mathlib.Core.Path.{_≡_};
-ghost use Prim.Native.Nat.{_≤_, _<_, _+_, _*_};
+ghost use Prim.Native.Nat.{_≤_, _<_};
 ghost use lib.ListN.{length, getD, set};
 ghost use lib.Ieee.{binary32, nan, add};
 ghost use Rattle.constants.specs.Rate.{four};
-ghost use Rattle.filterbank.specs.PulseSum.{late};
-ghost use Rattle.filterbank.specs.Apply.{limitOf, fuelOf, clockCount};
-ghost use Rattle.reply_samples.specs.ReplyPulses.{dataOf, spiOf, pulsesOf, placesOf, numSamplesOf};
+ghost use Rattle.filterbank.specs.Apply.{limitOf};
+ghost use Rattle.reply_samples.specs.ReplyPulses.{dataOf, spiOf, pulsesOf, numSamplesOf};
 ghost use Rattle.reply_samples.specs.Samples.{sampleAt, samplesBy, replyCount, replySamples};
 ghost use Rattle.reply_samples.specs.Added.{addedAt, nextPlace, addedFrom, addedReply, addedCount};
 ghost use Rattle.reply_samples.specs.Mirror.{isModeAC, lateValue, waveOf, waveSamples, waveCount};
@@ -128,7 +127,7 @@ fn value_at(prototype: &[f32], laid: &[bool; 252], clock: Clock) -> f32
 }
 
 // A reply's clock and carrier at its first sample, and how they go on.
-pub struct Wave {
+struct Wave {
     pub clock: Clock,
     pub step: f64,
     pub phase: f64,

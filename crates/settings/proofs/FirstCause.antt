@@ -1,15 +1,13 @@
 -- Refusals 1 to 4 are each given for their cause only, and for the first cause in document 01's order: the answer to settings is one that `Answered` allows (`answered`), and no other (`only`).
--- So settings with no cause are accepted (`accepted`), and settings with a cause are not. Assumes nothing.
-use Prim.Native.Nat.{ℕ, _+_, _≤_, _<_}
+-- So settings with no cause are accepted, and settings with a cause are refused. Assumes nothing.
+use Prim.Native.Nat.{ℕ, _≤_, _<_}
 use mathlib.Core.Path.{_≡_, refl, sym, ap, _∙_, subst}
 use mathlib.Core.Bool.{Bool, true, false, cond}
-use mathlib.Core.List.{List}
 use native.Mathlib.Nat.{zero-add}
 use native.Mathlib.Omega.{arith}
 use lib.Dec.{leb, ltb}
-use lib.Ieee.{Float}
 use borrow.Author.Tests.{ltb-false}
-use Rattle.distributions.specs.Asked.{carrierOffset, carrierPhase, clockError}
+use Rattle.distributions.specs.Asked.{finiteNotNegative, carrierOffset, carrierPhase, clockError}
 use Rattle.distributions.specs.declared.CarrierOffset.{CarrierOffset}
 use Rattle.distributions.specs.declared.CarrierPhase.{CarrierPhase}
 use Rattle.distributions.specs.declared.OffsetAnswer as Offset
@@ -26,15 +24,18 @@ use Rattle.settings.specs.declared.Checked.the-variants.{Accepted, Refus
 use Rattle.settings.specs.Settings.{ratesOf, rateOf}
 use Rattle.settings.specs.Accepted.{firstBadRate, totalOf, totalFits, withClock, withPhase, withOffset, distributionsOf, totalThen, ratesThen, durationThen, acceptedOf}
 use Rattle.settings.proofs.Decided.{duration-refused, duration-passes, rate-refused, total-refused, rates-pass, offset-refused, phase-refused, clock-refused, all-accepted}
-use Rattle.settings.proofs.Rates.{good, Found, found, finds-none, finds}
+use Rattle.settings.proofs.Rates.{Found, found, finds-none, finds}
 
 -- the run has n samples
 abbrev pub Lasts : ℕ → Settings → ℕ → Type 0
 Lasts sps s n = durationOf sps (s .seconds) (s .nanoseconds) ≡ samples n
 
--- the first k rates are finite and not negative
+-- whether rate i is finite and not negative, and that the first k are
+abbrev pub goodRate : Settings → ℕ → Bool
+goodRate s i = finiteNotNegative (rateOf (s .rates) i)
+
 abbrev pub GoodRates : Settings → ℕ → Type 0
-GoodRates s k = (i : ℕ) → i < k → good (ratesOf (s .rates)) i ≡ true
+GoodRates s k = (i : ℕ) → i < k → goodRate s i ≡ true
 
 -- whether the rates' total is above 0 and finite
 abbrev pub goodTotal : Settings → Bool
@@ -46,10 +47,10 @@ pub record Passed (sps : ℕ) (s : Settings) (n : ℕ) : Type 0 where
   pub rates : GoodRates s 7
   pub total : goodTotal s ≡ true
 
--- which answer is right
+-- which answer to settings is right: each refusal for its cause, where no earlier one applies, and acceptance where none does
 pub data Answered (sps : ℕ) (s : Settings) : Checked → Type 0 where
   refused-1 : durationOf sps (s .seconds) (s .nanoseconds) ≡ refusal 1 → Answered sps s (Refused Refusal.Duration)
-  refused-2 : {k n : ℕ} → Lasts sps s n → k < 7 → GoodRates s k → good (ratesOf (s .rates)) k ≡ false → Answered sps s (Refused (Refusal.Rate k))
+  refused-2 : {k n : ℕ} → Lasts sps s n → k < 7 → GoodRates s k → goodRate s k ≡ false → Answered sps s (Refused (Refusal.Rate k))
   refused-3 : {n : ℕ} → Lasts sps s n → GoodRates s 7 → goodTotal s ≡ false → Answered sps s (Refused Refusal.Total)
   refused-4-0 : {n : ℕ} → Passed sps s n → carrierOffset sps (s .carrier) ≡ Offset.the-variants.Refused → Answered sps s (Refused (Refusal.Distribution 0))
   refused-4-1 : {n : ℕ} {o : CarrierOffset} → Passed sps s n → carrierOffset sps (s .carrier) ≡ Offset.the-variants.Accepted o
@@ -70,15 +71,15 @@ number-1 sps a b k = go (leb 1000000000 b) (ltb mostSamples (samplesOf sps a b))
     go false true m e = cc
     go false false m e = cc
 
--- and accepted with at most 2^52 samples
-pub at-most : (sps a b n : ℕ) → durationOf sps a b ≡ samples n → n ≤ mostSamples
+-- and accepted with the samples that it has, at most 2^52
+pub lasts-for : (sps a b n : ℕ) → durationOf sps a b ≡ samples n → (n ≡ samplesOf sps a b) × (n ≤ mostSamples)
 unfolding durationOf
-at-most sps a b n = go (leb 1000000000 b) (ltb mostSamples (samplesOf sps a b)) (samplesOf sps a b) refl
+lasts-for sps a b n = go (leb 1000000000 b) (ltb mostSamples (samplesOf sps a b)) (samplesOf sps a b) refl
   where
-    go : (x y : Bool) (m : ℕ) → ltb mostSamples m ≡ y → pick x (refusal 1) (pick y (refusal 1) (samples m)) ≡ samples n → n ≤ mostSamples
+    go : (x y : Bool) (m : ℕ) → ltb mostSamples m ≡ y → pick x (refusal 1) (pick y (refusal 1) (samples m)) ≡ samples n → (n ≡ m) × (n ≤ mostSamples)
     go true y m t e = let z : _≡_ {A = ℕ} 0 1 = cc in absurd (omega arith)
     go false true m t e = let z : _≡_ {A = ℕ} 0 1 = cc in absurd (omega arith)
-    go false false m t e = let f : n ≡ m = cc in omega (arith, ltb-false mostSamples m t)
+    go false false m t e = let f : n ≡ m = cc in (f, omega (arith, ltb-false mostSamples m t))
 
 module _ (sps : ℕ) (s : Settings) where
   by-clock : (n : ℕ) (o : CarrierOffset) (p : CarrierPhase) → Passed sps s n → carrierOffset sps (s .carrier) ≡ Offset.the-variants.Accepted o
@@ -104,7 +105,7 @@ module _ (sps : ℕ) (s : Settings) where
   by-total n l g false e = refused-3 l g e
 
   by-rates : (n : ℕ) → Lasts sps s n → (b : BadRate) → Found 0 (ratesOf (s .rates)) b → Answered sps s (totalThen sps n s b)
-  unfolding totalThen ratesOf
+  unfolding totalThen ratesOf rateOf
   by-rates n l Nowhere g = by-total n l g (goodTotal s) refl
   by-rates n l (At j) (i, e, h, g, bad) = subst (λ (k : ℕ). Answered sps s (Refused (Refusal.Rate k))) (sym (e ∙ zero-add i)) (refused-2 l h g bad)
 
@@ -119,11 +120,11 @@ module _ (sps : ℕ) (s : Settings) where
 
   -- ---- and the first
   passes : (n : ℕ) → Passed sps s n → acceptedOf sps s ≡ distributionsOf sps n s
-  unfolding ratesOf
+  unfolding ratesOf rateOf
   passes n P = duration-passes sps s n (P .lasts) ∙ rates-pass sps n s (finds-none 0 (ratesOf (s .rates)) (P .rates)) (P .total)
 
   pub only : (c : Checked) → Answered sps s c → acceptedOf sps s ≡ c
-  unfolding ratesOf
+  unfolding ratesOf rateOf
   only c (refused-1 e) = duration-refused sps s 1 e
   only c (refused-2 {k} {n} l h g bad) = duration-passes sps s n l ∙ rate-refused sps n s k (finds 0 (ratesOf (s .rates)) k h g bad ∙ ap At (zero-add k))
   only c (refused-3 {n} l g e) = duration-passes sps s n l ∙ total-refused sps n s (finds-none 0 (ratesOf (s .rates)) g) e
@@ -131,3 +132,10 @@ module _ (sps : ℕ) (s : Settings) where
   only c (refused-4-1 {n} {o} P f e) = passes n P ∙ phase-refused sps n s o f e
   only c (refused-4-2 {n} {o} {p} P f g e) = passes n P ∙ clock-refused sps n s o f p g e
   only c (accepted {n} {d} P f g e) = passes n P ∙ all-accepted sps n s (d .carrier) f (d .phase) g (d .clock) e
+
+-- ---- what acceptance tells
+pub accepted-passes : (sps : ℕ) (s : Settings) (n : ℕ) (d : Distributions) → acceptedOf sps s ≡ Accepted n d → Passed sps s n
+accepted-passes sps s n d e = go (subst (Answered sps s) e (answered sps s))
+  where
+    go : Answered sps s (Accepted n d) → Passed sps s n
+    go (accepted P f g h) = P

@@ -1,6 +1,6 @@
 -- Accepted settings give at most 2^52 samples and distributions in document 01's ranges (`accepted-in-range`); a constant phase, wrapped, lies from -PI to PI. Assumes nothing.
 use Prim.Native.Nat.{ℕ, zero, suc, _≤_}
-use mathlib.Core.Path.{_≡_, refl, sym, ap, _∙_, subst}
+use mathlib.Core.Path.{_≡_, refl, sym, subst}
 use mathlib.Core.Bool.{Bool, true, false, _&&_, cond}
 use mathlib.Core.List.{List}
 use native.Mathlib.Omega.{arith}
@@ -18,17 +18,16 @@ use Rattle.distributions.specs.declared.Asked.{Asked}
 use Rattle.distributions.specs.declared.CarrierOffset as Offset
 use Rattle.distributions.specs.declared.CarrierPhase as Phase
 use Rattle.distributions.specs.declared.ClockError as Clock
-use Rattle.distributions.specs.declared.OffsetAnswer as OffsetAnswer
-use Rattle.distributions.specs.declared.PhaseAnswer as PhaseAnswer
-use Rattle.distributions.specs.declared.ClockAnswer as ClockAnswer
+use Rattle.distributions.specs.declared.OffsetAnswer.the-variants as OffsetAnswer
+use Rattle.distributions.specs.declared.PhaseAnswer.the-variants as PhaseAnswer
+use Rattle.distributions.specs.declared.ClockAnswer.the-variants as ClockAnswer
 use Rattle.duration.specs.Duration.{mostSamples}
 use Rattle.settings.specs.declared.Settings.{Settings}
 use Rattle.settings.specs.declared.Distributions.{Distributions}
-use Rattle.settings.specs.declared.Checked.{Checked}
 use Rattle.settings.specs.declared.Checked.the-variants.{Accepted, Refused}
 use Rattle.settings.specs.Settings.{f64At, askedAt, settingsOf}
 use Rattle.settings.specs.Accepted.{acceptedOf}
-use Rattle.settings.proofs.FirstCause.{Passed, Answered, accepted, answered, at-most}
+use Rattle.settings.proofs.FirstCause.{Answered, accepted, answered, lasts-for}
 
 -- x is a value of `f64`
 abbrev pub Held : Float → Type 0
@@ -77,77 +76,56 @@ split true true e = (tt, tt)
 split true false e = let z : _≡_ {A = ℕ} 0 1 = cc in absurd (omega arith)
 split false b e = let z : _≡_ {A = ℕ} 0 1 = cc in absurd (omega arith)
 
-module _ (sps : ℕ) (x : Float) (H : Held x) where
-  constant-offset : (b : Bool) → within x (offsetLimit sps) ≡ b → (o : Offset.CarrierOffset)
-      → cond b (OffsetAnswer.the-variants.Accepted (Offset.the-variants.Constant x)) OffsetAnswer.the-variants.Refused ≡ OffsetAnswer.the-variants.Accepted o → OffsetInRange sps o
-  constant-offset true t o e = let f : Offset.the-variants.Constant x ≡ o = cc in subst (OffsetInRange sps) f (H, subst T (sym t) tt)
-  constant-offset false t o e = let z : _≡_ {A = ℕ} 0 1 = cc in absurd (omega arith)
+-- what is accepted has the property P, if what passes each kind's test has it
+module _ {A D : Type 0} (accept : D → A) (refuse : A) (same : (d o : D) → accept d ≡ accept o → d ≡ o) (never : (o : D) → refuse ≡ accept o → ⊥) (P : D → Type 0) (o : D) where
+  tested : (b : Bool) (d : D) → (b ≡ true → P d) → cond b (accept d) refuse ≡ accept o → P o
+  tested true d p e = subst P (same d o e) (p refl)
+  tested false d p e = absurd (never o e)
 
-  normal-offset : (y : Float) → Held y → (b : Bool) → finiteNotNegative x && upTo y (offsetLimit sps) ≡ b → (o : Offset.CarrierOffset)
-      → cond b (OffsetAnswer.the-variants.Accepted (Offset.the-variants.ClampedNormal x y)) OffsetAnswer.the-variants.Refused ≡ OffsetAnswer.the-variants.Accepted o → OffsetInRange sps o
-  normal-offset y K true t o e =
-      let f : Offset.the-variants.ClampedNormal x y ≡ o = cc in
-      let both = split (finiteNotNegative x) (upTo y (offsetLimit sps)) t in
-      subst (OffsetInRange sps) f (H, K, both .0, both .1)
-  normal-offset y K false t o e = let z : _≡_ {A = ℕ} 0 1 = cc in absurd (omega arith)
+  of-kind : (k : ℕ) (a b : A) → (a ≡ accept o → P o) → (b ≡ accept o → P o) → byKind k a b refuse ≡ accept o → P o
+  unfolding byKind
+  of-kind zero a b p q e = p e
+  of-kind (suc zero) a b p q e = q e
+  of-kind (suc (suc k)) a b p q e = absurd (never o e)
 
-pub offset-in-range : (sps : ℕ) (a : Asked) → HeldAsked a → (o : Offset.CarrierOffset) → carrierOffset sps a ≡ OffsetAnswer.the-variants.Accepted o → OffsetInRange sps o
-unfolding carrierOffset clampedNormal byKind
-offset-in-range sps a H o = go (a .kind)
-  where
-    go : (k : ℕ)
-        → byKind k (cond (within (a .first) (offsetLimit sps)) (OffsetAnswer.the-variants.Accepted (Offset.the-variants.Constant (a .first))) OffsetAnswer.the-variants.Refused)
-        (clampedNormal sps (a .first) (a .second))
-        OffsetAnswer.the-variants.Refused
-        ≡ OffsetAnswer.the-variants.Accepted o
-        → OffsetInRange sps o
-    go zero e = constant-offset sps (a .first) (H .0) (within (a .first) (offsetLimit sps)) refl o e
-    go (suc zero) e = normal-offset sps (a .first) (H .0) (a .second) (H .1) (finiteNotNegative (a .first) && upTo (a .second) (offsetLimit sps)) refl o e
-    go (suc (suc k)) e = let z : _≡_ {A = ℕ} 0 1 = cc in absurd (omega arith)
+offset-same : (d o : Offset.CarrierOffset) → OffsetAnswer.Accepted d ≡ OffsetAnswer.Accepted o → d ≡ o
+offset-same d o e = cc
 
-pub phase-in-range : (a : Asked) → HeldAsked a → (p : Phase.CarrierPhase) → carrierPhase a ≡ PhaseAnswer.the-variants.Accepted p → PhaseInRange p
-unfolding carrierPhase byKind
-phase-in-range a H p = go (a .kind)
-  where
-    constant : (b : Bool) → finite (a .first) ≡ b
-        → cond b (PhaseAnswer.the-variants.Accepted (Phase.the-variants.Constant (phaseWrap (a .first)))) PhaseAnswer.the-variants.Refused ≡ PhaseAnswer.the-variants.Accepted p
-        → PhaseInRange p
-    constant true t e = let f : Phase.the-variants.Constant (phaseWrap (a .first)) ≡ p = cc in subst PhaseInRange f (wrapped (a .first) (H .0) (subst T (sym t) tt))
-    constant false t e = let z : _≡_ {A = ℕ} 0 1 = cc in absurd (omega arith)
+offset-never : (o : Offset.CarrierOffset) → OffsetAnswer.Refused ≡ OffsetAnswer.Accepted o → ⊥
+offset-never o e = let z : _≡_ {A = ℕ} 0 1 = cc in omega arith
 
-    go : (k : ℕ)
-        → byKind k (cond (finite (a .first)) (PhaseAnswer.the-variants.Accepted (Phase.the-variants.Constant (phaseWrap (a .first)))) PhaseAnswer.the-variants.Refused)
-        (PhaseAnswer.the-variants.Accepted Phase.the-variants.Uniform)
-        PhaseAnswer.the-variants.Refused
-        ≡ PhaseAnswer.the-variants.Accepted p
-        → PhaseInRange p
-    go zero e = constant (finite (a .first)) refl e
-    go (suc zero) e = let f : Phase.the-variants.Uniform ≡ p = cc in subst PhaseInRange f tt
-    go (suc (suc k)) e = let z : _≡_ {A = ℕ} 0 1 = cc in absurd (omega arith)
+pub offset-in-range : (sps : ℕ) (a : Asked) → HeldAsked a → (o : Offset.CarrierOffset) → carrierOffset sps a ≡ OffsetAnswer.Accepted o → OffsetInRange sps o
+unfolding carrierOffset clampedNormal
+offset-in-range sps a H o =
+    of-kind OffsetAnswer.Accepted OffsetAnswer.Refused offset-same offset-never (OffsetInRange sps) o (a .kind) _ _
+    (tested OffsetAnswer.Accepted OffsetAnswer.Refused offset-same offset-never (OffsetInRange sps) o (within (a .first) (offsetLimit sps)) (Offset.the-variants.Constant (a .first)) (λ t. (H .0, subst T (sym t) tt)))
+    (tested OffsetAnswer.Accepted OffsetAnswer.Refused offset-same offset-never (OffsetInRange sps) o (finiteNotNegative (a .first) && upTo (a .second) (offsetLimit sps)) (Offset.the-variants.ClampedNormal (a .first) (a .second)) (λ t. let both = split (finiteNotNegative (a .first)) (upTo (a .second) (offsetLimit sps)) t in (H .0, H .1, both .0, both .1)))
 
-pub clock-in-range : (a : Asked) → HeldAsked a → (c : Clock.ClockError) → clockError a ≡ ClockAnswer.the-variants.Accepted c → ClockInRange c
-unfolding clockError byKind
-clock-in-range a H c = go (a .kind)
-  where
-    constant : (b : Bool) → within (a .first) tenth ≡ b
-        → cond b (ClockAnswer.the-variants.Accepted (Clock.the-variants.Constant (a .first))) ClockAnswer.the-variants.Refused ≡ ClockAnswer.the-variants.Accepted c → ClockInRange c
-    constant true t e = let f : Clock.the-variants.Constant (a .first) ≡ c = cc in subst ClockInRange f (H .0, subst T (sym t) tt)
-    constant false t e = let z : _≡_ {A = ℕ} 0 1 = cc in absurd (omega arith)
+phase-same : (d o : Phase.CarrierPhase) → PhaseAnswer.Accepted d ≡ PhaseAnswer.Accepted o → d ≡ o
+phase-same d o e = cc
 
-    uniform : (b : Bool) → upTo (a .first) tenth ≡ b
-        → cond b (ClockAnswer.the-variants.Accepted (Clock.the-variants.Uniform (a .first))) ClockAnswer.the-variants.Refused ≡ ClockAnswer.the-variants.Accepted c → ClockInRange c
-    uniform true t e = let f : Clock.the-variants.Uniform (a .first) ≡ c = cc in subst ClockInRange f (H .0, subst T (sym t) tt)
-    uniform false t e = let z : _≡_ {A = ℕ} 0 1 = cc in absurd (omega arith)
+phase-never : (o : Phase.CarrierPhase) → PhaseAnswer.Refused ≡ PhaseAnswer.Accepted o → ⊥
+phase-never o e = let z : _≡_ {A = ℕ} 0 1 = cc in omega arith
 
-    go : (k : ℕ)
-        → byKind k (cond (within (a .first) tenth) (ClockAnswer.the-variants.Accepted (Clock.the-variants.Constant (a .first))) ClockAnswer.the-variants.Refused)
-        (cond (upTo (a .first) tenth) (ClockAnswer.the-variants.Accepted (Clock.the-variants.Uniform (a .first))) ClockAnswer.the-variants.Refused)
-        ClockAnswer.the-variants.Refused
-        ≡ ClockAnswer.the-variants.Accepted c
-        → ClockInRange c
-    go zero e = constant (within (a .first) tenth) refl e
-    go (suc zero) e = uniform (upTo (a .first) tenth) refl e
-    go (suc (suc k)) e = let z : _≡_ {A = ℕ} 0 1 = cc in absurd (omega arith)
+pub phase-in-range : (a : Asked) → HeldAsked a → (p : Phase.CarrierPhase) → carrierPhase a ≡ PhaseAnswer.Accepted p → PhaseInRange p
+unfolding carrierPhase
+phase-in-range a H p =
+    of-kind PhaseAnswer.Accepted PhaseAnswer.Refused phase-same phase-never PhaseInRange p (a .kind) _ _
+    (tested PhaseAnswer.Accepted PhaseAnswer.Refused phase-same phase-never PhaseInRange p (finite (a .first)) (Phase.the-variants.Constant (phaseWrap (a .first))) (λ t. wrapped (a .first) (H .0) (subst T (sym t) tt)))
+    (tested PhaseAnswer.Accepted PhaseAnswer.Refused phase-same phase-never PhaseInRange p true Phase.the-variants.Uniform (λ t. tt))
+
+clock-same : (d o : Clock.ClockError) → ClockAnswer.Accepted d ≡ ClockAnswer.Accepted o → d ≡ o
+clock-same d o e = cc
+
+clock-never : (o : Clock.ClockError) → ClockAnswer.Refused ≡ ClockAnswer.Accepted o → ⊥
+clock-never o e = let z : _≡_ {A = ℕ} 0 1 = cc in omega arith
+
+pub clock-in-range : (a : Asked) → HeldAsked a → (c : Clock.ClockError) → clockError a ≡ ClockAnswer.Accepted c → ClockInRange c
+unfolding clockError
+clock-in-range a H c =
+    of-kind ClockAnswer.Accepted ClockAnswer.Refused clock-same clock-never ClockInRange c (a .kind) _ _
+    (tested ClockAnswer.Accepted ClockAnswer.Refused clock-same clock-never ClockInRange c (within (a .first) tenth) (Clock.the-variants.Constant (a .first)) (λ t. (H .0, subst T (sym t) tt)))
+    (tested ClockAnswer.Accepted ClockAnswer.Refused clock-same clock-never ClockInRange c (upTo (a .first) tenth) (Clock.the-variants.Uniform (a .first)) (λ t. (H .0, subst T (sym t) tt)))
 
 -- ---- all of them
 pub accepted-in-range : (sps : ℕ) (s : Settings) → HeldSettings s → (n : ℕ) (d : Distributions) → acceptedOf sps s ≡ Accepted n d → (n ≤ mostSamples) × InRange sps d
@@ -155,7 +133,7 @@ accepted-in-range sps s H n d e = go (subst (Answered sps s) e (answered sps s))
   where
     go : Answered sps s (Accepted n d) → (n ≤ mostSamples) × InRange sps d
     go (accepted P f g h) = (
-      at-most sps (s .seconds) (s .nanoseconds) n (P .lasts),
+      lasts-for sps (s .seconds) (s .nanoseconds) n (P .lasts) .1,
       record {
         carrier = offset-in-range sps (s .carrier) (H .carrier) (d .carrier) f;
         phase = phase-in-range (s .phase) (H .phase) (d .phase) g;

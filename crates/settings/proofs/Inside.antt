@@ -1,9 +1,9 @@
 -- A number whose bytes are all there is the one that they stand for. Assumes nothing.
 use Prim.Native.Nat.{ℕ, _+_, _≤_}
-use mathlib.Core.Path.{_≡_, refl, sym, ap, _∙_}
+use mathlib.Core.Path.{_≡_, refl, sym, ap}
 use mathlib.Core.List.{List}
 use lib.ListN.{length}
-use lib.Ieee.{Float, binary64, ofBits}
+use lib.Ieee.{binary64, ofBits}
 use borrow.Author.Tests.{le-leb}
 use Rattle.le_bytes.specs.LeBytes.{leAt, numberAt}
 use Rattle.le_bytes.proofs.Decided.{read-there}

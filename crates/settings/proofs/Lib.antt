@@ -3,3 +3,4 @@ pub mod Rates
 pub mod Decided
 pub mod FirstCause
 pub mod InRange
+pub mod Worked

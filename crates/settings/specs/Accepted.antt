@@ -1,21 +1,18 @@
 -- Document 01's refusals 1 to 4 of settings, in that order, or what is accepted: the run's samples and its distributions. Definitions only.
-use Prim.Native.Nat.{ℕ, zero, suc}
-use mathlib.Core.Bool.{Bool, true, false, not, _&&_, cond}
+use Prim.Native.Nat.{ℕ, suc}
+use mathlib.Core.Bool.{Bool, _&&_, cond}
 use mathlib.Core.List.{List, [], _∷_}
 use lib.Ieee.{Float, binary64, ofBits, add, lt}
 use lib.Ieee.Scale.{finite}
 use Rattle.distributions.specs.Asked.{finiteNotNegative, carrierOffset, carrierPhase, clockError}
 use Rattle.distributions.specs.declared.CarrierOffset.{CarrierOffset}
 use Rattle.distributions.specs.declared.CarrierPhase.{CarrierPhase}
-use Rattle.distributions.specs.declared.ClockError.{ClockError}
 use Rattle.distributions.specs.declared.OffsetAnswer as OffsetAnswer
 use Rattle.distributions.specs.declared.PhaseAnswer as PhaseAnswer
 use Rattle.distributions.specs.declared.ClockAnswer as ClockAnswer
 use Rattle.duration.specs.Duration.{Answer, samples, refusal, durationOf}
 use Rattle.refusals.specs.declared.Refusal as Refusal
 use Rattle.settings.specs.declared.Settings.{Settings}
-use Rattle.settings.specs.declared.MessagesPerSecond.{MessagesPerSecond}
-use Rattle.settings.specs.declared.Distributions.{Distributions}
 use Rattle.settings.specs.declared.BadRate as BadRate
 use Rattle.settings.specs.declared.Checked as Checked
 use Rattle.settings.specs.Settings.{ratesOf}

@@ -1,6 +1,6 @@
 -- `record::put` meets its contract. Assumes nothing.
 use borrow.Author.Needs.{needs}
-use mathlib.Core.Path.{sym, ap, _∙_}
+use mathlib.Core.Path.{sym, _∙_}
 use native.Mathlib.Omega.{arith}
 use Rattle.record.specs.Record.{floatBytes, otherBytes, recordBytes}
 use Rattle.record.proofs.Laid.{next, room, record-there, record-past}

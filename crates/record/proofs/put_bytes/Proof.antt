@@ -1,8 +1,7 @@
 -- `record::put_bytes` meets its contract: after k turns the first k bytes are laid. Assumes nothing.
 use borrow.Author.Needs.{needs}
-use Prim.Native.Nat.{ℕ, _+_, _-_, _≤_, _<_}
-use mathlib.Core.Path.{_≡_, sym, ap, _∙_}
-use mathlib.Core.List.{List}
+use Prim.Native.Nat.{_-_, _≤_}
+use mathlib.Core.Path.{_≡_, ap, _∙_}
 use lib.ListN.{length, take, length-set}
 use lib.Seq.{take-all}
 use Rattle.le_bytes.specs.LeBytes.{laid}

@@ -1,6 +1,5 @@
 -- `add_by` meets its contract. Assumes nothing.
 use borrow.Author.Needs.{needs}
-use native.Mathlib.Omega.{arith}
 use Rattle.reply_samples.proofs.Adding.{pulses-most, by-samples, by-count}
 use Rattle.reply_samples.proofs.add_by.Statement.{statement}
 use Rattle.reply_samples.proofs.add_by.Tie as tie

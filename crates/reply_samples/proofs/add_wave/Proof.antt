@@ -1,5 +1,5 @@
+-- `add_wave` meets its contract. The invariant: what is added and counted from here on comes to the whole. Assumes nothing.
 use borrow.Author.Needs.{needs}
-use native.Mathlib.Omega.{arith}
 use Prim.Native.Nat.{_≤_, _<_, _+_, _-_, _*_}
 use mathlib.Core.Path.{_≡_, _∙_, sym}
 use lib.ListN.{length}
@@ -10,14 +10,6 @@ use Rattle.reply_samples.specs.Mirror.{lateValue, waveSamples, waveCount
 use Rattle.reply_samples.proofs.Turns.{addedRest, start, start-count, again, again-count, stop, stop-count, full, full-count, counted}
 use Rattle.reply_samples.proofs.add_wave.Statement.{statement}
 use Rattle.reply_samples.proofs.add_wave.Tie as tie
-use Rattle.reply_samples.proofs.add_wave.Reads as reads
-use Rattle.reply_samples.proofs.add_wave.Lts as lts
-use Rattle.filterbank.proofs.advance.Reads as advance-reads
-use Rattle.math.proofs.phase_wrap_once_f64.Reads as phase-wrap-once-f64-reads
-use Rattle.reply_samples.proofs.add_at.Reads as add-at-reads
-use Rattle.reply_samples.proofs.next_place.Reads as next-place-reads
-use Rattle.reply_samples.proofs.sample_at.Reads as sample-at-reads
-use Rattle.reply_samples.proofs.value_at.Reads as value-at-reads
 
 abbrev Inv-loop : tie.InvT-loop
 Inv-loop prototype laid w memory₀ place fuel clock₀ phase₀ at₀ n₀ memory clock phase at n =
@@ -30,25 +22,20 @@ Inv-loop prototype laid w memory₀ place fuel clock₀ phase₀ at₀ n₀ memo
 abbrev μ-loop : tie.MeasureT-loop
 μ-loop prototype laid w memory₀ place fuel clock₀ phase₀ at₀ n₀ memory clock phase at n = fuel - n
 
--- src/lib.rt:159:16
 mul-fuel : tie.Need-mul-fuel Inv-loop μ-loop
 mul-fuel c = search needs
 
--- src/lib.rt:164:5
 loop-holds : tie.Need-loop-holds Inv-loop μ-loop
 loop-holds c =
     let a = c .before .before .before .before .args in
     (search needs, search needs, search needs, start (a .prototype .now) (a .laid .now) (a .w) (a .memory .now) (a .place), start-count (a .w))
 
--- src/lib.rt:166:20
 cast-result : tie.Need-cast-result Inv-loop μ-loop
 cast-result c = search needs
 
--- src/lib.rt:166:13
 same-length : tie.Need-same-length Inv-loop μ-loop
 same-length c = search needs
 
--- src/lib.rt:166:13
 returns : tie.Need-returns Inv-loop μ-loop
 returns c =
     let l = c .before .before .before .before .loop in
@@ -57,39 +44,30 @@ returns c =
     let f = 8 * w .limit - l .n in
     (sym (stop v (w .limit) (w .step) (w .amplitude) (w .rate) f (l .memory) (l .at) (l .clock) (l .phase) (c .if1 .taken)) ∙ l .inv .3, counted (l .n) _ (waveCount w) (stop-count v (w .limit) (w .step) (w .amplitude) (w .rate) f (l .clock) (c .if1 .taken)) (l .inv .4))
 
--- src/lib.rt:168:40
 value-at-requires : tie.Need-value-at-requires Inv-loop μ-loop
 value-at-requires c κs = search needs
 
--- src/lib.rt:168:13
 sample-at-requires : tie.Need-sample-at-requires Inv-loop μ-loop
 sample-at-requires c κs = search needs
 
--- src/lib.rt:169:9
 add-at-requires : tie.Need-add-at-requires Inv-loop μ-loop
 add-at-requires c κs = search needs
 
--- src/lib.rt:170:9
 phase-wrap-once-f64-requires : tie.Need-phase-wrap-once-f64-requires Inv-loop μ-loop
 phase-wrap-once-f64-requires c κs = search needs
 
--- src/lib.rt:171:9
 advance-requires : tie.Need-advance-requires Inv-loop μ-loop
 advance-requires c κs = search needs
 
--- src/lib.rt:172:9
 next-place-requires : tie.Need-next-place-requires Inv-loop μ-loop
 next-place-requires c κs = search needs
 
--- src/lib.rt:173:13
 add-n : tie.Need-add-n Inv-loop μ-loop
 add-n c = search needs
 
--- src/lib.rt:164:5
 loop-less : tie.Need-loop-less Inv-loop μ-loop
 loop-less c = search needs
 
--- src/lib.rt:164:5
 loop-again : tie.Need-loop-again Inv-loop μ-loop
 loop-again c =
     let i = c .before .before .before .before .before .before .before .before .before .before in
@@ -103,15 +81,12 @@ loop-again c =
     let count = again-count v (w .limit) (w .step) (w .amplitude) (w .rate) (8 * w .limit) (l .n) (l .clock) _ _ (t .loop-test .taken) (i .if1 .left) (c .before .before .before .before .before .before .before .before .before .before .before .before .before .before .before .before .before .before .before .pre .2) (c .before .advance .ensures) (l .inv .4) in
     (search needs, s .add-at .ensures .1, c .next-place .ensures .1, turned, count)
 
--- src/lib.rt:175:5
 cast-result-2 : tie.Need-cast-result-2 Inv-loop μ-loop
 cast-result-2 c = search needs
 
--- src/lib.rt:155:1
 same-length-2 : tie.Need-same-length-2 Inv-loop μ-loop
 same-length-2 c = search needs
 
--- src/lib.rt:155:1
 returns-2 : tie.Need-returns-2 Inv-loop μ-loop
 returns-2 c =
     let l = c .before .loop in

@@ -1,57 +1,40 @@
+-- `message_to_pulses` meets its contract. Assumes nothing.
 use borrow.Author.Needs.{needs}
-use native.Mathlib.Omega.{arith}
-use mathlib.Core.Path.{_≡_, _∙_}
+use mathlib.Core.Path.{_∙_}
 use Rattle.reply_samples.proofs.Places.{of-short, of-long, of-mode-ac}
 use Rattle.reply_samples.proofs.message_to_pulses.Statement.{statement}
 use Rattle.reply_samples.proofs.message_to_pulses.Tie as tie
-use Rattle.reply_samples.proofs.message_to_pulses.Reads as reads
-use Rattle.reply_samples.proofs.message_to_pulses.Lts as lts
-use Rattle.pulses.proofs.mode_ac_pulses.Reads as mode-ac-pulses-reads
-use Rattle.pulses.proofs.mode_s_pulses.Reads as mode-s-pulses-reads
-use Rattle.reply_samples.proofs.mode_ac_data.Reads as mode-ac-data-reads
-use Rattle.reply_samples.proofs.mode_ac_spi.Reads as mode-ac-spi-reads
 
--- src/lib.rt:46:29
 enum-told : tie.Need-enum-told
 enum-told c = search needs
 
--- src/lib.rt:46:29
 mode-s-pulses-requires : tie.Need-mode-s-pulses-requires
 mode-s-pulses-requires c κs = search needs
 
--- src/lib.rt:47:28
 enum-told-2 : tie.Need-enum-told-2
 enum-told-2 c = search needs
 
--- src/lib.rt:47:28
 mode-s-pulses-requires-2 : tie.Need-mode-s-pulses-requires-2
 mode-s-pulses-requires-2 c κs = search needs
 
--- src/lib.rt:48:53
 enum-told-3 : tie.Need-enum-told-3
 enum-told-3 c = search needs
 
--- src/lib.rt:48:53
 mode-ac-data-requires : tie.Need-mode-ac-data-requires
 mode-ac-data-requires c κs = search needs
 
--- src/lib.rt:48:70
 mode-ac-spi-requires : tie.Need-mode-ac-spi-requires
 mode-ac-spi-requires c κs = search needs
 
--- src/lib.rt:48:30
 mode-ac-pulses-requires : tie.Need-mode-ac-pulses-requires
 mode-ac-pulses-requires c κs = search needs
 
--- src/lib.rt:40:1
 returns : tie.Need-returns
 returns c = c .mode-s-pulses .ensures ∙ of-short (c .before .before .before .before .args .r) (c .before .enum-told .given .1)
 
--- src/lib.rt:40:1
 returns-2 : tie.Need-returns-2
 returns-2 c = c .mode-s-pulses2 .ensures ∙ of-long (c .before .before .before .before .args .r) (c .before .enum-told2 .given .1)
 
--- src/lib.rt:40:1
 returns-3 : tie.Need-returns-3
 returns-3 c = c .mode-ac-pulses .ensures ∙ of-mode-ac (c .before .before .before .before .before .before .args .r) _ _ (c .before .before .before .enum-told3 .given .1) (c .before .before .mode-ac-data .ensures) (c .before .mode-ac-spi .ensures)
 

@@ -1,20 +1,15 @@
+-- `next_place` meets its contract. Assumes nothing.
 use borrow.Author.Needs.{needs}
-use native.Mathlib.Omega.{arith}
 use Rattle.reply_samples.proofs.Turns.{next-on, next-first}
 use Rattle.reply_samples.proofs.next_place.Statement.{statement}
 use Rattle.reply_samples.proofs.next_place.Tie as tie
-use Rattle.reply_samples.proofs.next_place.Reads as reads
-use Rattle.reply_samples.proofs.next_place.Lts as lts
 
--- src/lib.rt:106:16
 add-result : tie.Need-add-result
 add-result c = search needs
 
--- src/lib.rt:106:9
 returns : tie.Need-returns
 returns c = (next-on (c .before .args .place) (c .if1 .taken), search needs)
 
--- src/lib.rt:102:1
 returns-2 : tie.Need-returns-2
 returns-2 c = (next-first (c .before .args .place) (c .if1 .left), search needs)
 

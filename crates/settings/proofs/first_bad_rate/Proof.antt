@@ -1,14 +1,12 @@
 -- `settings::first_bad_rate` meets its contract: what the search finds from here on is what it finds from the start. Assumes nothing.
 use borrow.Author.Needs.{needs}
-use Prim.Native.Nat.{ℕ, _+_, _-_, _≤_, _<_}
+use Prim.Native.Nat.{_-_, _≤_}
 use mathlib.Core.Path.{_≡_, sym, ap, _∙_}
-use mathlib.Core.Bool.{Bool, true, false, not}
-use native.Mathlib.Omega.{arith}
-use lib.ListN.{length, drop}
+use lib.ListN.{drop}
 use Rattle.distributions.specs.Asked.{finiteNotNegative}
 use Rattle.settings.specs.Settings.{ratesOf, rateOf}
 use Rattle.settings.specs.Accepted.{firstBadRate}
-use Rattle.settings.proofs.Rates.{good, goes-on, stops, ends, refuted, held}
+use Rattle.settings.proofs.Rates.{goes-on, stops, ends, refuted, held}
 use Rattle.settings.proofs.first_bad_rate.Statement.{statement}
 use Rattle.settings.proofs.first_bad_rate.Tie as tie
 
@@ -33,7 +31,7 @@ returns c =
     let l = c .before .before .before .before .loop in
     let r = c .before .before .before .before .before .args .rates in
     let bad = refuted _ (c .if1 .taken) in
-    sym (stops (ratesOf r) (l .k) (c .before .before .before .loop-test .taken) (ap finiteNotNegative (sym (c .before .before .rate-of .ensures)) ∙ sym (c .before .finite-not-negative .ensures) ∙ bad)) ∙ l .inv .1
+    sym (stops (ratesOf r) (l .k) (search needs) (ap finiteNotNegative (sym (c .before .before .rate-of .ensures)) ∙ sym (c .before .finite-not-negative .ensures) ∙ bad)) ∙ l .inv .1
 
 add-k : tie.Need-add-k Inv-loop μ-loop
 add-k c = search needs
@@ -48,7 +46,7 @@ loop-again c =
     let r = c .before .before .before .before .before .args .rates in
     let fine = held _ (c .if1 .left) in (
       search needs,
-      sym (goes-on (ratesOf r) (l .k) (c .before .before .before .loop-test .taken) (ap finiteNotNegative (sym (c .before .before .rate-of .ensures)) ∙ sym (c .before .finite-not-negative .ensures) ∙ fine)) ∙ l .inv .1,
+      sym (goes-on (ratesOf r) (l .k) (search needs) (ap finiteNotNegative (sym (c .before .before .rate-of .ensures)) ∙ sym (c .before .finite-not-negative .ensures) ∙ fine)) ∙ l .inv .1,
     )
 
 returns-2 : tie.Need-returns-2 Inv-loop μ-loop

@@ -1,7 +1,5 @@
 -- `settings::read` meets its contract. Assumes nothing.
 use borrow.Author.Needs.{needs}
-use lib.ListN.{length}
-use Prim.Native.Nat.{_+_, _≤_}
 use Rattle.settings.specs.Settings.{settingsOf}
 use Rattle.settings.proofs.Inside.{number-there}
 use Rattle.settings.proofs.read.Statement.{statement}

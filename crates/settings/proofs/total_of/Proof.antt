@@ -1,5 +1,4 @@
 -- `settings::total_of` meets its contract. Assumes nothing.
-use borrow.Author.Needs.{needs}
 use mathlib.Core.Path.{refl}
 use Rattle.settings.specs.Accepted.{totalOf, sumFrom}
 use Rattle.settings.specs.Settings.{ratesOf}

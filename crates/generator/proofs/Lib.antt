@@ -1,0 +1,5 @@
+pub mod ReplyBytes
+pub mod DrawInRange
+pub mod FiltersInRange
+pub mod RealDrawLaws
+pub mod RealDemand3

@@ -1,0 +1,72 @@
+-- Settings worked out from their bytes, computed: document 01's tape of 1 ms is accepted with 8,000 samples, and each of refusals 1 to 4 is met while all that comes after it is wrong too. Assumes nothing.
+use Prim.Native.Nat.{ℕ}
+use mathlib.Core.Path.{_≡_, refl}
+use mathlib.Core.List.{List, [], _∷_, _++_}
+use lib.Ieee.{binary64, ofBits, ofInt, add, lt, le, eq}
+use lib.Ieee.Scale.{finite}
+use Rattle.constants.specs.Rate.{four}
+use Rattle.float_bits.specs.Range.{abs, within}
+use Rattle.math.specs.Phase.{phaseWrap}
+use Rattle.le_bytes.specs.LeBytes.{bytesOf, leOf, leAt}
+use Rattle.distributions.specs.Asked.{finiteNotNegative, upTo, offsetLimit, tenth, byKind, clampedNormal, carrierOffset, carrierPhase, clockError}
+use Rattle.distributions.specs.declared.CarrierOffset.the-variants as Offset
+use Rattle.distributions.specs.declared.CarrierPhase.the-variants as Phase
+use Rattle.distributions.specs.declared.ClockError.the-variants as Clock
+use Rattle.duration.specs.Duration.{durationOf}
+use Rattle.refusals.specs.declared.Refusal.the-variants as Refusal
+use Rattle.settings.specs.declared.Checked.{Checked}
+use Rattle.settings.specs.declared.Checked.the-variants.{Accepted, Refused}
+use Rattle.settings.specs.Settings.{f64At, ratesAt, askedAt, settingsOf, ratesOf}
+use Rattle.settings.specs.Accepted.{firstBadRate, sumFrom, totalOf, totalFits, withClock, withPhase, withOffset, distributionsOf, totalThen, ratesThen, durationThen, acceptedOf}
+
+-- a rate of 1.0 and one of -1.0
+abbrev pub one : ℕ
+one = 0x3ff0_0000_0000_0000
+
+abbrev pub minus : ℕ
+minus = 0xbff0_0000_0000_0000
+
+-- a distribution of a kind whose numbers are 0
+abbrev pub asked : ℕ → List ℕ
+asked kind = (kind ∷ []) ++ bytesOf 8 0 ++ bytesOf 8 0
+
+-- what is answered to 0 s and so many nanoseconds, six rates and a seventh, and the kinds of the three distributions
+abbrev pub answer : ℕ → ℕ → ℕ → ℕ → ℕ → ℕ → Checked
+answer nanoseconds rate last carrier phase clock =
+    acceptedOf four
+    (settingsOf
+    (bytesOf 8 0
+    ++ bytesOf 4 nanoseconds
+    ++ bytesOf 8 rate
+    ++ bytesOf 8 rate
+    ++ bytesOf 8 rate
+    ++ bytesOf 8 rate
+    ++ bytesOf 8 rate
+    ++ bytesOf 8 rate
+    ++ bytesOf 8 last
+    ++ asked carrier
+    ++ asked phase
+    ++ asked clock))
+
+abbrev pub answers : List Checked
+answers =
+    answer 1000000 one one 0 0 0
+    ∷ answer 1000000000 minus minus 2 2 2
+    ∷ answer 999999999 one minus 2 2 2
+    ∷ answer 999999999 0 0 2 2 2
+    ∷ answer 999999999 0 one 2 2 2
+    ∷ answer 999999999 0 one 1 2 2
+    ∷ answer 999999999 0 one 1 1 2
+    ∷ []
+
+pub worked : answers
+    ≡ (Accepted 8000 (record { carrier = Offset.Constant (ofBits binary64 0); phase = Phase.Constant (phaseWrap (ofBits binary64 0)); clock = Clock.Constant (ofBits binary64 0) })
+    ∷ Refused Refusal.Duration
+    ∷ Refused (Refusal.Rate 6)
+    ∷ Refused Refusal.Total
+    ∷ Refused (Refusal.Distribution 0)
+    ∷ Refused (Refusal.Distribution 1)
+    ∷ Refused (Refusal.Distribution 2)
+    ∷ [])
+unfolding acceptedOf durationThen durationOf ratesThen totalThen firstBadRate finiteNotNegative totalFits totalOf sumFrom distributionsOf withOffset withPhase withClock carrierOffset carrierPhase clockError clampedNormal byKind upTo offsetLimit tenth within abs finite settingsOf ratesAt ratesOf askedAt f64At leAt leOf bytesOf ofBits ofInt add lt le eq
+worked = refl
