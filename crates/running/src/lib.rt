@@ -1,14 +1,23 @@
 // The turns of a run call: what is next, the samples that are due, a draw taken, a reply added and recorded. Each function is tied to the theory of lists of calls. Assumes nothing.
 ghost use mathlib.Core.Path.{_≡_};
-ghost use mathlib.Core.Bool.{true, false};
-ghost use Prim.Native.Nat.{_+_, _-_, _*_, _≤_, _<_, _^_, min};
+ghost use mathlib.Core.Bool.{false, cond};
+ghost use Prim.Native.Nat.{_+_, _-_, _*_, _%_, _≤_, _<_, _^_, min};
 ghost use lib.IntN.{pos};
-ghost use lib.ListN.{length};
-ghost use lib.Ieee.{lt};
+ghost use lib.ListN.{length, take, drop};
+ghost use lib.Ieee.{lt, nan};
+ghost use Rattle.constants.specs.Rate.{four};
 ghost use Rattle.call_lists.specs.PlainRun.{kindOf};
-ghost use Rattle.call_lists.proofs.Plans.{planEnded, planReply, planDraw, plan, batch, stopFor, someOr, dueMany};
+ghost use Rattle.call_lists.proofs.FlatLists.{laid};
+ghost use Rattle.call_lists.proofs.Plans.{planEnded, planReply, planDraw, stopFor, someOr, dueMany};
+ghost use Rattle.due_samples.specs.Due.{samplesOf, clearOf};
+ghost use Rattle.draw.specs.Draw.{drawAt};
+ghost use Rattle.draw.specs.Config.{configOf};
+ghost use Rattle.reply_samples.specs.Samples.{replySamples, replyCount};
+ghost use Rattle.reply_samples.specs.Added.{addedFrom};
+ghost use Rattle.record.specs.Record.{recordBytes};
 ghost use Rattle.generator.specs.Real.{startFrom};
-ghost use Rattle.running.specs.Turns.{counted, stopRead, planRead, isNegative};
+ghost use Rattle.running.specs.Plans.{counted, stopRead, planRead, isNegative, chosen};
+ghost use Rattle.running.specs.Turns.{Inside, wroteBy, tookBy, haltedBy, turnRead, restAfter, genOf, StepSays};
 use message_config::Delays;
 use settings::Distributions;
 use settings::MessagesPerSecond;
@@ -164,4 +173,184 @@ fn place(
         return Plan::End(time);
     }
     reply(written, time, first, room, noise, bytes)
+}
+
+// A call so far: what of the state moves, the counts, and how the call came here.
+pub struct Turn {
+    pub written: u64,
+    pub time: f64,
+    pub latest: f64,
+    pub ended: bool,
+    pub taken: usize,
+    pub samples: usize,
+    pub records: usize,
+    pub next: Next,
+}
+
+// Samples were written; a draw was taken; or the call stopped.
+pub enum Next {
+    Wrote,
+    Took,
+    Halted(Stop),
+}
+
+// What comes next, given how much is left of what is lent.
+fn choose(s: State, t: Turn, rest: &[u8], room: usize, noise: usize, bytes: usize) -> Plan
+    ensures { λ r. ⌜ planRead r ≡ chosen s t (now (rest .entry)) room noise bytes ⌝ }
+{
+    if t.ended {
+        return drain(t.written, s.total, room, noise);
+    }
+    if rest.len() < 65 {
+        return Plan::Halt(Stop::WantsDraws);
+    }
+    let time = draw::time_after(t.time, rest);
+    let all = s.distributions;
+    let delays = s.delays;
+    let start = draw::start_at(all, delays, time, rest);
+    place(t.written, s.total, time, start, room, noise, bytes)
+}
+
+// Writes so many samples that are due; with the latest time after them.
+fn write_samples(
+    t: Turn,
+    n: usize,
+    latest: f64,
+    memory: &mut [f32],
+    noise: &[f32],
+    output: &mut [f32],
+) -> Turn
+    requires { ⌜ (length (now memory) ≡ 2252) × (2 * (t .samples + n) ≤ length (now noise)) × (2 * (t .samples + n) ≤ length (now output)) × (t .written + n < 2 ^ 64) ⌝ }
+    ensures { λ r. ⌜ (r ≡ wroteBy t n latest) × (now (memory .exit) ≡ clearOf (now (memory .entry)) (t .written) n) × (now (output .exit) ≡ laid (2 * t .samples) (samplesOf (now (memory .entry)) (t .written) (take (2 * n) (drop (2 * t .samples) (now (noise .entry))))) (now (output .entry))) ⌝ }
+{
+    let at = 2 * t.samples;
+    due_samples::write_due(memory, noise, output, t.written, at, at, 2 * n);
+    Turn {
+        written: t.written + n as u64,
+        time: t.time,
+        latest: latest,
+        ended: t.ended,
+        taken: t.taken,
+        samples: t.samples + n,
+        records: t.records,
+        next: Next::Wrote,
+    }
+}
+
+fn later(a: f64, b: f64) -> f64
+    ensures { λ r. ⌜ r ≡ cond (lt a b) b a ⌝ }
+{
+    if a < b {
+        return b;
+    }
+    a
+}
+
+// The place of a sample in working memory.
+fn ring(n: u64) -> usize
+    ensures { λ r. ⌜ r ≡ n % 1126 ⌝ }
+{
+    (n % 1126) as usize
+}
+
+// Adds and records the reply of the draw at the start of the bytes.
+fn add(
+    s: State,
+    time: f64,
+    first: u64,
+    mode_s: &[f32],
+    mode_ac: &[f32],
+    memory: &mut [f32],
+    rest: &[u8],
+    records: &mut [u8],
+    at: usize,
+)
+    requires { ⌜ (length (now memory) ≡ 2252) × (at + 66 ≤ length (now records)) ⌝ }
+    ensures { λ _. ⌜ (now (memory .exit) ≡ addedFrom four (now (memory .entry)) (first % 1126) (replySamples four (now («mode_s» .entry)) (now («mode_ac» .entry)) (s .delays) (drawAt (now (rest .entry)) .amplitude) (configOf (s .distributions) time (drawAt (now (rest .entry)))))) × (now (records .exit) ≡ laid at (recordBytes (configOf (s .distributions) time (drawAt (now (rest .entry)))) first (drawAt (now (rest .entry)) .kind) (replyCount four (s .delays) (configOf (s .distributions) time (drawAt (now (rest .entry)))))) (now (records .entry))) ⌝ }
+{
+    let d = draw::read(rest);
+    let all = s.distributions;
+    let delays = s.delays;
+    let c = draw::config(all, time, d);
+    let count = reply_samples::add_reply(
+        mode_s,
+        mode_ac,
+        c,
+        d.amplitude,
+        delays,
+        memory,
+        ring(first),
+    );
+    record::put(records, at, c, first, d.kind, count);
+}
+
+// The turn after a draw was taken at its time, with so many records.
+fn took(t: Turn, time: f64, ended: bool, records: usize) -> Turn
+    requires { ⌜ t .taken + 1 < 2 ^ 64 ⌝ }
+    ensures { λ r. ⌜ r ≡ tookBy t time ended records ⌝ }
+{
+    Turn {
+        written: t.written,
+        time: time,
+        latest: t.latest,
+        ended: ended,
+        taken: t.taken + 1,
+        samples: t.samples,
+        records: records,
+        next: Next::Took,
+    }
+}
+
+fn halted(t: Turn, w: Stop) -> Turn
+    ensures { λ r. ⌜ r ≡ haltedBy t w ⌝ }
+{
+    Turn {
+        written: t.written,
+        time: t.time,
+        latest: t.latest,
+        ended: t.ended,
+        taken: t.taken,
+        samples: t.samples,
+        records: t.records,
+        next: Next::Halted(w),
+    }
+}
+
+// One turn: a stop, so many samples, or a draw.
+fn step(
+    s: State,
+    t: Turn,
+    mode_s: &[f32],
+    mode_ac: &[f32],
+    memory: &mut [f32],
+    rest: &[u8],
+    noise: &[f32],
+    output: &mut [f32],
+    records: &mut [u8],
+) -> Turn
+    requires { ⌜ (length (now memory) ≡ 2252) × (Inside t (length (now noise)) (length (now output)) (length (now records))) × (65 * t .taken + length (now rest) < 2 ^ 64) × (s .total < 2 ^ 64) ⌝ }
+    ensures { λ r. ⌜ StepSays (genOf s (now («mode_s» .entry)) (now («mode_ac» .entry))) (now (noise .entry)) nan (r .next) (turnRead s (now («mode_s» .entry)) (now («mode_ac» .entry)) t (now (memory .entry)) (now (rest .entry)) (now (output .entry)) (now (records .entry))) (turnRead s (now («mode_s» .entry)) (now («mode_ac» .entry)) r (now (memory .exit)) (restAfter (r .next) (now (rest .entry))) (now (output .exit)) (now (records .exit))) ⌝ }
+{
+    let p = choose(
+        s,
+        t,
+        rest,
+        output.len() - 2 * t.samples,
+        noise.len() - 2 * t.samples,
+        records.len() - 66 * t.records,
+    );
+    match p {
+        Plan::Halt(w) => halted(t, w),
+        Plan::Drain(n) => write_samples(t, n, t.latest, memory, noise, output),
+        Plan::Due(n, time) => {
+            write_samples(t, n, later(t.latest, time), memory, noise, output)
+        }
+        Plan::Skip(time) => took(t, time, t.ended, t.records),
+        Plan::End(time) => took(t, time, true, t.records),
+        Plan::Add(time, first) => {
+            let lines = t.records;
+            add(s, time, first, mode_s, mode_ac, memory, rest, records, 66 * lines);
+            took(t, time, t.ended, lines + 1)
+        }
+    }
 }

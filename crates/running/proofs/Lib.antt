@@ -1,0 +1,5 @@
+pub mod Signed
+pub mod Tests
+pub mod Adding
+pub mod Writing
+pub mod Said
