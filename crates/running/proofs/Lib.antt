@@ -3,3 +3,4 @@ pub mod Tests
 pub mod Adding
 pub mod Writing
 pub mod Said
+pub mod Going

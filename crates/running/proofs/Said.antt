@@ -73,7 +73,7 @@ module _ (s : State) (modeS modeAC noise : List Float) (t : Turn) (memory : List
     -- ---- a stop
     pub halt-says : (w : Stop.Stop) → q ≡ Plan.the-variants.Halt w → (r : Turn) → r ≡ haltedBy t w → Step r memory output records
     unfolding planRead haltedBy
-    halt-says w h r k = subst (λ (x : Turn). Step x memory output records) (sym k) (says (Plan.the-variants.Halt w) h)
+    halt-says w h r k = subst (λ (x : Turn). Step x memory output records) (sym k) (says (Plan.the-variants.Halt w) h, refl)
 
     -- ---- samples
     pub drain-says : (n : ℕ) → q ≡ Plan.the-variants.Drain n → Theory.Written G nan noise z n (t .latest)

@@ -71,4 +71,4 @@ module _ (G : Generator) (noise : List (G .Value)) (o : G .Value) where
   abbrev pub StepSays : Next.Next → Theory.Turn G o → Theory.Turn G o → Type 0
   StepSays Next.the-variants.Wrote z z′ = Went z z′ × (z′ .taken ≡ z .taken)
   StepSays Next.the-variants.Took z z′ = Went z z′ × (z′ .taken ≡ z .taken + 1) × (G .drawBytes ≤ length (z .rest))
-  StepSays (Next.the-variants.Halted w) z z′ = Theory.restOf G o noise z ≡ Theory.stopped G o z′ (stopRead w)
+  StepSays (Next.the-variants.Halted w) z z′ = (Theory.restOf G o noise z ≡ Theory.stopped G o z′ (stopRead w)) × (z′ .samples ≡ z .samples)

@@ -17,8 +17,10 @@ ghost use Rattle.reply_samples.specs.Added.{addedFrom};
 ghost use Rattle.record.specs.Record.{recordBytes};
 ghost use Rattle.generator.specs.Real.{startFrom};
 ghost use Rattle.running.specs.Plans.{counted, stopRead, planRead, isNegative, chosen};
+ghost use Rattle.running.specs.Ended.{firstBy, ranBy, callLeft};
 ghost use Rattle.running.specs.Turns.{Inside, wroteBy, tookBy, haltedBy, turnRead, restAfter, genOf, StepSays};
 use message_config::Delays;
+use refusals::Refusal;
 use settings::Distributions;
 use settings::MessagesPerSecond;
 
@@ -194,6 +196,26 @@ pub enum Next {
     Halted(Stop),
 }
 
+// Of one call: draws taken, samples written, noise values used, records written.
+pub struct Counts {
+    pub taken: usize,
+    pub samples: usize,
+    pub noise: usize,
+    pub records: usize,
+}
+
+pub enum Answer {
+    Stopped(Stop),
+    Refused(Refusal),
+}
+
+// What a run call answers: the state for the next call, the counts, and its stop or refusal.
+pub struct Ran {
+    pub state: State,
+    pub counts: Counts,
+    pub answer: Answer,
+}
+
 // What comes next, given how much is left of what is lent.
 fn choose(s: State, t: Turn, rest: &[u8], room: usize, noise: usize, bytes: usize) -> Plan
     ensures { λ r. ⌜ planRead r ≡ chosen s t (now (rest .entry)) room noise bytes ⌝ }
@@ -351,6 +373,82 @@ fn step(
             let lines = t.records;
             add(s, time, first, mode_s, mode_ac, memory, rest, records, 66 * lines);
             took(t, time, t.ended, lines + 1)
+        }
+    }
+}
+
+// The first turn of a call.
+fn first_turn(s: State) -> Turn
+    ensures { λ r. ⌜ r ≡ firstBy s ⌝ }
+{
+    Turn {
+        written: s.written,
+        time: s.time,
+        latest: s.latest,
+        ended: s.ended,
+        taken: 0,
+        samples: 0,
+        records: 0,
+        next: Next::Wrote,
+    }
+}
+
+// The answer at a stop.
+fn stopped_at(s: State, t: Turn, w: Stop) -> Ran
+    requires { ⌜ 2 * t .samples < 2 ^ 64 ⌝ }
+    ensures { λ r. ⌜ r ≡ ranBy s t w ⌝ }
+{
+    let rates = s.rates;
+    let delays = s.delays;
+    let all = s.distributions;
+    Ran {
+        state: State {
+            written: t.written,
+            total: s.total,
+            time: t.time,
+            latest: t.latest,
+            ended: t.ended,
+            rates: rates,
+            delays: delays,
+            distributions: all,
+        },
+        counts: Counts {
+            taken: t.taken,
+            samples: t.samples,
+            noise: 2 * t.samples,
+            records: t.records,
+        },
+        answer: Answer::Stopped(w),
+    }
+}
+
+// The turns of a call, until one stops it. The draw bytes that are not taken are handed on as a part.
+fn steps(
+    s: State,
+    mode_s: &[f32],
+    mode_ac: &[f32],
+    memory: &mut [f32],
+    draws: &[u8],
+    noise: &[f32],
+    output: &mut [f32],
+    records: &mut [u8],
+) -> Ran
+    requires { ⌜ length (now memory) ≡ 2252 ⌝ }
+    ensures { λ r. ⌜ record { ran = r; memory = now (memory .exit); output = now (output .exit); records = now (records .exit) } ≡ callLeft s (now («mode_s» .entry)) (now («mode_ac» .entry)) (now (memory .entry)) (now (draws .entry)) (now (noise .entry)) (now (output .entry)) (now (records .entry)) ⌝ }
+{
+    let mut t = first_turn(s);
+    let mut rest = draws;
+    loop {
+        t = step(s, t, mode_s, mode_ac, memory, rest, noise, output, records);
+        let next = t.next;
+        match next {
+            Next::Wrote => {}
+            Next::Took => {
+                rest = &rest[65..];
+            }
+            Next::Halted(w) => {
+                return stopped_at(s, t, w);
+            }
         }
     }
 }
