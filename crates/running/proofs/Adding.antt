@@ -1,0 +1,92 @@
+-- A reply added place by place is the theory's `put`, and its record the theory's `entry`. Assumes nothing.
+use mathlib.Core.Path.{_≡_, refl, sym, ap, _∙_, subst}
+use mathlib.Core.Bool.{Bool, true, cond}
+use mathlib.Core.List.{List, [], _∷_, map, append-assoc}
+use Prim.Native.Nat.{ℕ, suc, _+_, _%_, _≤_, _<_}
+use native.Mathlib.Nat.{mod-lt}
+use native.Mathlib.Numerals.{add-one}
+use native.Mathlib.Omega.{arith}
+use lib.Dec.{lit<}
+use lib.ListN.{length, take, drop, length-map}
+use lib.Ieee.{Float, nan}
+use borrow.Author.Tests.{le-leb, eq-eqb, lt-ltb}
+use Rattle.constants.specs.Rate.{four}
+use Rattle.le_bytes.specs.LeBytes as LeBytes
+use Rattle.call_lists.specs.Generator.{Pair}
+use Rattle.call_lists.proofs.Machine.{put}
+use Rattle.call_lists.proofs.FlatLists.{laid}
+use Rattle.message.specs.Types.{typeNumbered}
+use Rattle.message_config.specs.declared.Delays.{Delays}
+use Rattle.message_config.specs.declared.MessageConfig.{MessageConfig}
+use Rattle.settings.specs.declared.Distributions.{Distributions}
+use Rattle.draw.specs.declared.Draw.{Draw}
+use Rattle.draw.specs.Config.{typeDrawn, configOf}
+use Rattle.record.specs.Record.{recordBytes, recordAt}
+use Rattle.record.proofs.RecordLength.{record-length}
+use Rattle.reply_samples.specs.declared.Sample.{Sample}
+use Rattle.reply_samples.specs.Samples.{replySamples, replyCount}
+use Rattle.reply_samples.specs.Added.{addedAt, nextPlace, addedFrom, isPlace, addedReply, addedCount}
+use Rattle.reply_samples.proofs.Ring.{next-ring}
+use Rattle.reply_samples.proofs.Counts.{samples-counted}
+use Rattle.generator.specs.Real.{pairOf, Filters, real}
+use Rattle.generator.proofs.ReplyBytes.{made-bytes}
+
+module _ (f : Filters) (total : ℕ) where
+  pub added-put : (zs : List Sample) (m : List Float) (s : ℕ) → addedFrom four m (s % 1126) zs ≡ put (real f total) nan m s (map pairOf zs)
+  unfolding addedFrom addedAt pairOf
+  added-put [] m s = refl
+  added-put (z ∷ zs) m s =
+      ap (λ (q : ℕ). addedFrom four (addedAt m (s % 1126) z) q zs) (next-ring four s (lit< tt))
+      ∙ added-put zs (addedAt m (s % 1126) z) (s + 1)
+      ∙ ap (λ (n : ℕ). put (real f total) nan (addedAt m (s % 1126) z) n (map pairOf zs)) (add-one s)
+
+  -- the number of samples that the theory counts
+  pub counts : (amplitude : Float) (c : MessageConfig) → length (map pairOf (replySamples four (f .modeS) (f .modeAC) (f .delays) amplitude c)) ≡ replyCount four (f .delays) c
+  counts amplitude c = length-map (replySamples four (f .modeS) (f .modeAC) (f .delays) amplitude c) pairOf ∙ samples-counted four (f .modeS) (f .modeAC) (f .delays) amplitude c
+
+-- every record has 66 bytes
+config-bytes : (all : Distributions) (t : Float) (d : Draw) → length (configOf all t d .reply .bytes) ≡ 14
+unfolding configOf
+config-bytes all t d = made-bytes (typeDrawn (typeNumbered (d .kind))) (d .picks)
+
+pub line-length : (all : Distributions) (t : Float) (d : Draw) (s n : ℕ) → length (recordBytes (configOf all t d) s (d .kind) n) ≡ 66
+line-length all t d s n = record-length (configOf all t d) s (d .kind) n (config-bytes all t d)
+
+-- ---- what the two calls leave, at a place of working memory and where there is room for a record
+a-place : (m : List Float) (place : ℕ) → length m ≡ 2252 → place < 1126 → isPlace four m place ≡ true
+unfolding isPlace
+a-place m place e h = rw (eq-eqb (length m) 2252 e, lt-ltb place 1126 h)
+
+memory-is : (m m′ : List Float) (place : ℕ) (zs : List Sample) → length m ≡ 2252 → place < 1126 → m′ ≡ addedReply four m place zs → m′ ≡ addedFrom four m place zs
+unfolding addedReply
+memory-is m m′ place zs e h p = p ∙ ap (λ (b : Bool). cond b (addedFrom four m place zs) m) (a-place m place e h)
+
+count-is : (m : List Float) (place n r : ℕ) → length m ≡ 2252 → place < 1126 → r ≡ addedCount four m place n → r ≡ n
+unfolding addedCount
+count-is m place n r e h p = p ∙ ap (λ (b : Bool). cond b n 0) (a-place m place e h)
+
+record-is : (s s′ : List ℕ) (at : ℕ) (line : List ℕ) → at + 66 ≤ length s → s′ ≡ recordAt s at line → s′ ≡ laid at line s
+unfolding recordAt LeBytes.laid
+record-is s s′ at line h p =
+    p ∙ ap (λ (b : Bool). cond b (LeBytes.laid s at line) s) (le-leb (at + 66) (length s) h) ∙ append-assoc (take at s) line (drop (at + length line) s)
+
+-- what `add` leaves, from what its calls give
+module _ (all : Distributions) (delays : Delays) (time : Float) (first place : ℕ) (m : List Float) (d d₀ : Draw) (c : MessageConfig)
+    (l : length m ≡ 2252) (here : place ≡ first % 1126) (read : d ≡ d₀) (config : c ≡ configOf all time d) where
+  in-ring : place < 1126
+  in-ring = subst (λ (n : ℕ). n < 1126) (sym here) (mod-lt first (lit< tt))
+
+  config₀ : c ≡ configOf all time d₀
+  config₀ = config ∙ ap (configOf all time) read
+
+  pub added-by : (modeS modeAC m′ : List Float) → m′ ≡ addedReply four m place (replySamples four modeS modeAC delays (d .amplitude) c)
+      → m′ ≡ addedFrom four m (first % 1126) (replySamples four modeS modeAC delays (d₀ .amplitude) (configOf all time d₀))
+  added-by modeS modeAC m′ p =
+      memory-is m m′ place (replySamples four modeS modeAC delays (d .amplitude) c) l in-ring p
+      ∙ (λ i. addedFrom four m (here i) (replySamples four modeS modeAC delays (read i .amplitude) (config₀ i)))
+
+  pub recorded-by : (s s′ : List ℕ) (at n : ℕ) → at + 66 ≤ length s → n ≡ addedCount four m place (replyCount four delays c) → s′ ≡ recordAt s at (recordBytes c first (d .kind) n)
+      → s′ ≡ laid at (recordBytes (configOf all time d₀) first (d₀ .kind) (replyCount four delays (configOf all time d₀))) s
+  recorded-by s s′ at n h e p =
+      record-is s s′ at (recordBytes c first (d .kind) n) h p
+      ∙ (λ i. laid at (recordBytes (config₀ i) first (read i .kind) ((count-is m place (replyCount four delays c) n l in-ring e ∙ ap (replyCount four delays) config₀) i)) s)

@@ -1,0 +1,6 @@
+pub mod Signed
+pub mod Tests
+pub mod Adding
+pub mod Writing
+pub mod Said
+pub mod Going

@@ -1,0 +1,166 @@
+-- What the plan of a turn tells of the buffers, and what doing it leaves of the rest of the call: each arm of `step`. Assumes nothing.
+use mathlib.Core.Path.{_≡_, refl, sym, ap, _∙_, subst}
+use mathlib.Core.Bool.{Bool, true}
+use mathlib.Core.List.{List, map}
+use Prim.Native.Nat.{ℕ, _+_, _-_, _*_, _%_}
+use native.Mathlib.Omega.{arith}
+use lib.Dec.{lit<}
+use lib.ListN.{length, take, drop}
+use lib.Ieee.{Float, nan}
+use Rattle.constants.specs.Rate.{four}
+use Rattle.call_lists.specs.Generator.{Generator}
+use Rattle.call_lists.specs.PlainRun.{ignored, ends, reply}
+use Rattle.call_lists.specs.PlainBench as Bench
+use Rattle.call_lists.proofs.Machine.{later, put}
+use Rattle.call_lists.proofs.FlatLists.{laid}
+use Rattle.call_lists.proofs.Turns as Turns
+use Rattle.call_lists.proofs.Plans as Theory
+use Rattle.call_lists.proofs.Batched.{nextTurn, nearer}
+use Rattle.due_samples.specs.Due.{samplesOf, clearOf}
+use Rattle.due_samples.proofs.AnyDraws.{any-samples, any-memory}
+use Rattle.draw.specs.Draw.{drawAt}
+use Rattle.draw.specs.Config.{timeAfter, configOf}
+use Rattle.record.specs.Record.{recordBytes}
+use Rattle.reply_samples.specs.Samples.{replySamples, replyCount}
+use Rattle.reply_samples.specs.Added.{addedFrom}
+use Rattle.generator.specs.Real.{pairOf, draws}
+use Rattle.running.specs.declared.State.{State}
+use Rattle.running.specs.declared.Turn.{Turn}
+use Rattle.running.specs.declared.Stop as Stop
+use Rattle.running.specs.declared.Plan as Plan
+use Rattle.running.specs.declared.Next as Next
+use Rattle.running.specs.Plans.{stopRead, planRead, chosen}
+use Rattle.running.specs.Turns.{filtersOf, genOf, wroteBy, tookBy, haltedBy, Inside, turnRead, restAfter, Went, StepSays}
+use Rattle.running.proofs.Adding.{added-put, counts, line-length}
+
+module _ (s : State) (modeS modeAC noise : List Float) (t : Turn) (memory : List Float) (rest : List ℕ) (output : List Float) (records : List ℕ) where
+  abbrev G : Generator
+  G = genOf s modeS modeAC
+
+  abbrev z : Turns.Turn (genOf s modeS modeAC) nan
+  z = turnRead s modeS modeAC t memory rest output records
+
+  abbrev Step : Turn → List Float → List Float → List ℕ → Type 0
+  Step r memory′ output′ records′ = StepSays (genOf s modeS modeAC) noise nan (r .next) z (turnRead s modeS modeAC r memory′ (restAfter (r .next) rest) output′ records′)
+
+  chosen-is : chosen s t rest (length output - 2 * t .samples) (length noise - 2 * t .samples) (length records - 66 * t .records) ≡ Theory.planOf G nan noise z
+  unfolding chosen timeAfter
+  chosen-is = refl
+
+  module _ (i : Inside t (length noise) (length output) (length records)) (q : Plan.Plan) (e : planRead q ≡ chosen s t rest (length output - 2 * t .samples) (length noise - 2 * t .samples) (length records - 66 * t .records)) where
+    within : Theory.Within G nan noise z
+    within = record { output-in = i .output-in; noise-in = i .noise-in; records-in = i .records-in }
+
+    is : (x : Plan.Plan) → q ≡ x → Theory.planOf G nan noise z ≡ planRead x
+    is x h = sym (e ∙ chosen-is) ∙ ap planRead h
+
+    says : (x : Plan.Plan) → q ≡ x → Theory.PlanSays G nan noise z (planRead x)
+    says x h = subst (λ (p : Theory.Plan Float). Theory.PlanSays G nan noise z p) (is x h) (Theory.plan-says G nan noise (lit< tt) (lit< tt) z within)
+
+    right : (x : Plan.Plan) → q ≡ x → Turns.restOf G nan noise z ≡ Theory.afterPlan G nan noise (lit< tt) (lit< tt) z (planRead x)
+    right x h =
+        Theory.plan-right G nan noise (lit< tt) (lit< tt) (λ time d k n. line-length (s .distributions) time (d .draw) k n) z within
+        ∙ ap (λ (p : Theory.Plan Float). Theory.afterPlan G nan noise (lit< tt) (lit< tt) z p) (is x h)
+
+    -- a plan that is no stop, carried out
+    went : (x : Plan.Plan) → q ≡ x → ((k : Bench.Stop) → planRead x ≡ Theory.stopAt k → ⊥)
+        → Theory.afterPlan G nan noise (lit< tt) (lit< tt) z (planRead x) ≡ Turns.restOf G nan noise (nextTurn G nan noise z (planRead x))
+        → (y : Turns.Turn G nan) → y ≡ nextTurn G nan noise z (planRead x) → Went G noise nan z y
+    went x h no-stop after y k =
+        let near = nearer G nan noise (lit< tt) (lit< tt) (λ time d k n. line-length (s .distributions) time (d .draw) k n) z within (planRead x) (says x h) no-stop in
+        subst (λ (u : Turns.Turn G nan). Went G noise nan z u) (sym k) (record { same = right x h ∙ after; within = near .within; less = near .less })
+
+    -- ---- a stop
+    pub halt-says : (w : Stop.Stop) → q ≡ Plan.the-variants.Halt w → (r : Turn) → r ≡ haltedBy t w → Step r memory output records
+    unfolding planRead haltedBy
+    halt-says w h r k = subst (λ (x : Turn). Step x memory output records) (sym k) (says (Plan.the-variants.Halt w) h, refl)
+
+    -- ---- samples
+    pub drain-says : (n : ℕ) → q ≡ Plan.the-variants.Drain n → Theory.Written G nan noise z n (t .latest)
+    unfolding planRead
+    drain-says n h = says (Plan.the-variants.Drain n) h
+
+    pub due-says : (n : ℕ) (time : Float) → q ≡ Plan.the-variants.Due n time → Theory.Written G nan noise z n (later G (t .latest) time)
+    unfolding planRead
+    due-says n time h = says (Plan.the-variants.Due n time) h .0
+
+    wrote-is : (n : ℕ) (m : Float) (memory′ output′ : List Float) → memory′ ≡ clearOf memory (t .written) n
+        → output′ ≡ laid (2 * t .samples) (samplesOf memory (t .written) (take (2 * n) (drop (2 * t .samples) noise))) output
+        → turnRead s modeS modeAC (wroteBy t n m) memory′ rest output′ records ≡ Turns.wroteTurn G nan noise z n m
+    unfolding wroteBy
+    wrote-is n m memory′ output′ p o = λ j. record {
+      state = record { memory = (p ∙ sym (any-memory (draws (filtersOf s modeS modeAC)) (s .total) memory (t .written) n)) j; written = t .written + n; time = t .time; over = t .ended; mark = m };
+      taken = t .taken;
+      samples = t .samples + n;
+      lines = t .records;
+      rest = rest;
+      output = (o ∙ ap (λ (l : List Float). laid (2 * t .samples) l output) (sym (any-samples (draws (filtersOf s modeS modeAC)) (s .total) memory (t .written) (take (2 * n) (drop (2 * t .samples) noise))))) j;
+      records = records;
+    }
+
+    pub drained : (n : ℕ) → q ≡ Plan.the-variants.Drain n → (r : Turn) (memory′ output′ : List Float) → r ≡ wroteBy t n (t .latest) → memory′ ≡ clearOf memory (t .written) n
+        → output′ ≡ laid (2 * t .samples) (samplesOf memory (t .written) (take (2 * n) (drop (2 * t .samples) noise))) output → Step r memory′ output′ records
+    unfolding planRead wroteBy
+    drained n h r memory′ output′ k p o =
+        subst (λ (x : Turn). Step x memory′ output′ records) (sym k)
+        (went (Plan.the-variants.Drain n) h (λ w b. let one : _≡_ {A = ℕ} 0 1 = cc in omega arith) refl _ (wrote-is n (t .latest) memory′ output′ p o), refl)
+
+    pub dued : (n : ℕ) (time m : Float) → q ≡ Plan.the-variants.Due n time → (r : Turn) (memory′ output′ : List Float) → r ≡ wroteBy t n m → m ≡ later G (t .latest) time → memory′ ≡ clearOf memory (t .written) n
+        → output′ ≡ laid (2 * t .samples) (samplesOf memory (t .written) (take (2 * n) (drop (2 * t .samples) noise))) output → Step r memory′ output′ records
+    unfolding planRead wroteBy
+    dued n time m h r memory′ output′ k l p o =
+        subst (λ (x : Turn). Step x memory′ output′ records) (sym (k ∙ ap (wroteBy t n) l))
+        (went (Plan.the-variants.Due n time) h (λ w b. let one : _≡_ {A = ℕ} 0 1 = cc in omega arith) refl _ (wrote-is n (later G (t .latest) time) memory′ output′ p o), refl)
+
+    -- ---- draws
+    pub skip-says : (time : Float) → q ≡ Plan.the-variants.Skip time → Theory.Taken G nan noise z time ignored
+    unfolding planRead
+    skip-says time h = says (Plan.the-variants.Skip time) h
+
+    pub end-says : (time : Float) → q ≡ Plan.the-variants.End time → Theory.Taken G nan noise z time ends
+    unfolding planRead
+    end-says time h = says (Plan.the-variants.End time) h
+
+    pub add-says : (time : Float) (first : ℕ) → q ≡ Plan.the-variants.Add time first → Theory.Added G nan noise z time first
+    unfolding planRead
+    add-says time first h = says (Plan.the-variants.Add time first) h
+
+    pub skipped : (time : Float) → q ≡ Plan.the-variants.Skip time → (r : Turn) → r ≡ tookBy t time (t .ended) (t .records) → Step r memory output records
+    unfolding planRead tookBy
+    skipped time h r k =
+        let f = skip-says time h in
+        subst (λ (x : Turn). Step x memory output records) (sym k)
+        (went (Plan.the-variants.Skip time) h (λ w b. let one : _≡_ {A = ℕ} 0 1 = cc in omega arith) refl _ (ap (λ (x : Float). turnRead s modeS modeAC (tookBy t x (t .ended) (t .records)) memory (drop 65 rest) output records) (f .at)), refl, f .bytes)
+
+    pub ended-by : (time : Float) → q ≡ Plan.the-variants.End time → (r : Turn) → r ≡ tookBy t time true (t .records) → Step r memory output records
+    unfolding planRead tookBy
+    ended-by time h r k =
+        let f = end-says time h in
+        subst (λ (x : Turn). Step x memory output records) (sym k)
+        (went (Plan.the-variants.End time) h (λ w b. let one : _≡_ {A = ℕ} 0 1 = cc in omega arith) refl _ (ap (λ (x : Float). turnRead s modeS modeAC (tookBy t x true (t .records)) memory (drop 65 rest) output records) (f .at)), refl, f .bytes)
+
+    pub added : (time : Float) (first : ℕ) → q ≡ Plan.the-variants.Add time first → (r : Turn) (memory′ : List Float) (records′ : List ℕ) → r ≡ tookBy t time (t .ended) (t .records + 1)
+        → memory′ ≡ addedFrom four memory (first % 1126) (replySamples four modeS modeAC (s .delays) (drawAt rest .amplitude) (configOf (s .distributions) time (drawAt rest)))
+        → records′ ≡ laid (66 * t .records) (recordBytes (configOf (s .distributions) time (drawAt rest)) first (drawAt rest .kind) (replyCount four (s .delays) (configOf (s .distributions) time (drawAt rest)))) records
+        → Step r memory′ output records′
+    unfolding planRead tookBy
+    added time first h r memory′ records′ k p o =
+        let f = add-says time first h in
+        subst (λ (x : Turn). Step x memory′ output records′) (sym k)
+        (went (Plan.the-variants.Add time first) h (λ w b. let one : _≡_ {A = ℕ} 0 1 = cc in omega arith) refl _ (filled ∙ ap at-time (f .taken .at)), refl, f .taken .bytes)
+      where
+        line : Float → ℕ → List ℕ
+        line x n = recordBytes (configOf (s .distributions) x (drawAt rest)) first (drawAt rest .kind) n
+
+        at-time : Float → Turns.Turn (genOf s modeS modeAC) nan
+        at-time x =
+            turnRead s modeS modeAC (tookBy t x (t .ended) (t .records + 1))
+            (put (genOf s modeS modeAC) nan memory first (map pairOf (replySamples four modeS modeAC (s .delays) (drawAt rest .amplitude) (configOf (s .distributions) x (drawAt rest)))))
+            (drop 65 rest) output
+            (laid (66 * t .records) (line x (length (map pairOf (replySamples four modeS modeAC (s .delays) (drawAt rest .amplitude) (configOf (s .distributions) x (drawAt rest)))))) records)
+
+        filled : turnRead s modeS modeAC (tookBy t time (t .ended) (t .records + 1)) memory′ (drop 65 rest) output records′ ≡ at-time time
+        filled = λ j. turnRead s modeS modeAC (tookBy t time (t .ended) (t .records + 1))
+            ((p ∙ added-put (filtersOf s modeS modeAC) (s .total) (replySamples four modeS modeAC (s .delays) (drawAt rest .amplitude) (configOf (s .distributions) time (drawAt rest))) memory first) j)
+            (drop 65 rest) output
+            ((o ∙ ap (λ (n : ℕ). laid (66 * t .records) (line time n) records) (sym (counts (filtersOf s modeS modeAC) (s .total) (drawAt rest .amplitude) (configOf (s .distributions) time (drawAt rest))))) j)

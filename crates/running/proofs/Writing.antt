@@ -1,0 +1,34 @@
+-- What writing due samples leaves, where they fit. Assumes nothing.
+use mathlib.Core.Path.{_≡_, sym, ap, _∙_}
+use mathlib.Core.Bool.{Bool, cond}
+use mathlib.Core.List.{List}
+use Prim.Native.Nat.{ℕ, _+_, _*_, _/_, _≤_}
+use native.Mathlib.Omega.{arith}
+use lib.ListN.{length, take, drop}
+use lib.Ieee.{Float}
+use Rattle.call_lists.proofs.FlatLists.{laid}
+use Rattle.due_samples.specs.Due.{samplesOf, clearOf, Lent, dueOf}
+use Rattle.due_samples.proofs.LentTest.{fits-if}
+
+made : List Float → List Float → Lent
+made memory output = record { memory = memory; output = output }
+
+module _ (noise memory output memory′ output′ : List Float) (w at n : ℕ) (l : length memory ≡ 2252) (in-noise : at + 2 * n ≤ length noise) (in-output : at + 2 * n ≤ length output)
+    (e : record { memory = memory′; output = output′ } ≡ dueOf noise w at at (2 * n) (record { memory = memory; output = output })) where
+  half : 2 * n / 2 ≡ n
+  half = omega arith
+
+  both : made memory′ output′ ≡ made (clearOf memory w (2 * n / 2)) (laid at (samplesOf memory w (take (2 * n) (drop at noise))) output)
+  unfolding dueOf made
+  both =
+      e
+      ∙ ap (λ (b : Bool). cond b (made (clearOf memory w (2 * n / 2)) (laid at (samplesOf memory w (take (2 * n) (drop at noise))) output)) (made memory output))
+      (sym (fits-if (length memory) (length noise) (length output) at at (2 * n) (record { memory-is = l; pairs = omega arith; noise-holds = in-noise; output-holds = in-output })))
+
+  pub wrote-memory : memory′ ≡ clearOf memory w n
+  unfolding made
+  wrote-memory = ap (λ (x : Lent). x .memory) both ∙ ap (clearOf memory w) half
+
+  pub wrote-output : output′ ≡ laid at (samplesOf memory w (take (2 * n) (drop at noise))) output
+  unfolding made
+  wrote-output = ap (λ (x : Lent). x .output) both

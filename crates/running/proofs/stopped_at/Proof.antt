@@ -1,0 +1,21 @@
+-- `stopped_at` meets its contract. Assumes nothing.
+use mathlib.Core.Path.{refl}
+use Rattle.running.specs.Ended.{ranBy}
+use borrow.Author.Needs.{needs}
+use native.Mathlib.Omega.{arith}
+use Rattle.running.proofs.stopped_at.Statement.{statement}
+use Rattle.running.proofs.stopped_at.Tie as tie
+use Rattle.running.proofs.stopped_at.Reads as reads
+use Rattle.running.proofs.stopped_at.Lts as lts
+
+-- src/lib.rt:418:20
+mul-t8 : tie.Need-mul-t8
+mul-t8 c = search needs
+
+-- src/lib.rt:397:1
+returns : tie.Need-returns
+unfolding ranBy
+returns c = refl
+
+pub stopped-at-spec : {M : Type 1} → statement M
+stopped-at-spec = tie.close (tie.spec mul-t8 returns)

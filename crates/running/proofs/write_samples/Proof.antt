@@ -1,0 +1,68 @@
+-- `write_samples` meets its contract: `write_due`, where the samples fit. Assumes nothing.
+use mathlib.Core.Path.{refl}
+use Rattle.running.specs.Turns.{wroteBy}
+use Prim.Native.Nat.{_+_, _*_, _≤_}
+use lib.ListN.{length}
+use Rattle.running.proofs.Writing.{wrote-memory, wrote-output}
+use borrow.Author.Needs.{needs}
+use native.Mathlib.Omega.{arith}
+use Rattle.running.proofs.write_samples.Statement.{statement}
+use Rattle.running.proofs.write_samples.Tie as tie
+use Rattle.running.proofs.write_samples.Reads as reads
+use Rattle.running.proofs.write_samples.Lts as lts
+use Rattle.due_samples.proofs.write_due.Reads as write-due-reads
+
+-- src/lib.rt:226:14
+mul-at : tie.Need-mul-at
+mul-at c = search needs
+
+-- src/lib.rt:227:70
+mul-write-due : tie.Need-mul-write-due
+mul-write-due c = search needs
+
+-- src/lib.rt:227:5
+write-due-requires : tie.Need-write-due-requires
+write-due-requires c κs = search needs
+
+-- src/lib.rt:229:18
+add-t15 : tie.Need-add-t15
+add-t15 c = search needs
+
+-- src/lib.rt:234:18
+add-t13 : tie.Need-add-t13
+add-t13 c = search needs
+
+-- src/lib.rt:215:1
+same-length : tie.Need-same-length
+same-length c = search needs
+
+-- src/lib.rt:215:1
+same-length-2 : tie.Need-same-length-2
+same-length-2 c = search needs
+
+-- src/lib.rt:215:1
+returns : tie.Need-returns
+unfolding wroteBy
+returns c =
+    let a = c .before .before .before .before .before .before .before .before .before .before .before .before .before .args in
+    let p = c .before .before .before .before .before .before .before .before .before .before .before .before .before .pre in
+    let w = c .before .before .before .before .before .before .write-due .ensures in
+    let in-noise : 2 * a .t .samples + 2 * a .n ≤ length (a .noise .now) = omega (arith, p .1) in
+    let in-output : 2 * a .t .samples + 2 * a .n ≤ length (a .output .now) = omega (arith, p .2) in (
+      refl,
+      wrote-memory (a .noise .now) (a .memory .now) (a .output .now) _ _ (a .t .written) (2 * a .t .samples) (a .n) (p .0) in-noise in-output w,
+      wrote-output (a .noise .now) (a .memory .now) (a .output .now) _ _ (a .t .written) (2 * a .t .samples) (a .n) (p .0) in-noise in-output w,
+    )
+
+pub write-samples-spec : {M : Type 1} → statement M
+write-samples-spec =
+    tie.close
+    (tie.spec
+    mul-at
+    mul-write-due
+    write-due-requires
+    add-t15
+    add-t13
+    same-length
+    same-length-2
+    returns)

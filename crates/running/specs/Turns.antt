@@ -1,0 +1,74 @@
+-- The code's turns, as the theory of lists of calls has them, and what a step comes to. Definitions only.
+use Prim.Native.Nat.{ℕ, _+_, _*_, _≤_, _<_}
+use mathlib.Core.Bool.{Bool}
+use mathlib.Core.List.{List}
+use mathlib.Core.Path.{_≡_}
+use lib.ListN.{length, drop}
+use lib.Ieee.{Float, nan}
+use Rattle.call_lists.specs.Generator.{Generator}
+use Rattle.call_lists.proofs.Machine as Machine
+use Rattle.call_lists.proofs.Turns as Theory
+use Rattle.call_lists.proofs.Plans.{Within}
+use Rattle.call_lists.proofs.Batched.{turnFuel}
+use Rattle.generator.specs.Real.{Filters, real}
+use Rattle.running.specs.declared.State.{State}
+use Rattle.running.specs.declared.Turn.{Turn}
+use Rattle.running.specs.declared.Stop.{Stop}
+use Rattle.running.specs.declared.Next as Next
+use Rattle.running.specs.Plans.{stopRead}
+
+-- what a state and the prototypes fix
+abbrev pub filtersOf : State → List Float → List Float → Filters
+filtersOf s modeS modeAC = record { rates = s .rates; distributions = s .distributions; delays = s .delays; modeS = modeS; modeAC = modeAC }
+
+abbrev pub genOf : State → List Float → List Float → Generator
+genOf s modeS modeAC = real (filtersOf s modeS modeAC) (s .total)
+
+-- the turn after n samples, after a draw, and at a stop
+unfoldable pub wroteBy : Turn → ℕ → Float → Turn
+wroteBy t n latest =
+    record { written = t .written + n; time = t .time; latest = latest; ended = t .ended; taken = t .taken; samples = t .samples + n; records = t .records; next = Next.the-variants.Wrote }
+
+unfoldable pub tookBy : Turn → Float → Bool → ℕ → Turn
+tookBy t time ended records =
+    record { written = t .written; time = time; latest = t .latest; ended = ended; taken = t .taken + 1; samples = t .samples; records = records; next = Next.the-variants.Took }
+
+unfoldable pub haltedBy : Turn → Stop → Turn
+haltedBy t w =
+    record { written = t .written; time = t .time; latest = t .latest; ended = t .ended; taken = t .taken; samples = t .samples; records = t .records; next = Next.the-variants.Halted w }
+
+-- the counts lie within what is lent
+pub record Inside (t : Turn) (noise output records : ℕ) : Type 0 where
+  pub output-in : 2 * t .samples ≤ output
+  pub noise-in : 2 * t .samples ≤ noise
+  pub records-in : 66 * t .records ≤ records
+
+-- a turn with working memory, the draw bytes that are left, and the two buffers
+abbrev pub turnRead : (s : State) (modeS modeAC : List Float) → Turn → List Float → List ℕ → List Float → List ℕ → Theory.Turn (genOf s modeS modeAC) nan
+turnRead s modeS modeAC t memory rest output records = record {
+  state = record { memory = memory; written = t .written; time = t .time; over = t .ended; mark = t .latest };
+  taken = t .taken;
+  samples = t .samples;
+  lines = t .records;
+  rest = rest;
+  output = output;
+  records = records;
+}
+
+-- the draw bytes that are left after a step
+abbrev pub restAfter : Next.Next → List ℕ → List ℕ
+restAfter Next.the-variants.Wrote rest = rest
+restAfter Next.the-variants.Took rest = drop 65 rest
+restAfter (Next.the-variants.Halted w) rest = rest
+
+-- what a step comes to, z before it and z′ after it: the rest of the call is as it was, and nearer to its end; or the call is at its stop
+module _ (G : Generator) (noise : List (G .Value)) (o : G .Value) where
+  pub record Went (z z′ : Theory.Turn G o) : Type 0 where
+    pub same : Theory.restOf G o noise z ≡ Theory.restOf G o noise z′
+    pub within : Within G o noise z′
+    pub less : turnFuel G o noise z′ < turnFuel G o noise z
+
+  abbrev pub StepSays : Next.Next → Theory.Turn G o → Theory.Turn G o → Type 0
+  StepSays Next.the-variants.Wrote z z′ = Went z z′ × (z′ .taken ≡ z .taken)
+  StepSays Next.the-variants.Took z z′ = Went z z′ × (z′ .taken ≡ z .taken + 1) × (G .drawBytes ≤ length (z .rest))
+  StepSays (Next.the-variants.Halted w) z z′ = (Theory.restOf G o noise z ≡ Theory.stopped G o z′ (stopRead w)) × (z′ .samples ≡ z .samples)
