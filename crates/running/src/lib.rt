@@ -364,14 +364,22 @@ fn step(
     match p {
         Plan::Halt(w) => halted(t, w),
         Plan::Drain(n) => write_samples(t, n, t.latest, memory, noise, output),
-        Plan::Due(n, time) => {
-            write_samples(t, n, later(t.latest, time), memory, noise, output)
-        }
+        Plan::Due(n, time) => { write_samples(t, n, later(t.latest, time), memory, noise, output) }
         Plan::Skip(time) => took(t, time, t.ended, t.records),
         Plan::End(time) => took(t, time, true, t.records),
         Plan::Add(time, first) => {
             let lines = t.records;
-            add(s, time, first, mode_s, mode_ac, memory, rest, records, 66 * lines);
+            add(
+                s,
+                time,
+                first,
+                mode_s,
+                mode_ac,
+                memory,
+                rest,
+                records,
+                66 * lines,
+            );
             took(t, time, t.ended, lines + 1)
         }
     }
