@@ -96,7 +96,8 @@ impl MessageConfig {
     {
         let reply = self.reply;
         let kind = reply.kind;
-        filter_clock_error(kind, self.error)
+        let e = self.error;
+        filter_clock_error(kind, e)
     }
 
     pub fn clock_phase(self, delays: Delays) -> f64
