@@ -4,3 +4,4 @@ pub mod Adding
 pub mod Writing
 pub mod Said
 pub mod Going
+pub mod Refusing
