@@ -5,3 +5,4 @@ pub mod Writing
 pub mod Said
 pub mod Going
 pub mod Refusing
+pub mod RunIsTheTheorys

@@ -369,14 +369,22 @@ fn step(
     match p {
         Plan::Halt(w) => halted(t, w),
         Plan::Drain(n) => write_samples(t, n, t.latest, memory, noise, output),
-        Plan::Due(n, time) => {
-            write_samples(t, n, later(t.latest, time), memory, noise, output)
-        }
+        Plan::Due(n, time) => { write_samples(t, n, later(t.latest, time), memory, noise, output) }
         Plan::Skip(time) => took(t, time, t.ended, t.records),
         Plan::End(time) => took(t, time, true, t.records),
         Plan::Add(time, first) => {
             let lines = t.records;
-            add(s, time, first, mode_s, mode_ac, memory, rest, records, 66 * lines);
+            add(
+                s,
+                time,
+                first,
+                mode_s,
+                mode_ac,
+                memory,
+                rest,
+                records,
+                66 * lines,
+            );
             took(t, time, t.ended, lines + 1)
         }
     }
@@ -550,7 +558,13 @@ pub fn run(
 ) -> Ran
     ensures { λ r. ⌜ record { ran = r; memory = now (memory .exit); output = now (output .exit); records = now (records .exit) } ≡ runLeft s (now («mode_s» .entry)) (now («mode_ac» .entry)) (now (memory .entry)) (now (draws .entry)) (now (noise .entry)) (now (output .entry)) (now (records .entry)) ⌝ }
 {
-    if lent_wrong(memory.len(), mode_s.len(), mode_ac.len(), output.len(), draws.len()) {
+    if lent_wrong(
+        memory.len(),
+        mode_s.len(),
+        mode_ac.len(),
+        output.len(),
+        draws.len(),
+    ) {
         return refused(s, Refusal::Lent);
     }
     let fault = check_draws(s, draws);
