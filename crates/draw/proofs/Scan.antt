@@ -1,6 +1,6 @@
 -- The search for the first draw at fault: one turn of the code's loop, and its ends. Assumes nothing.
 use Prim.Native.Nat.{ℕ, suc, _+_, _-_, _/_, _<_, _≤_}
-use mathlib.Core.Path.{_≡_, refl, sym, ap, _∙_}
+use mathlib.Core.Path.{_≡_, sym, ap, _∙_}
 use mathlib.Core.List.{List}
 use native.Mathlib.Numerals.{add-one}
 use native.Mathlib.Omega.{arith}
@@ -10,9 +10,8 @@ use Rattle.message.specs.declared.Field.{Field}
 use Rattle.message.specs.declared.Field.the-variants.{Fine, Wrong}
 use Rattle.settings.specs.declared.Distributions.{Distributions}
 use Rattle.settings.specs.declared.MessagesPerSecond.{MessagesPerSecond}
-use Rattle.draw.specs.declared.Fault.{Fault}
 use Rattle.draw.specs.declared.Fault.the-variants.{Clean, At}
-use Rattle.draw.specs.Draw.{drawLength, drawAt}
+use Rattle.draw.specs.Draw.{drawAt}
 use Rattle.draw.specs.Fault.{drawFault, faultAt, faultFrom}
 
 -- the part of a list from a place to its end

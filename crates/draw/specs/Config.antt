@@ -1,8 +1,4 @@
 -- What a draw becomes at its time: the time after it, its start, and its message. Definitions only.
-use Prim.Native.Nat.{ℕ}
-use mathlib.Core.Bool.{cond}
-use mathlib.Core.List.{List}
-use lib.Dec.{eqb}
 use lib.IntN.{ℤ}
 use lib.Ieee.{Float, binary64, add}
 use Rattle.distributions.specs.Drawn.{offsetOf, phaseOf, errorOf}

@@ -1,6 +1,6 @@
 -- Document 01's refusal 7: the first field of a draw that is out of range, and the first draw with one. Fields are counted from 0 in tape order, the 14 bytes being one. Definitions only.
 use Prim.Native.Nat.{ℕ, zero, suc, _/_}
-use mathlib.Core.Bool.{Bool, true, false, _&&_, cond}
+use mathlib.Core.Bool.{Bool, true, _&&_, cond}
 use mathlib.Core.List.{List}
 use lib.Dec.{eqb}
 use lib.ListN.{length, drop}

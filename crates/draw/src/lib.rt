@@ -1,7 +1,6 @@
 // Draws: what 65 bytes of a tape say, the first field at fault, and the message that a draw becomes. Each function is equal to a definition of specs/ on every input. Assumes nothing.
 ghost use mathlib.Core.Path.{_≡_};
-ghost use Prim.Native.Nat.{_≤_, _<_, _+_, _*_};
-ghost use lib.ListN.{length, getD};
+ghost use lib.ListN.{getD};
 ghost use Rattle.message.specs.Types.{typeNumbered};
 ghost use Rattle.message.specs.Making.{checked, kindOf};
 ghost use Rattle.draw.specs.Draw.{picksAt, drawAt, bytesAt};

@@ -8,3 +8,4 @@ pub mod EndsByItself
 pub mod BranchWithin
 pub mod PhaseWithin
 pub mod ValueAt
+pub mod Idle

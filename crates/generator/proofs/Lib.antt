@@ -1,3 +1,4 @@
+pub mod SameDraw
 pub mod ReplyBytes
 pub mod DrawInRange
 pub mod FiltersInRange

@@ -11,10 +11,7 @@ use lib.ListN.{length, length-map}
 use lib.Ieee.{Float, nan, inf, fin, lt}
 use Rattle.constants.specs.Rate.{four, replyLimit, holdBack}
 use Rattle.rounding.proofs.Order.{Signed}
-use Rattle.message.specs.declared.ReplyKind.{ReplyKind}
 use Rattle.message.specs.Types.{typeNumbered}
-use Rattle.message_config.specs.Timing.{delayOf, startOf}
-use Rattle.message_config.specs.Config.{configStart}
 use Rattle.message_config_laws.proofs.InRange.{TimeInRange, signed-in-range, ErrorInRange}
 use Rattle.message_config_laws.proofs.HoldBack as HoldBack
 use Rattle.message_config_laws.proofs.FirstClock.{first-clock-of}
@@ -24,14 +21,16 @@ use Rattle.record.proofs.RecordLength.{record-length}
 use Rattle.draw.specs.declared.Draw.{Draw}
 use Rattle.draw.specs.Fault.{drawFault}
 use Rattle.draw.specs.Config.{typeDrawn, kindDrawn, errorDrawn, startAt, configOf}
+use Rattle.draw.proofs.InRange.{InRange, in-range}
+use Rattle.draw.proofs.Message.{start-drawn}
 use Rattle.call_lists.specs.Generator.{from}
 use Rattle.call_lists.specs.PlainRun.{reply, kind}
 use Rattle.call_lists.proofs.StepFacts.{reply-fits, reply-start}
 use Rattle.draw_times.proofs.Times.{NonNeg, GoodTime}
 use Rattle.draw_times.proofs.FloatLaws.{DrawLaws}
-use Rattle.generator.specs.Real.{startFrom, pairOf, faultOf, HeldDraw, Filters, draws, real}
+use Rattle.generator.specs.Real.{startFrom, pairOf, HeldDraw, Filters, draws, real}
 use Rattle.generator.proofs.ReplyBytes.{made-bytes}
-use Rattle.generator.proofs.DrawInRange.{Fields, fine-of, gap-of, fields-of, error-of, kind-made}
+use Rattle.generator.proofs.DrawInRange.{fine-of, gap-of, error-of, message-error}
 use Rattle.generator.proofs.FiltersInRange.{FiltersInRange}
 
 time-in-range : (t : Float) → GoodTime t → TimeInRange t
@@ -47,28 +46,19 @@ unfolding startFrom
 started (pos n) s e = let h : n ≡ s = cc in ap pos h
 started (negsuc n) s e = let h : _≡_ {A = ℕ} 0 1 = cc in absurd (omega arith)
 
--- the first sample of the message is the start of the draw, where its reply has the kind drawn
-config-start : (f : Filters) (t : Float) (d : Draw) → configOf (f .distributions) t d .reply .kind ≡ kindDrawn d → configStart (f .delays) (configOf (f .distributions) t d) ≡ startAt (f .distributions) (f .delays) t d
-unfolding configStart startAt configOf
-config-start f t d e = ap (λ (k : ReplyKind). startOf t (delayOf (f .delays) k) (errorDrawn (f .distributions) d)) e
-
 config-time : (f : Filters) (t : Float) (d : Draw) → configOf (f .distributions) t d .time ≡ t
 unfolding configOf
 config-time f t d = refl
-
-config-error : (f : Filters) (t : Float) (d : Draw) → configOf (f .distributions) t d .error ≡ errorDrawn (f .distributions) d
-unfolding configOf
-config-error f t d = refl
 
 config-bytes : (f : Filters) (t : Float) (d : Draw) → length (configOf (f .distributions) t d .reply .bytes) ≡ 14
 unfolding configOf
 config-bytes f t d = made-bytes (typeDrawn (typeNumbered (d .kind))) (d .picks)
 
 module _ (f : Filters) (R : FiltersInRange f) (total : ℕ) (few : total ≤ 2 ^ 52) where
-  fields : (d : HeldDraw) → faultOf (drawFault (f .rates) (f .distributions) (d .draw)) ≡ none → Fields (f .rates) (f .distributions) (d .draw)
-  fields d e = fields-of (f .rates) (f .distributions) (d .draw) (fine-of (drawFault (f .rates) (f .distributions) (d .draw)) e)
+  fields : (d : HeldDraw) → draws f .fault d ≡ none → InRange (f .rates) (f .distributions) (d .draw)
+  fields d e = in-range (f .rates) (f .distributions) (d .draw) (fine-of (drawFault (f .rates) (f .distributions) (d .draw)) e)
 
-  error-in-range : (d : HeldDraw) → faultOf (drawFault (f .rates) (f .distributions) (d .draw)) ≡ none → ErrorInRange (kindDrawn (d .draw)) (errorDrawn (f .distributions) (d .draw))
+  error-in-range : (d : HeldDraw) → draws f .fault d ≡ none → ErrorInRange (kindDrawn (d .draw)) (errorDrawn (f .distributions) (d .draw))
   error-in-range d e = error-of (f .rates) (f .distributions) (R .distributions .clock) (d .draw) (d .held .clock) (fields d e)
 
   reply-at : (t : Float) (d : HeldDraw) (s : ℕ) → kind (real f total) t d ≡ reply s → startAt (f .distributions) (f .delays) t (d .draw) ≡ pos s
@@ -94,9 +84,9 @@ module _ (f : Filters) (R : FiltersInRange f) (total : ℕ) (few : total ≤ 2 ^
   real-short t d s g e k =
       let c = configOf (f .distributions) t (d .draw) in
       let samples = replySamples four (f .modeS) (f .modeAC) (f .delays) (d .draw .amplitude) c in
-      let same = kind-made (f .rates) (f .distributions) (R .distributions .clock) (d .draw) (d .held .clock) (fields d e) t in
-      let error = subst (λ (x : ReplyKind). ErrorInRange x (c .error)) (sym same) (subst (λ (x : Float). ErrorInRange (kindDrawn (d .draw)) x) (sym (config-error f t (d .draw))) (error-in-range d e)) in
-      let clock = first-clock-of (f .delays) (R .delays) c s (subst TimeInRange (sym (config-time f t (d .draw))) (time-in-range t g)) error (config-start f t (d .draw) same ∙ reply-at t d s k) (below-52 t d s k) in
+      let r = fields d e in
+      let error = message-error (f .rates) (f .distributions) (R .distributions .clock) (d .draw) (d .held .clock) r t in
+      let clock = first-clock-of (f .delays) (R .delays) c s (subst TimeInRange (sym (config-time f t (d .draw))) (time-in-range t g)) error (start-drawn (f .rates) (f .distributions) (d .draw) r (f .delays) t ∙ reply-at t d s k) (below-52 t d s k) in
       le-trans (le-of-eq (length-map samples pairOf ∙ samples-counted four (f .modeS) (f .modeAC) (f .delays) (d .draw .amplitude) c)) (count-most (f .delays) c clock)
 
   pub real-draw-laws : DrawLaws (draws f) four total

@@ -1,4 +1,4 @@
--- A made reply has 14 bytes, whatever the type and the picks (`made-bytes`), and, where no field is at fault, its type's kind (`made-kind`). Assumes nothing.
+-- A made reply has 14 bytes, whatever the type and the picks (`made-bytes`). Assumes nothing.
 use Prim.Native.Nat.{ℕ, _+_, _-_, _≤_}
 use mathlib.Core.Path.{_≡_, ap, _∙_}
 use mathlib.Core.List.{List, [], _∷_}
@@ -10,9 +10,8 @@ use Rattle.message.specs.declared.MessageType.the-variants.{ExtendedSquitter, A
 use Rattle.message.specs.declared.Picks.{Picks}
 use Rattle.message.specs.declared.Field.{Field}
 use Rattle.message.specs.declared.Field.the-variants.{Fine, Wrong}
-use Rattle.message.specs.Making.{byte0, later, messageBytes, kindOf, filled, replyOf, fieldFault, madeWhere, made}
+use Rattle.message.specs.Making.{byte0, later, messageBytes, filled, replyOf, fieldFault, madeWhere, made}
 
--- ---- 14 bytes
 later-most : (p : Picks) (n : ℕ) → length (later p n) ≤ n
 unfolding later
 later-most p n = omega (arith, length-take n (drop 1 (p .bytes)))
@@ -42,8 +41,3 @@ made-bytes t p = go (fieldFault t p)
     go : (x : Field) → length (madeWhere x (replyOf t p) .reply .bytes) ≡ 14
     go Fine = unfold madeWhere replyOf in filled-length (messageBytes t p) (most t p)
     go (Wrong k) = unfold madeWhere in length-replicate {A = ℕ} 14 0
-
--- ---- its kind
-pub made-kind : (t : MessageType) (p : Picks) → fieldFault t p ≡ Fine → made t p .reply .kind ≡ kindOf t
-unfolding made madeWhere replyOf
-made-kind t p e = ap (λ (x : Field). madeWhere x (replyOf t p) .reply .kind) e

@@ -3,10 +3,8 @@ use Prim.Native.Nat.{ℕ}
 use mathlib.Core.Bool.{Bool, not}
 use mathlib.Core.List.{List, map}
 use mathlib.Core.Option.{Option, none, some}
-use lib.Dec.{T}
 use lib.IntN.{ℤ, pos, negsuc}
-use lib.Ieee.{Float, binary32, binary64, ofBits, fits}
-use lib.Ieee.Bits.{ofBits-fits}
+use lib.Ieee.{Float, binary32, ofBits}
 use Rattle.constants.specs.Rate.{four}
 use Rattle.call_lists.specs.Generator.{Generator, Start, negative, from, Pair}
 use Rattle.draw_times.specs.FloatGenerator.{Draws, generator}
@@ -20,6 +18,7 @@ use Rattle.draw.specs.declared.Draw.{Draw}
 use Rattle.draw.specs.Draw.{drawAt}
 use Rattle.draw.specs.Fault.{drawFault}
 use Rattle.draw.specs.Config.{startAt, configOf}
+use Rattle.draw.proofs.Bytes.{Held, read-held}
 use Rattle.reply_samples.specs.declared.Sample.{Sample}
 use Rattle.reply_samples.specs.Samples.{replySamples}
 use Rattle.record.specs.Record.{recordBytes}
@@ -48,28 +47,7 @@ pub record Filters : Type 0 where
   pub modeS : List Float
   pub modeAC : List Float
 
--- the numbers of a draw are values of `f64`, its amplitude one of `f32`
-pub record Held (d : Draw) : Type 0 where
-  pub gap : T (fits binary64 (d .gap))
-  pub cn0 : T (fits binary64 (d .cn0))
-  pub amplitude : T (fits binary32 (d .amplitude))
-  pub carrier : T (fits binary64 (d .carrier))
-  pub phase : T (fits binary64 (d .phase))
-  pub clock : T (fits binary64 (d .clock))
-
--- as those of every 65 bytes are
-pub read-held : (s : List ℕ) → Held (drawAt s)
-unfolding drawAt
-read-held s = record {
-  gap = ofBits-fits binary64 _;
-  cn0 = ofBits-fits binary64 _;
-  amplitude = ofBits-fits binary32 _;
-  carrier = ofBits-fits binary64 _;
-  phase = ofBits-fits binary64 _;
-  clock = ofBits-fits binary64 _;
-}
-
--- a draw that bytes can hold
+-- a draw that bytes can hold: each number is a value of its format, as those of every 65 bytes are (`read-held`); two with the same fields are the same (`same-draw` of proofs/SameDraw.antt)
 pub record HeldDraw : Type 0 where
   pub draw : Draw
   pub held : Held draw

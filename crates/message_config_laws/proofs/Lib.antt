@@ -1,7 +1,6 @@
 pub mod InRange
 pub mod Starts
 pub mod HoldBack
-pub mod Times
 pub mod FirstClock
 pub mod NeverNan
 pub mod DrawnInRange

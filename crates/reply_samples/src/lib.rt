@@ -164,9 +164,10 @@ fn add_wave(prototype: &[f32], laid: &[bool; 252], w: Wave, memory: &mut [f32], 
         if clock.index >= w.limit {
             return n as u16;
         }
+        let next = math::phase_wrap_once_f64(phase + w.rate);
         let z = sample_at(w.amplitude, value_at(prototype, laid, clock), phase);
         add_at(memory, at, z);
-        phase = math::phase_wrap_once_f64(phase + w.rate);
+        phase = next;
         clock = filterbank::advance(clock, w.step);
         at = next_place(at);
         n = n + 1;

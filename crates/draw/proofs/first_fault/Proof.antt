@@ -4,7 +4,6 @@ use mathlib.Core.Path.{_≡_, refl, sym, ap, _∙_}
 use native.Mathlib.Omega.{arith}
 use lib.ListN.{length, length-drop}
 use borrow.Author.Needs.{needs}
-use Rattle.draw.specs.declared.Draw.{Draw}
 use Rattle.draw.specs.Fault.{drawFault, faultFrom, firstFault}
 use Rattle.draw.proofs.Scan.{part-is, goes-on, stops, ends}
 use Rattle.draw.proofs.first_fault.Statement.{statement}

@@ -1,6 +1,7 @@
 -- `draw::within_limit` meets its contract. Assumes nothing.
+use native.Mathlib.Omega.{arith}
 use borrow.Author.Needs.{needs}
-use mathlib.Core.Path.{sym, _∙_}
+use mathlib.Core.Path.{_≡_, sym}
 use Rattle.distributions.proofs.Literals.{tenth-is}
 use Rattle.draw.proofs.Decided.{limited, unlimited}
 use Rattle.draw.proofs.within_limit.Statement.{statement}
@@ -13,10 +14,16 @@ within-requires : tie.Need-within-requires
 within-requires c κs = search needs
 
 returns : tie.Need-returns
-returns c = cc (limited (c .before .before .before .args .kind) (c .before .before .before .args .e) (c .before .before .if1 .taken), tenth-is)
+returns c =
+    let a = c .before .before .before .args in
+    let h : a .kind ≡ 6 = omega arith in
+    cc (limited (a .kind) (a .e) h, tenth-is)
 
 returns-2 : tie.Need-returns-2
-returns-2 c = sym (unlimited (c .before .args .kind) (c .before .args .e) (c .if1 .left))
+returns-2 c =
+    let a = c .before .args in
+    let h : (a .kind ≡ 6 → ⊥) = λ k. omega arith in
+    sym (unlimited (a .kind) (a .e) h)
 
 pub within-limit-spec : {M : Type 1} → statement M
 within-limit-spec =

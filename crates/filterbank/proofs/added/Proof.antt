@@ -1,15 +1,10 @@
-use borrow.Author.Needs.{needs}
-use native.Mathlib.Omega.{arith}
+-- `added` meets its contract. Assumes nothing.
 use Rattle.filterbank.proofs.added.Statement.{statement}
 use Rattle.filterbank.proofs.added.Tie as tie
-use Rattle.filterbank.proofs.added.Reads as reads
-use Rattle.filterbank.proofs.added.Lts as lts
 
--- src/lib.rt:107:1
 returns : tie.Need-returns
 returns c = simp (c .if1 .taken)
 
--- src/lib.rt:107:1
 returns-2 : tie.Need-returns-2
 returns-2 c = simp (c .if1 .left)
 

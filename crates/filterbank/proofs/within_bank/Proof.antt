@@ -1,93 +1,69 @@
+-- `within_bank` meets its contract. Assumes nothing.
 use borrow.Author.Needs.{needs}
-use native.Mathlib.Omega.{arith}
 use Rattle.filterbank.proofs.Literals.{seven-taps}
 use Rattle.filterbank.proofs.within_bank.Statement.{statement}
 use Rattle.filterbank.proofs.within_bank.Tie as tie
-use Rattle.filterbank.proofs.within_bank.Reads as reads
-use Rattle.filterbank.proofs.within_bank.Lts as lts
-use Rattle.filterbank.proofs.interpolated.Reads as interpolated-reads
 
--- src/lib.rt:45:13
 add-b : tie.Need-add-b
 add-b c = search needs
 
--- src/lib.rt:47:9
 interpolated-requires : tie.Need-interpolated-requires
 interpolated-requires c κs = search needs
 
--- src/lib.rt:48:30
 add-interpolated : tie.Need-add-interpolated
 add-interpolated c = search needs
 
--- src/lib.rt:48:39
 add-interpolated-2 : tie.Need-add-interpolated-2
 add-interpolated-2 c = search needs
 
--- src/lib.rt:48:9
 interpolated-requires-2 : tie.Need-interpolated-requires-2
 interpolated-requires-2 c κs = search needs
 
--- src/lib.rt:49:30
 add-interpolated-3 : tie.Need-add-interpolated-3
 add-interpolated-3 c = search needs
 
--- src/lib.rt:49:39
 add-interpolated-4 : tie.Need-add-interpolated-4
 add-interpolated-4 c = search needs
 
--- src/lib.rt:49:9
 interpolated-requires-3 : tie.Need-interpolated-requires-3
 interpolated-requires-3 c κs = search needs
 
--- src/lib.rt:50:30
 add-interpolated-5 : tie.Need-add-interpolated-5
 add-interpolated-5 c = search needs
 
--- src/lib.rt:50:39
 add-interpolated-6 : tie.Need-add-interpolated-6
 add-interpolated-6 c = search needs
 
--- src/lib.rt:50:9
 interpolated-requires-4 : tie.Need-interpolated-requires-4
 interpolated-requires-4 c κs = search needs
 
--- src/lib.rt:51:30
 add-interpolated-7 : tie.Need-add-interpolated-7
 add-interpolated-7 c = search needs
 
--- src/lib.rt:51:40
 add-interpolated-8 : tie.Need-add-interpolated-8
 add-interpolated-8 c = search needs
 
--- src/lib.rt:51:9
 interpolated-requires-5 : tie.Need-interpolated-requires-5
 interpolated-requires-5 c κs = search needs
 
--- src/lib.rt:52:30
 add-interpolated-9 : tie.Need-add-interpolated-9
 add-interpolated-9 c = search needs
 
--- src/lib.rt:52:40
 add-interpolated-10 : tie.Need-add-interpolated-10
 add-interpolated-10 c = search needs
 
--- src/lib.rt:52:9
 interpolated-requires-6 : tie.Need-interpolated-requires-6
 interpolated-requires-6 c κs = search needs
 
--- src/lib.rt:53:30
 add-interpolated-11 : tie.Need-add-interpolated-11
 add-interpolated-11 c = search needs
 
--- src/lib.rt:53:40
 add-interpolated-12 : tie.Need-add-interpolated-12
 add-interpolated-12 c = search needs
 
--- src/lib.rt:53:9
 interpolated-requires-7 : tie.Need-interpolated-requires-7
 interpolated-requires-7 c κs = search needs
 
--- src/lib.rt:41:1
 returns : tie.Need-returns
 returns c =
     let c6 = c .before in

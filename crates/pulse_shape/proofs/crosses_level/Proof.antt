@@ -1,17 +1,12 @@
-use borrow.Author.Needs.{needs}
-use native.Mathlib.Omega.{arith}
+-- `crosses_level` meets its contract. Assumes nothing.
 use Rattle.pulse_shape.specs.GroupDelay.{crosses}
 use Rattle.pulse_shape.proofs.crosses_level.Statement.{statement}
 use Rattle.pulse_shape.proofs.crosses_level.Tie as tie
-use Rattle.pulse_shape.proofs.crosses_level.Reads as reads
-use Rattle.pulse_shape.proofs.crosses_level.Lts as lts
 
--- src/lib.rt:174:9
 returns : tie.Need-returns
 unfolding crosses
 returns c = simp (c .if1 .taken)
 
--- src/lib.rt:170:1
 returns-2 : tie.Need-returns-2
 unfolding crosses
 returns-2 c = simp (c .if1 .left)

@@ -1,7 +1,6 @@
 -- `group_delay` meets its contract: the first crossing of what is left is that of the whole. Assumes nothing.
 use borrow.Author.Needs.{needs}
-use native.Mathlib.Omega.{arith}
-use Prim.Native.Nat.{_≤_, _-_, _+_}
+use Prim.Native.Nat.{_≤_, _-_}
 use mathlib.Core.Path.{_≡_}
 use lib.ListN.{length, drop}
 use Rattle.constants.specs.Rate.{four}
@@ -9,10 +8,6 @@ use Rattle.pulse_shape.specs.GroupDelay.{delayFrom, groupDelay}
 use Rattle.pulse_shape.proofs.Turns.{delay-stop, delay-on, delay-end}
 use Rattle.pulse_shape.proofs.group_delay.Statement.{statement}
 use Rattle.pulse_shape.proofs.group_delay.Tie as tie
-use Rattle.pulse_shape.proofs.group_delay.Reads as reads
-use Rattle.pulse_shape.proofs.group_delay.Lts as lts
-use Rattle.pulse_shape.proofs.crosses_level.Reads as crosses-level-reads
-use Rattle.pulse_shape.proofs.delay_at.Reads as delay-at-reads
 
 abbrev Inv-loop : tie.InvT-loop
 Inv-loop level prototype j₀ j = (j ≤ length prototype) × (delayFrom four level j (drop j prototype) ≡ groupDelay four level prototype)
@@ -20,66 +15,52 @@ Inv-loop level prototype j₀ j = (j ≤ length prototype) × (delayFrom four le
 abbrev μ-loop : tie.MeasureT-loop
 μ-loop level prototype j₀ j = length prototype - j
 
--- src/lib.rt:192:5
 loop-holds : tie.Need-loop-holds Inv-loop μ-loop
 unfolding groupDelay
 loop-holds c = search needs
 
--- src/lib.rt:192:11
 add-loop : tie.Need-add-loop Inv-loop μ-loop
 add-loop c = search needs
 
--- src/lib.rt:193:17
 mul-a : tie.Need-mul-a Inv-loop μ-loop
 mul-a c = search needs
 
--- src/lib.rt:193:17
 shared-slice-read-a : tie.Need-shared-slice-read-a Inv-loop μ-loop
 shared-slice-read-a c = search needs
 
--- src/lib.rt:194:27
 add-b : tie.Need-add-b Inv-loop μ-loop
 add-b c = search needs
 
--- src/lib.rt:194:17
 mul-b : tie.Need-mul-b Inv-loop μ-loop
 mul-b c = search needs
 
--- src/lib.rt:194:17
 shared-slice-read-b : tie.Need-shared-slice-read-b Inv-loop μ-loop
 shared-slice-read-b c = search needs
 
--- src/lib.rt:195:12
 crosses-level-requires : tie.Need-crosses-level-requires Inv-loop μ-loop
 crosses-level-requires c κs = search needs
 
--- src/lib.rt:196:33
 delay-at-requires : tie.Need-delay-at-requires Inv-loop μ-loop
 delay-at-requires c κs = search needs
 
--- src/lib.rt:196:13
 returns : tie.Need-returns Inv-loop μ-loop
 returns c =
     let l = c .before .before .before .before .before .before .loop in
     let a = c .before .before .before .before .before .before .before .before .args in
     cc (delay-stop four (a .level) (a .prototype .now) (l .j) (c .before .before .before .before .before .loop-test .taken) (cc (c .before .if1 .taken)))
 
--- src/lib.rt:198:13
 add-j : tie.Need-add-j Inv-loop μ-loop
 add-j c = search needs
 
--- src/lib.rt:192:5
 loop-less : tie.Need-loop-less Inv-loop μ-loop
 loop-less c = search needs
 
--- src/lib.rt:192:5
 loop-again : tie.Need-loop-again Inv-loop μ-loop
 loop-again c =
     let l = c .before .before .before .before .before .loop in
     let a = c .before .before .before .before .before .before .before .args in
     (search needs, cc (delay-on four (a .level) (a .prototype .now) (l .j) (c .before .before .before .before .loop-test .taken) (cc (c .if1 .left))))
 
--- src/lib.rt:188:1
 returns-2 : tie.Need-returns-2 Inv-loop μ-loop
 returns-2 c =
     let l = c .before .loop in

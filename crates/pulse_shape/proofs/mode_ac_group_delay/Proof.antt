@@ -1,32 +1,24 @@
+-- `mode_ac_group_delay` meets its contract. Assumes nothing.
 use borrow.Author.Needs.{needs}
-use native.Mathlib.Omega.{arith}
 use Rattle.pulse_shape.proofs.Delays.{mode-ac-at, mode-ac-nowhere}
 use Rattle.pulse_shape.proofs.mode_ac_group_delay.Statement.{statement}
 use Rattle.pulse_shape.proofs.mode_ac_group_delay.Tie as tie
-use Rattle.pulse_shape.proofs.mode_ac_group_delay.Reads as reads
-use Rattle.pulse_shape.proofs.mode_ac_group_delay.Lts as lts
-use Rattle.pulse_shape.proofs.group_delay.Reads as group-delay-reads
 
--- src/lib.rt:207:9
 group-delay-requires : tie.Need-group-delay-requires
 group-delay-requires c κs = search needs
 
--- src/lib.rt:209:22
 enum-known-crossing : tie.Need-enum-known-crossing
 enum-known-crossing c = search needs
 
--- src/lib.rt:210:30
 enum-told : tie.Need-enum-told
 enum-told c = search needs
 
--- src/lib.rt:204:1
 returns : tie.Need-returns
 returns c =
     let g = c .before .before .before in
     let a = g .before .before .args in
     mode-ac-at (a .level) (a .prototype .now) _ (g .group-delay .result) (g .group-delay .ensures) (c .before .crossing .given .1)
 
--- src/lib.rt:204:1
 returns-2 : tie.Need-returns-2
 returns-2 c =
     let g = c .before .before in

@@ -1,23 +1,17 @@
+-- `mode_ac_taps_accepted` meets its contract. Assumes nothing.
 use borrow.Author.Needs.{needs}
-use native.Mathlib.Omega.{arith}
 use borrow.Author.Tests.{eq-eqb, ne-eqb}
 use Rattle.pulse_shape.specs.Accepted.{modeACTapsAccepted}
 use Rattle.pulse_shape.proofs.mode_ac_taps_accepted.Statement.{statement}
 use Rattle.pulse_shape.proofs.mode_ac_taps_accepted.Tie as tie
-use Rattle.pulse_shape.proofs.mode_ac_taps_accepted.Reads as reads
-use Rattle.pulse_shape.proofs.mode_ac_taps_accepted.Lts as lts
-use Rattle.pulse_shape.proofs.all_within_16.Reads as all-within-16-reads
 
--- src/lib.rt:159:9
 all-within-16-requires : tie.Need-all-within-16-requires
 all-within-16-requires c κs = search needs
 
--- src/lib.rt:159:9
 returns : tie.Need-returns
 unfolding modeACTapsAccepted
 returns c = simp (eq-eqb _ _ (c .before .if1 .taken), c .all-within-16 .ensures)
 
--- src/lib.rt:155:1
 returns-2 : tie.Need-returns-2
 unfolding modeACTapsAccepted
 returns-2 c = simp (ne-eqb _ _ (c .if1 .left))

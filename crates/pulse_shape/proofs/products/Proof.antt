@@ -1,6 +1,5 @@
 -- `products` meets its contract: what is left of the sum, from k on, is the whole. Assumes nothing.
 use borrow.Author.Needs.{needs}
-use native.Mathlib.Omega.{arith}
 use Prim.Native.Nat.{_≤_, _-_}
 use mathlib.Core.Path.{_≡_}
 use lib.Ieee.{binary32, ofBits}
@@ -8,8 +7,6 @@ use Rattle.pulse_shape.specs.Convolve.{productsFrom}
 use Rattle.pulse_shape.proofs.Turns.{products-turn, products-end}
 use Rattle.pulse_shape.proofs.products.Statement.{statement}
 use Rattle.pulse_shape.proofs.products.Tie as tie
-use Rattle.pulse_shape.proofs.products.Reads as reads
-use Rattle.pulse_shape.proofs.products.Lts as lts
 
 abbrev Inv-loop : tie.InvT-loop
 Inv-loop a b j start end sum₀ k₀ sum k =
@@ -18,46 +15,36 @@ Inv-loop a b j start end sum₀ k₀ sum k =
 abbrev μ-loop : tie.MeasureT-loop
 μ-loop a b j start end sum₀ k₀ sum k = end - k
 
--- src/lib.rt:66:5
 loop-holds : tie.Need-loop-holds Inv-loop μ-loop
 loop-holds c = search needs
 
--- src/lib.rt:67:21
 mul-sum : tie.Need-mul-sum Inv-loop μ-loop
 mul-sum c = search needs
 
--- src/lib.rt:67:21
 shared-slice-read-sum : tie.Need-shared-slice-read-sum Inv-loop μ-loop
 shared-slice-read-sum c = search needs
 
--- src/lib.rt:67:30
 sub-sum : tie.Need-sub-sum Inv-loop μ-loop
 sub-sum c = search needs
 
--- src/lib.rt:67:28
 mul-sum-2 : tie.Need-mul-sum-2 Inv-loop μ-loop
 mul-sum-2 c = search needs
 
--- src/lib.rt:67:28
 shared-slice-read-sum-2 : tie.Need-shared-slice-read-sum-2 Inv-loop μ-loop
 shared-slice-read-sum-2 c = search needs
 
--- src/lib.rt:68:13
 add-k : tie.Need-add-k Inv-loop μ-loop
 add-k c = search needs
 
--- src/lib.rt:66:5
 loop-less : tie.Need-loop-less Inv-loop μ-loop
 loop-less c = search needs
 
--- src/lib.rt:66:5
 loop-again : tie.Need-loop-again Inv-loop μ-loop
 loop-again c =
     let l = c .before .before .before .loop in
     let a = c .before .before .before .before .args in
     (search needs, cc (products-turn (a .a .now) (a .b .now) (a .j) (a .end) (l .k) (l .sum) (c .before .before .loop-test .taken)))
 
--- src/lib.rt:60:1
 returns : tie.Need-returns Inv-loop μ-loop
 returns c =
     let l = c .before .loop in

@@ -1,6 +1,5 @@
 -- `prototype` meets its contract: each place is filled with its value. Assumes nothing.
 use borrow.Author.Needs.{needs}
-use native.Mathlib.Omega.{arith}
 use Prim.Native.Nat.{_≤_, _-_}
 use mathlib.Core.Path.{_≡_}
 use lib.ListN.{length, replicate, length-set}
@@ -10,9 +9,6 @@ use Rattle.pulse_shape.specs.Prototype.{prototypeOf}
 use Rattle.pulse_shape.proofs.Fill.{fillFrom, fill-turn, fill-end, fill-all}
 use Rattle.pulse_shape.proofs.prototype.Statement.{statement}
 use Rattle.pulse_shape.proofs.prototype.Tie as tie
-use Rattle.pulse_shape.proofs.prototype.Reads as reads
-use Rattle.pulse_shape.proofs.prototype.Lts as lts
-use Rattle.pulse_shape.proofs.convolve_at.Reads as convolve-at-reads
 
 abbrev Inv-loop : tie.InvT-loop
 Inv-loop pulse lowpass out₀ j₀ out j =
@@ -21,38 +17,30 @@ Inv-loop pulse lowpass out₀ j₀ out j =
 abbrev μ-loop : tie.MeasureT-loop
 μ-loop pulse lowpass out₀ j₀ out j = 1792 - j
 
--- src/lib.rt:102:5
 loop-holds : tie.Need-loop-holds Inv-loop μ-loop
 loop-holds c = search needs
 
--- src/lib.rt:103:18
 convolve-at-requires : tie.Need-convolve-at-requires Inv-loop μ-loop
 convolve-at-requires c κs = search needs
 
--- src/lib.rt:103:9
 mul-out : tie.Need-mul-out Inv-loop μ-loop
 mul-out c = search needs
 
--- src/lib.rt:103:9
 array-write-out : tie.Need-array-write-out Inv-loop μ-loop
 array-write-out c = search needs
 
--- src/lib.rt:104:13
 add-j : tie.Need-add-j Inv-loop μ-loop
 add-j c = search needs
 
--- src/lib.rt:102:5
 loop-less : tie.Need-loop-less Inv-loop μ-loop
 loop-less c = search needs
 
--- src/lib.rt:102:5
 loop-again : tie.Need-loop-again Inv-loop μ-loop
 loop-again c =
     let l = c .before .before .loop in
     let a = c .before .before .before .before .before .args in
     (search needs, simp length-set (search needs), cc (fill-turn (convolveAt (a .pulse .now) (a .lowpass .now)) 1792 (l .out) (l .j) (c .before .loop-test .taken)))
 
--- src/lib.rt:97:1
 returns : tie.Need-returns Inv-loop μ-loop
 unfolding prototypeOf
 returns c =

@@ -1,17 +1,12 @@
-use borrow.Author.Needs.{needs}
-use native.Mathlib.Omega.{arith}
+-- `within_16` meets its contract. Assumes nothing.
 use Rattle.pulse_shape.specs.Accepted.{within16}
 use Rattle.pulse_shape.proofs.within_16.Statement.{statement}
 use Rattle.pulse_shape.proofs.within_16.Tie as tie
-use Rattle.pulse_shape.proofs.within_16.Reads as reads
-use Rattle.pulse_shape.proofs.within_16.Lts as lts
 
--- src/lib.rt:127:9
 returns : tie.Need-returns
 unfolding within16
 returns c = simp (c .if1 .taken)
 
--- src/lib.rt:123:1
 returns-2 : tie.Need-returns-2
 unfolding within16
 returns-2 c = simp (c .if1 .left)

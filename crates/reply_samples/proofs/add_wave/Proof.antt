@@ -1,5 +1,6 @@
 -- `add_wave` meets its contract. The invariant: what is added and counted from here on comes to the whole. Assumes nothing.
 use borrow.Author.Needs.{needs}
+use native.Mathlib.Omega.{arith}
 use Prim.Native.Nat.{_≤_, _<_, _+_, _-_, _*_}
 use mathlib.Core.Path.{_≡_, _∙_, sym}
 use lib.ListN.{length}
@@ -44,6 +45,9 @@ returns c =
     let f = 8 * w .limit - l .n in
     (sym (stop v (w .limit) (w .step) (w .amplitude) (w .rate) f (l .memory) (l .at) (l .clock) (l .phase) (c .if1 .taken)) ∙ l .inv .3, counted (l .n) _ (waveCount w) (stop-count v (w .limit) (w .step) (w .amplitude) (w .rate) f (l .clock) (c .if1 .taken)) (l .inv .4))
 
+phase-wrap-once-f64-requires : tie.Need-phase-wrap-once-f64-requires Inv-loop μ-loop
+phase-wrap-once-f64-requires c κs = search needs
+
 value-at-requires : tie.Need-value-at-requires Inv-loop μ-loop
 value-at-requires c κs = search needs
 
@@ -53,9 +57,6 @@ sample-at-requires c κs = search needs
 add-at-requires : tie.Need-add-at-requires Inv-loop μ-loop
 add-at-requires c κs = search needs
 
-phase-wrap-once-f64-requires : tie.Need-phase-wrap-once-f64-requires Inv-loop μ-loop
-phase-wrap-once-f64-requires c κs = search needs
-
 advance-requires : tie.Need-advance-requires Inv-loop μ-loop
 advance-requires c κs = search needs
 
@@ -63,7 +64,7 @@ next-place-requires : tie.Need-next-place-requires Inv-loop μ-loop
 next-place-requires c κs = search needs
 
 add-n : tie.Need-add-n Inv-loop μ-loop
-add-n c = search needs
+add-n c = omega (arith, c .before .before .before .before .before .before .before .before .before .before .before .before .before .loop-test .taken, c .before .before .before .before .before .before .before .before .before .before .before .before .before .before .before .before .before .before .before .pre .2)
 
 loop-less : tie.Need-loop-less Inv-loop μ-loop
 loop-less c = search needs
@@ -76,8 +77,8 @@ loop-again c =
     let a = c .before .before .before .before .before .before .before .before .before .before .before .before .before .before .before .before .before .before .before .args in
     let w = a .w in
     let v = lateValue (a .prototype .now) (a .laid .now) in
-    let s = c .before .before .before .before .before .before in
-    let turned = again v (w .limit) (w .step) (w .amplitude) (w .rate) (8 * w .limit) (l .n) (l .memory) _ (l .at) _ (l .clock) _ (l .phase) _ _ _ _ (t .loop-test .taken) (i .if1 .left) (c .before .before .before .before .before .before .before .before .before .before .before .before .before .before .before .before .before .before .before .pre .2) (s .before .before .before .value-at .ensures) (s .before .before .sample-at .ensures) (s .add-at .ensures .0) (c .before .before .phase-wrap-once-f64 .ensures) (c .before .advance .ensures) (c .next-place .ensures .0) (l .inv .3) in
+    let s = c .before .before .before .before in
+    let turned = again v (w .limit) (w .step) (w .amplitude) (w .rate) (8 * w .limit) (l .n) (l .memory) _ (l .at) _ (l .clock) _ (l .phase) _ _ _ _ (t .loop-test .taken) (i .if1 .left) (c .before .before .before .before .before .before .before .before .before .before .before .before .before .before .before .before .before .before .before .pre .2) (s .before .before .before .value-at .ensures) (s .before .before .sample-at .ensures) (s .add-at .ensures .0) (c .before .before .before .before .before .before .before .before .phase-wrap-once-f64 .ensures) (c .before .advance .ensures) (c .next-place .ensures .0) (l .inv .3) in
     let count = again-count v (w .limit) (w .step) (w .amplitude) (w .rate) (8 * w .limit) (l .n) (l .clock) _ _ (t .loop-test .taken) (i .if1 .left) (c .before .before .before .before .before .before .before .before .before .before .before .before .before .before .before .before .before .before .before .pre .2) (c .before .advance .ensures) (l .inv .4) in
     (search needs, s .add-at .ensures .1, c .next-place .ensures .1, turned, count)
 
@@ -105,10 +106,10 @@ add-wave-spec =
     cast-result
     same-length
     returns
+    phase-wrap-once-f64-requires
     value-at-requires
     sample-at-requires
     add-at-requires
-    phase-wrap-once-f64-requires
     advance-requires
     next-place-requires
     add-n

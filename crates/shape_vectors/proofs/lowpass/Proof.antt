@@ -1,14 +1,10 @@
+-- `lowpass` meets its contract. Assumes nothing.
 use borrow.Author.Needs.{needs}
-use native.Mathlib.Omega.{arith}
 use Prim.Native.Nat.{_≤_, _<_, _-_}
 use mathlib.Core.Path.{_≡_}
 use lib.ListN.{length, length-set}
 use Rattle.shape_vectors.proofs.lowpass.Statement.{statement}
 use Rattle.shape_vectors.proofs.lowpass.Tie as tie
-use Rattle.shape_vectors.proofs.lowpass.Reads as reads
-use Rattle.shape_vectors.proofs.lowpass.Lts as lts
-use Rattle.shape_vectors.proofs.next.Reads as next-reads
-use Rattle.shape_vectors.proofs.tap.Reads as tap-reads
 
 abbrev Inv-loop : tie.InvT-loop
 Inv-loop seed out₀ x₀ k₀ out x k = (k ≤ 1515) × (x < 0x8000_0000) × (length out ≡ 1515)
@@ -16,39 +12,30 @@ Inv-loop seed out₀ x₀ k₀ out x k = (k ≤ 1515) × (x < 0x8000_0000) × (l
 abbrev μ-loop : tie.MeasureT-loop
 μ-loop seed out₀ x₀ k₀ out x k = 1515 - k
 
--- src/main.rt:30:5
 loop-holds : tie.Need-loop-holds Inv-loop μ-loop
 loop-holds c = search needs
 
--- src/main.rt:31:9
 next-requires : tie.Need-next-requires Inv-loop μ-loop
 next-requires c κs = search needs
 
--- src/main.rt:32:18
 tap-requires : tie.Need-tap-requires Inv-loop μ-loop
 tap-requires c κs = search needs
 
--- src/main.rt:32:9
 mul-out : tie.Need-mul-out Inv-loop μ-loop
 mul-out c = search needs
 
--- src/main.rt:32:9
 array-write-out : tie.Need-array-write-out Inv-loop μ-loop
 array-write-out c = search needs
 
--- src/main.rt:33:13
 add-k : tie.Need-add-k Inv-loop μ-loop
 add-k c = search needs
 
--- src/main.rt:30:5
 loop-less : tie.Need-loop-less Inv-loop μ-loop
 loop-less c = search needs
 
--- src/main.rt:30:5
 loop-again : tie.Need-loop-again Inv-loop μ-loop
 loop-again c = (search needs, search needs, simp length-set (search needs))
 
--- src/main.rt:24:1
 returns : tie.Need-returns Inv-loop μ-loop
 returns c = search needs
 

@@ -1,12 +1,9 @@
+-- `values_digest` meets its contract. Assumes nothing.
 use borrow.Author.Needs.{needs}
-use native.Mathlib.Omega.{arith}
 use Prim.Native.Nat.{_≤_, _<_, _-_}
 use lib.ListN.{length}
 use Rattle.shape_vectors.proofs.values_digest.Statement.{statement}
 use Rattle.shape_vectors.proofs.values_digest.Tie as tie
-use Rattle.shape_vectors.proofs.values_digest.Reads as reads
-use Rattle.shape_vectors.proofs.values_digest.Lts as lts
-use Rattle.shape_vectors.proofs.fold_f32.Reads as fold-f32-reads
 
 abbrev Inv-loop : tie.InvT-loop
 Inv-loop values start digest₀ k₀ digest k = (k ≤ length values) × (digest < 0x100_0000_0000_0000)
@@ -14,35 +11,27 @@ Inv-loop values start digest₀ k₀ digest k = (k ≤ length values) × (digest
 abbrev μ-loop : tie.MeasureT-loop
 μ-loop values start digest₀ k₀ digest k = length values - k
 
--- src/main.rt:73:5
 loop-holds : tie.Need-loop-holds Inv-loop μ-loop
 loop-holds c = search needs
 
--- src/main.rt:74:35
 mul-fold-f32 : tie.Need-mul-fold-f32 Inv-loop μ-loop
 mul-fold-f32 c = search needs
 
--- src/main.rt:74:35
 shared-slice-read-fold-f32 : tie.Need-shared-slice-read-fold-f32 Inv-loop μ-loop
 shared-slice-read-fold-f32 c = search needs
 
--- src/main.rt:74:9
 fold-f32-requires : tie.Need-fold-f32-requires Inv-loop μ-loop
 fold-f32-requires c κs = search needs
 
--- src/main.rt:75:13
 add-k : tie.Need-add-k Inv-loop μ-loop
 add-k c = search needs
 
--- src/main.rt:73:5
 loop-less : tie.Need-loop-less Inv-loop μ-loop
 loop-less c = search needs
 
--- src/main.rt:73:5
 loop-again : tie.Need-loop-again Inv-loop μ-loop
 loop-again c = search needs
 
--- src/main.rt:67:1
 returns : tie.Need-returns Inv-loop μ-loop
 returns c = search needs
 
