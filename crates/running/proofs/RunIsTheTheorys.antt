@@ -1,10 +1,8 @@
 -- `run-is`: with working memory and prototypes of their lengths, a run call is the theory's `machineRun`, refused or not, on the flat buffers. Assumes nothing.
-use mathlib.Core.Path.{_≡_, refl, sym, ap, _∙_}
-use mathlib.Core.Bool.{Bool, false, cond, not, _||_}
+use mathlib.Core.Path.{_≡_, refl, ap, _∙_}
+use mathlib.Core.Bool.{Bool, false, cond}
 use mathlib.Core.List.{List}
 use mathlib.Core.Option.{Option, none, some}
-use Prim.Native.Nat.{ℕ}
-use lib.Dec.{eqb}
 use lib.ListN.{length}
 use lib.Ieee.{Float, nan}
 use borrow.Author.Tests.{eq-eqb}
@@ -13,7 +11,7 @@ use Rattle.call_lists.proofs.Machine as Machine
 use Rattle.call_lists.proofs.Turns.{call-state, call-result}
 use Rattle.running.specs.declared.State.{State}
 use Rattle.running.specs.Turns.{genOf}
-use Rattle.running.specs.Ended.{Left, leftBy, callLeft}
+use Rattle.running.specs.Ended.{leftBy, callLeft}
 use Rattle.running.specs.Calls.{wrongMemory, refusedBy, runBy, callRefusal, runLeft}
 use Rattle.running.specs.Handed.{machineOf, ranGiven, leftGiven}
 

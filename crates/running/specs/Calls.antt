@@ -1,5 +1,5 @@
 -- A run call, refused or not: its checks in document 01's order, and what it answers and leaves, by the theory of lists of calls. Definitions only.
-use Prim.Native.Nat.{ℕ, zero, suc, _%_}
+use Prim.Native.Nat.{ℕ, suc, _%_}
 use mathlib.Core.Bool.{Bool, false, cond, not, _||_}
 use mathlib.Core.List.{List, [], _∷_}
 use mathlib.Core.Option.{Option, none, some}

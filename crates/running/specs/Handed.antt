@@ -1,5 +1,4 @@
 -- A run call as the theory of lists of calls has it: what a call's result and the state after it stand for. Definitions only.
-use Prim.Native.Nat.{ℕ}
 use mathlib.Core.List.{List}
 use lib.Ieee.{Float, nan}
 use Rattle.call_lists.specs.PlainBench as Bench

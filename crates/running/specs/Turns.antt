@@ -6,7 +6,6 @@ use mathlib.Core.Path.{_≡_}
 use lib.ListN.{length, drop}
 use lib.Ieee.{Float, nan}
 use Rattle.call_lists.specs.Generator.{Generator}
-use Rattle.call_lists.proofs.Machine as Machine
 use Rattle.call_lists.proofs.Turns as Theory
 use Rattle.call_lists.proofs.Plans.{Within}
 use Rattle.call_lists.proofs.Batched.{turnFuel}

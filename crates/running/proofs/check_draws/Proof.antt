@@ -4,29 +4,20 @@ use mathlib.Core.List.{[]}
 use Rattle.running.specs.Calls.{faultRead}
 use Rattle.running.proofs.Refusing.{jump-refused, no-jump}
 use borrow.Author.Needs.{needs}
-use native.Mathlib.Omega.{arith}
 use Rattle.running.proofs.check_draws.Statement.{statement}
 use Rattle.running.proofs.check_draws.Tie as tie
-use Rattle.running.proofs.check_draws.Reads as reads
-use Rattle.running.proofs.check_draws.Lts as lts
-use Rattle.draw.proofs.first_fault.Reads as first-fault-reads
-use Rattle.running.proofs.jumps_back.Reads as jumps-back-reads
 
--- src/lib.rt:503:8
 jumps-back-requires : tie.Need-jumps-back-requires
 jumps-back-requires c κs = search needs
 
--- src/lib.rt:504:9
 returns : tie.Need-returns
 returns c =
     let a = c .before .before .before .args in
     jump-refused (a .s) [] [] [] (a .draws .now) [] [] [] (sym (c .before .jumps-back .ensures) ∙ c .if1 .taken)
 
--- src/lib.rt:508:5
 first-fault-requires : tie.Need-first-fault-requires
 first-fault-requires c κs = search needs
 
--- src/lib.rt:500:1
 returns-2 : tie.Need-returns-2
 returns-2 c =
     let a = c .before .before .before .before .before .before .args in

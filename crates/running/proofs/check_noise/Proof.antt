@@ -6,12 +6,8 @@ use borrow.Author.Tests.{not-true, not-false}
 use Rattle.running.specs.Calls.{loudFrom}
 use Rattle.running.proofs.Refusing.{loud-at, loud-on, loud-end}
 use borrow.Author.Needs.{needs}
-use native.Mathlib.Omega.{arith}
 use Rattle.running.proofs.check_noise.Statement.{statement}
 use Rattle.running.proofs.check_noise.Tie as tie
-use Rattle.running.proofs.check_noise.Reads as reads
-use Rattle.running.proofs.check_noise.Lts as lts
-use Rattle.float_bits.proofs.within_f32.Reads as within-f32-reads
 
 abbrev Inv-loop : tie.InvT-loop
 Inv-loop noise k₀ k = (k ≤ length noise) × (loudFrom k (drop k noise) ≡ loudFrom 0 noise)
@@ -19,43 +15,34 @@ Inv-loop noise k₀ k = (k ≤ length noise) × (loudFrom k (drop k noise) ≡ l
 abbrev μ-loop : tie.MeasureT-loop
 μ-loop noise k₀ k = length noise - k
 
--- src/lib.rt:516:5
 loop-holds : tie.Need-loop-holds Inv-loop μ-loop
 loop-holds c = (search needs, refl)
 
--- src/lib.rt:517:36
 mul-within-f32 : tie.Need-mul-within-f32 Inv-loop μ-loop
 mul-within-f32 c = search needs
 
--- src/lib.rt:517:36
 shared-slice-read-within-f32 : tie.Need-shared-slice-read-within-f32 Inv-loop μ-loop
 shared-slice-read-within-f32 c = search needs
 
--- src/lib.rt:517:13
 within-f32-requires : tie.Need-within-f32-requires Inv-loop μ-loop
 within-f32-requires c κs = search needs
 
--- src/lib.rt:518:13
 returns : tie.Need-returns Inv-loop μ-loop
 returns c =
     let l = c .before .before .before .before .loop in
     loud-at (c .before .before .before .before .before .before .args .noise .now) (l .k) (c .before .before .before .loop-test .taken) (sym (c .before .within-f32 .ensures) ∙ not-true _ (c .if1 .taken)) ∙ l .inv .1
 
--- src/lib.rt:520:13
 add-k : tie.Need-add-k Inv-loop μ-loop
 add-k c = search needs
 
--- src/lib.rt:516:5
 loop-less : tie.Need-loop-less Inv-loop μ-loop
 loop-less c = search needs
 
--- src/lib.rt:516:5
 loop-again : tie.Need-loop-again Inv-loop μ-loop
 loop-again c =
     let l = c .before .before .before .before .loop in
     (search needs, loud-on (c .before .before .before .before .before .before .args .noise .now) (l .k) (c .before .before .before .loop-test .taken) (sym (c .before .within-f32 .ensures) ∙ not-false _ (c .if1 .left)) ∙ l .inv .1)
 
--- src/lib.rt:512:1
 returns-2 : tie.Need-returns-2 Inv-loop μ-loop
 returns-2 c =
     let l = c .before .loop in

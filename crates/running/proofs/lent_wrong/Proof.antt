@@ -1,43 +1,33 @@
 -- `lent_wrong` meets its contract, test by test. Assumes nothing.
 use Rattle.running.proofs.Refusing.{wrong-memory, wrong-mode-s, wrong-mode-ac, no-output, odd-output, by-draws}
-use borrow.Author.Needs.{needs}
-use native.Mathlib.Omega.{arith}
 use Rattle.running.proofs.lent_wrong.Statement.{statement}
 use Rattle.running.proofs.lent_wrong.Tie as tie
-use Rattle.running.proofs.lent_wrong.Reads as reads
-use Rattle.running.proofs.lent_wrong.Lts as lts
 
--- src/lib.rt:472:9
 returns : tie.Need-returns
 returns c =
     let a = c .before .args in
     wrong-memory (a .memory) (a .mode-s) (a .mode-ac) (a .output) (a .draws) (c .if1 .taken)
 
--- src/lib.rt:475:9
 returns-2 : tie.Need-returns-2
 returns-2 c =
     let a = c .before .before .args in
     wrong-mode-s (a .memory) (a .mode-s) (a .mode-ac) (a .output) (a .draws) (c .before .if1 .left) (c .if2 .taken)
 
--- src/lib.rt:478:9
 returns-3 : tie.Need-returns-3
 returns-3 c =
     let a = c .before .before .before .args in
     wrong-mode-ac (a .memory) (a .mode-s) (a .mode-ac) (a .output) (a .draws) (c .before .before .if1 .left) (c .before .if2 .left) (c .if3 .taken)
 
--- src/lib.rt:481:9
 returns-4 : tie.Need-returns-4
 returns-4 c =
     let a = c .before .before .before .before .args in
     no-output (a .memory) (a .mode-s) (a .mode-ac) (a .output) (a .draws) (c .before .before .before .if1 .left) (c .before .before .if2 .left) (c .before .if3 .left) (c .if4 .taken)
 
--- src/lib.rt:484:9
 returns-5 : tie.Need-returns-5
 returns-5 c =
     let a = c .before .before .before .before .before .args in
     odd-output (a .memory) (a .mode-s) (a .mode-ac) (a .output) (a .draws) (c .before .before .before .before .if1 .left) (c .before .before .before .if2 .left) (c .before .before .if3 .left) (c .before .if4 .left) (c .if5 .taken)
 
--- src/lib.rt:468:1
 returns-6 : tie.Need-returns-6
 returns-6 c =
     let a = c .before .before .before .before .before .args in

@@ -3,44 +3,29 @@ use mathlib.Core.Path.{sym, _∙_}
 use lib.ListN.{length}
 use Rattle.running.proofs.Refusing.{lent-refused, draw-refused, noise-refused, not-refused, right-memory}
 use borrow.Author.Needs.{needs}
-use native.Mathlib.Omega.{arith}
 use Rattle.running.proofs.run.Statement.{statement}
 use Rattle.running.proofs.run.Tie as tie
-use Rattle.running.proofs.run.Reads as reads
-use Rattle.running.proofs.run.Lts as lts
-use Rattle.running.proofs.check_draws.Reads as check-draws-reads
-use Rattle.running.proofs.check_noise.Reads as check-noise-reads
-use Rattle.running.proofs.lent_wrong.Reads as lent-wrong-reads
-use Rattle.running.proofs.refused.Reads as refused-reads
-use Rattle.running.proofs.steps.Reads as steps-reads
 
--- src/lib.rt:553:8
 lent-wrong-requires : tie.Need-lent-wrong-requires
 lent-wrong-requires c κs = search needs
 
--- src/lib.rt:554:9
 refused-requires : tie.Need-refused-requires
 refused-requires c κs = search needs
 
--- src/lib.rt:554:9
 returns : tie.Need-returns
 returns c =
     let a = c .before .before .before .before .before .before .before .before .before .before .args in
     lent-refused (a .s) (a .mode-s .now) (a .mode-ac .now) (a .memory .now) (a .draws .now) (a .noise .now) (a .output .now) (a .records .now) (sym (c .before .before .lent-wrong .ensures) ∙ c .before .if1 .taken) _ (c .refused .ensures)
 
--- src/lib.rt:556:9
 check-draws-requires : tie.Need-check-draws-requires
 check-draws-requires c κs = search needs
 
--- src/lib.rt:557:22
 enum-known-fault : tie.Need-enum-known-fault
 enum-known-fault c = search needs
 
--- src/lib.rt:558:9
 refused-requires-2 : tie.Need-refused-requires-2
 refused-requires-2 c κs = search needs
 
--- src/lib.rt:558:9
 returns-2 : tie.Need-returns-2
 returns-2 c =
     let a = c .before .before .before .before .before .before .before .before .before .before .before .before .before .before .args in
@@ -49,19 +34,15 @@ returns-2 c =
 enum-told : tie.Need-enum-told
 enum-told c = search needs
 
--- src/lib.rt:560:9
 check-noise-requires : tie.Need-check-noise-requires
 check-noise-requires c κs = search needs
 
--- src/lib.rt:561:21
 enum-known-loud : tie.Need-enum-known-loud
 enum-known-loud c = search needs
 
--- src/lib.rt:562:9
 refused-requires-3 : tie.Need-refused-requires-3
 refused-requires-3 c κs = search needs
 
--- src/lib.rt:562:9
 returns-3 : tie.Need-returns-3
 returns-3 c =
     let a = c .before .before .before .before .before .before .before .before .before .before .before .before .before .before .before .before .before .args in
@@ -70,25 +51,20 @@ returns-3 c =
 enum-told-2 : tie.Need-enum-told-2
 enum-told-2 c = search needs
 
--- src/lib.rt:564:5
 steps-requires : tie.Need-steps-requires
 steps-requires c κs =
     let a = c .before .before .before .before .before .before .before .before .before .before .before .before .before .before .before .before .before .before .args in
     right-memory (length (a .memory .now)) (length (a .mode-s .now)) (length (a .mode-ac .now)) (length (a .output .now)) (length (a .draws .now)) (sym (c .before .before .before .before .before .before .before .before .before .before .lent-wrong .ensures) ∙ c .before .before .before .before .before .before .before .before .before .if1 .left)
 
--- src/lib.rt:541:1
 same-length : tie.Need-same-length
 same-length c = search needs
 
--- src/lib.rt:541:1
 same-length-2 : tie.Need-same-length-2
 same-length-2 c = search needs
 
--- src/lib.rt:541:1
 same-length-3 : tie.Need-same-length-3
 same-length-3 c = search needs
 
--- src/lib.rt:541:1
 returns-4 : tie.Need-returns-4
 returns-4 c =
     let a = c .before .before .before .before .before .before .before .before .before .before .before .before .before .before .before .before .before .before .before .before .before .before .before .before .before .args in
