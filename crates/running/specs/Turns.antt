@@ -1,4 +1,4 @@
--- The code's turns, as the theory of lists of calls has them, and what a step comes to. Definitions only.
+-- The generator of a state and its prototypes (`genOf`); and the code's turns, as the theory of lists of calls has them, which only contracts within this crate cite. Definitions only.
 use Prim.Native.Nat.{ℕ, _+_, _*_, _≤_, _<_}
 use mathlib.Core.Bool.{Bool}
 use mathlib.Core.List.{List}

@@ -1,4 +1,4 @@
-// The turns of a run call: what is next, the samples that are due, a draw taken, a reply added and recorded. Each function is tied to the theory of lists of calls. Assumes nothing.
+// Run calls: the checks, and the turns, each a stop, samples that are due, or a draw. Each function is tied to the theory of lists of calls. Assumes nothing.
 ghost use mathlib.Core.Path.{_≡_};
 ghost use mathlib.Core.Bool.{false, cond, _||_};
 ghost use mathlib.Core.List.{[]};
@@ -545,7 +545,7 @@ fn refused(s: State, q: Refusal) -> Ran
     }
 }
 
-// A run call: refused, or its turns until one stops it. Not refused, what it is lent holds what it writes; a refusal changes neither the state nor any lent buffer.
+// A run call: refused, or its turns until one stops it. A refusal changes neither the state nor any lent buffer.
 pub fn run(
     s: State,
     mode_s: &[f32],
