@@ -6,3 +6,5 @@ pub mod Said
 pub mod Going
 pub mod Refusing
 pub mod RunIsTheTheorys
+pub mod MemoryKept
+pub mod RunsAreTheTheorys
