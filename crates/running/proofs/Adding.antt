@@ -2,17 +2,15 @@
 use mathlib.Core.Path.{_≡_, refl, sym, ap, _∙_, subst}
 use mathlib.Core.Bool.{Bool, true, cond}
 use mathlib.Core.List.{List, [], _∷_, map, append-assoc}
-use Prim.Native.Nat.{ℕ, suc, _+_, _%_, _≤_, _<_}
+use Prim.Native.Nat.{ℕ, _+_, _%_, _≤_, _<_}
 use native.Mathlib.Nat.{mod-lt}
 use native.Mathlib.Numerals.{add-one}
-use native.Mathlib.Omega.{arith}
 use lib.Dec.{lit<}
 use lib.ListN.{length, take, drop, length-map}
 use lib.Ieee.{Float, nan}
 use borrow.Author.Tests.{le-leb, eq-eqb, lt-ltb}
 use Rattle.constants.specs.Rate.{four}
 use Rattle.le_bytes.specs.LeBytes as LeBytes
-use Rattle.call_lists.specs.Generator.{Pair}
 use Rattle.call_lists.proofs.Machine.{put}
 use Rattle.call_lists.proofs.FlatLists.{laid}
 use Rattle.message.specs.Types.{typeNumbered}
@@ -25,7 +23,7 @@ use Rattle.record.specs.Record.{recordBytes, recordAt}
 use Rattle.record.proofs.RecordLength.{record-length}
 use Rattle.reply_samples.specs.declared.Sample.{Sample}
 use Rattle.reply_samples.specs.Samples.{replySamples, replyCount}
-use Rattle.reply_samples.specs.Added.{addedAt, nextPlace, addedFrom, isPlace, addedReply, addedCount}
+use Rattle.reply_samples.specs.Added.{addedAt, addedFrom, isPlace, addedReply, addedCount}
 use Rattle.reply_samples.proofs.Ring.{next-ring}
 use Rattle.reply_samples.proofs.Counts.{samples-counted}
 use Rattle.generator.specs.Real.{pairOf, Filters, real}

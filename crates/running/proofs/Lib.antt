@@ -4,3 +4,7 @@ pub mod Adding
 pub mod Writing
 pub mod Said
 pub mod Going
+pub mod Refusing
+pub mod RunIsTheTheorys
+pub mod MemoryKept
+pub mod RunsAreTheTheorys

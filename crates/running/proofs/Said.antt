@@ -1,6 +1,6 @@
 -- What the plan of a turn tells of the buffers, and what doing it leaves of the rest of the call: each arm of `step`. Assumes nothing.
 use mathlib.Core.Path.{_≡_, refl, sym, ap, _∙_, subst}
-use mathlib.Core.Bool.{Bool, true}
+use mathlib.Core.Bool.{true}
 use mathlib.Core.List.{List, map}
 use Prim.Native.Nat.{ℕ, _+_, _-_, _*_, _%_}
 use native.Mathlib.Omega.{arith}
@@ -9,7 +9,7 @@ use lib.ListN.{length, take, drop}
 use lib.Ieee.{Float, nan}
 use Rattle.constants.specs.Rate.{four}
 use Rattle.call_lists.specs.Generator.{Generator}
-use Rattle.call_lists.specs.PlainRun.{ignored, ends, reply}
+use Rattle.call_lists.specs.PlainRun.{ignored, ends}
 use Rattle.call_lists.specs.PlainBench as Bench
 use Rattle.call_lists.proofs.Machine.{later, put}
 use Rattle.call_lists.proofs.FlatLists.{laid}
@@ -28,8 +28,7 @@ use Rattle.running.specs.declared.State.{State}
 use Rattle.running.specs.declared.Turn.{Turn}
 use Rattle.running.specs.declared.Stop as Stop
 use Rattle.running.specs.declared.Plan as Plan
-use Rattle.running.specs.declared.Next as Next
-use Rattle.running.specs.Plans.{stopRead, planRead, chosen}
+use Rattle.running.specs.Plans.{planRead, chosen}
 use Rattle.running.specs.Turns.{filtersOf, genOf, wroteBy, tookBy, haltedBy, Inside, turnRead, restAfter, Went, StepSays}
 use Rattle.running.proofs.Adding.{added-put, counts, line-length}
 

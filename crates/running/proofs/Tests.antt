@@ -8,9 +8,8 @@ use lib.IntN.{ℤ, pos, negsuc}
 use lib.ListN.{length}
 use lib.Ieee.{Float}
 use borrow.Author.Tests.{lt-ltb, le-ltb}
-use Rattle.call_lists.specs.Generator.{Start, negative, from}
+use Rattle.call_lists.specs.Generator.{from}
 use Rattle.call_lists.specs.PlainRun.{Kind, kindOf}
-use Rattle.call_lists.specs.PlainBench as Bench
 use Rattle.call_lists.proofs.Plans as Theory
 use Rattle.generator.specs.Real.{startFrom}
 use Rattle.draw.specs.Draw.{drawAt}

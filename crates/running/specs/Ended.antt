@@ -3,7 +3,6 @@ use Prim.Native.Nat.{ℕ, _*_}
 use mathlib.Core.List.{List}
 use lib.Ieee.{Float, nan}
 use Rattle.call_lists.specs.PlainBench as Bench
-use Rattle.call_lists.proofs.Machine as Machine
 use Rattle.call_lists.proofs.Turns as Theory
 use Rattle.running.specs.declared.State.{State}
 use Rattle.running.specs.declared.Turn.{Turn}

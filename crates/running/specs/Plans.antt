@@ -1,4 +1,4 @@
--- The code's stops and plans, as the theory of lists of calls has them. Definitions only.
+-- The code's stops and plans, as the theory of lists of calls has them: what functions within this crate give. No public contract cites this file. Definitions only.
 use Prim.Native.Nat.{ℕ}
 use mathlib.Core.Bool.{Bool, true, false}
 use mathlib.Core.List.{List}

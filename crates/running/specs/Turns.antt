@@ -1,4 +1,4 @@
--- The code's turns, as the theory of lists of calls has them, and what a step comes to. Definitions only.
+-- The generator of a state and its prototypes (`genOf`); and the code's turns, as the theory of lists of calls has them, which only contracts within this crate cite. Definitions only.
 use Prim.Native.Nat.{ℕ, _+_, _*_, _≤_, _<_}
 use mathlib.Core.Bool.{Bool}
 use mathlib.Core.List.{List}
@@ -6,7 +6,6 @@ use mathlib.Core.Path.{_≡_}
 use lib.ListN.{length, drop}
 use lib.Ieee.{Float, nan}
 use Rattle.call_lists.specs.Generator.{Generator}
-use Rattle.call_lists.proofs.Machine as Machine
 use Rattle.call_lists.proofs.Turns as Theory
 use Rattle.call_lists.proofs.Plans.{Within}
 use Rattle.call_lists.proofs.Batched.{turnFuel}

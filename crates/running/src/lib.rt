@@ -1,12 +1,15 @@
-// The turns of a run call: what is next, the samples that are due, a draw taken, a reply added and recorded. Each function is tied to the theory of lists of calls. Assumes nothing.
+// Run calls: the checks, and the turns, each a stop, samples that are due, or a draw. Each function is tied to the theory of lists of calls. Assumes nothing.
 ghost use mathlib.Core.Path.{_≡_};
-ghost use mathlib.Core.Bool.{false, cond};
+ghost use mathlib.Core.Bool.{false, cond, _||_};
+ghost use mathlib.Core.List.{[]};
+ghost use mathlib.Core.Option.{some};
 ghost use Prim.Native.Nat.{_+_, _-_, _*_, _%_, _≤_, _<_, _^_, min};
 ghost use lib.IntN.{pos};
 ghost use lib.ListN.{length, take, drop};
 ghost use lib.Ieee.{lt, nan};
 ghost use Rattle.constants.specs.Rate.{four};
 ghost use Rattle.call_lists.specs.PlainRun.{kindOf};
+ghost use Rattle.call_lists.specs.PlainBench.{drawRefusal, drawsOf};
 ghost use Rattle.call_lists.proofs.FlatLists.{laid};
 ghost use Rattle.call_lists.proofs.Plans.{planEnded, planReply, planDraw, stopFor, someOr, dueMany};
 ghost use Rattle.due_samples.specs.Due.{samplesOf, clearOf};
@@ -18,7 +21,9 @@ ghost use Rattle.record.specs.Record.{recordBytes};
 ghost use Rattle.generator.specs.Real.{startFrom};
 ghost use Rattle.running.specs.Plans.{counted, stopRead, planRead, isNegative, chosen};
 ghost use Rattle.running.specs.Ended.{firstBy, ranBy, callLeft};
+ghost use Rattle.running.specs.Calls.{wrongMemory, wrongBuffers, jumpOf, loudFrom, loudRead, faultRead, refusedBy, runLeft};
 ghost use Rattle.running.specs.Turns.{Inside, wroteBy, tookBy, haltedBy, turnRead, restAfter, genOf, StepSays};
+use draw::Fault;
 use message_config::Delays;
 use refusals::Refusal;
 use settings::Distributions;
@@ -459,4 +464,116 @@ fn steps(
             }
         }
     }
+}
+
+// The place of the first noise value at fault, or none.
+pub enum Loud {
+    Quiet,
+    At(u64),
+}
+
+// Refusal 9.
+fn lent_wrong(memory: usize, mode_s: usize, mode_ac: usize, output: usize, draws: usize) -> bool
+    ensures { λ r. ⌜ r ≡ (wrongMemory memory «mode_s» «mode_ac» || wrongBuffers output draws) ⌝ }
+{
+    if memory != 2252 {
+        return true;
+    }
+    if mode_s != 1792 {
+        return true;
+    }
+    if mode_ac != 1792 {
+        return true;
+    }
+    if output == 0 {
+        return true;
+    }
+    if output % 2 != 0 {
+        return true;
+    }
+    draws % 65 != 0
+}
+
+// A first lent draw jumps back.
+fn jumps_back(time: f64, latest: f64, draws: &[u8]) -> bool
+    ensures { λ r. ⌜ r ≡ jumpOf time latest (now (draws .entry)) ⌝ }
+{
+    if draws.len() < 65 {
+        return false;
+    }
+    draw::time_after(time, draws) < latest
+}
+
+// Refusal 7: a first draw that jumps back, or the first draw and field at fault.
+fn check_draws(s: State, draws: &[u8]) -> Fault
+    ensures { λ r. ⌜ faultRead r ≡ drawRefusal (genOf s [] []) (s .time) (some (s .latest)) (drawsOf (genOf s [] []) (now (draws .entry))) ⌝ }
+{
+    if jumps_back(s.time, s.latest, draws) {
+        return Fault::At(0, 0);
+    }
+    let rates = s.rates;
+    let all = s.distributions;
+    draw::first_fault(draws, rates, all)
+}
+
+// Refusal 8.
+fn check_noise(noise: &[f32]) -> Loud
+    ensures { λ r. ⌜ loudRead r ≡ loudFrom 0 (now (noise .entry)) ⌝ }
+{
+    let mut k: usize = 0;
+    while k < noise.len() {
+        if !float_bits::within_f32(noise[k], 64.0) {
+            return Loud::At(k as u64);
+        }
+        k = k + 1;
+    }
+    Loud::Quiet
+}
+
+fn refused(s: State, q: Refusal) -> Ran
+    ensures { λ r. ⌜ r ≡ refusedBy s q ⌝ }
+{
+    Ran {
+        state: s,
+        counts: Counts {
+            taken: 0,
+            samples: 0,
+            noise: 0,
+            records: 0,
+        },
+        answer: Answer::Refused(q),
+    }
+}
+
+// A run call: refused, or its turns until one stops it. A refusal changes neither the state nor any lent buffer.
+pub fn run(
+    s: State,
+    mode_s: &[f32],
+    mode_ac: &[f32],
+    memory: &mut [f32],
+    draws: &[u8],
+    noise: &[f32],
+    output: &mut [f32],
+    records: &mut [u8],
+) -> Ran
+    ensures { λ r. ⌜ record { ran = r; memory = now (memory .exit); output = now (output .exit); records = now (records .exit) } ≡ runLeft s (now («mode_s» .entry)) (now («mode_ac» .entry)) (now (memory .entry)) (now (draws .entry)) (now (noise .entry)) (now (output .entry)) (now (records .entry)) ⌝ }
+{
+    if lent_wrong(
+        memory.len(),
+        mode_s.len(),
+        mode_ac.len(),
+        output.len(),
+        draws.len(),
+    ) {
+        return refused(s, Refusal::Lent);
+    }
+    let fault = check_draws(s, draws);
+    if let Fault::At(k, n) = fault {
+        return refused(s, Refusal::Draw(k, n));
+    }
+    let loud = check_noise(noise);
+    if let Loud::At(p) = loud {
+        return refused(s, Refusal::Noise(p));
+    }
+    steps(s, mode_s, mode_ac, memory, draws, noise, output, records)
 }

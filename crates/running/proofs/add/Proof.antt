@@ -1,46 +1,30 @@
 -- `add` meets its contract: the theory's `put` and `entry`, from what the calls give. Assumes nothing.
 use Rattle.running.proofs.Adding.{added-by, recorded-by}
 use borrow.Author.Needs.{needs}
-use native.Mathlib.Omega.{arith}
 use Rattle.running.proofs.add.Statement.{statement}
 use Rattle.running.proofs.add.Tie as tie
-use Rattle.running.proofs.add.Reads as reads
-use Rattle.running.proofs.add.Lts as lts
-use Rattle.draw.proofs.config.Reads as config-reads
-use Rattle.draw.proofs.read.Reads as read-reads
-use Rattle.record.proofs.put.Reads as put-reads
-use Rattle.reply_samples.proofs.add_reply.Reads as add-reply-reads
-use Rattle.running.proofs.ring.Reads as ring-reads
 
--- src/lib.rt:271:9
 read-requires : tie.Need-read-requires
 read-requires c κs = search needs
 
--- src/lib.rt:274:9
 config-requires : tie.Need-config-requires
 config-requires c κs = search needs
 
--- src/lib.rt:282:9
 ring-requires : tie.Need-ring-requires
 ring-requires c κs = search needs
 
--- src/lib.rt:275:9
 add-reply-requires : tie.Need-add-reply-requires
 add-reply-requires c κs = search needs
 
--- src/lib.rt:284:5
 put-requires : tie.Need-put-requires
 put-requires c κs = search needs
 
--- src/lib.rt:257:1
 same-length : tie.Need-same-length
 same-length c = search needs
 
--- src/lib.rt:257:1
 same-length-2 : tie.Need-same-length-2
 same-length-2 c = search needs
 
--- src/lib.rt:257:1
 returns : tie.Need-returns
 returns c =
     let a = c .before .before .before .before .before .before .before .before .before .before .before .before .before .before .before .before .before .before .args in

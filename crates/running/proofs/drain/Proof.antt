@@ -1,37 +1,26 @@
 -- `drain` meets its contract: `planEnded`, test by test. Assumes nothing.
 use Rattle.running.proofs.Tests.{done, drain-stops, drain-many}
 use borrow.Author.Needs.{needs}
-use native.Mathlib.Omega.{arith}
 use Rattle.running.proofs.drain.Statement.{statement}
 use Rattle.running.proofs.drain.Tie as tie
-use Rattle.running.proofs.drain.Reads as reads
-use Rattle.running.proofs.drain.Lts as lts
-use Rattle.running.proofs.batch.Reads as batch-reads
-use Rattle.running.proofs.stop_for.Reads as stop-for-reads
 
--- src/lib.rt:93:9
 returns : tie.Need-returns
 returns c = let a = c .before .args in done (a .total) (a .written) (a .room) (a .noise) (c .if1 .taken)
 
--- src/lib.rt:95:19
 sub-batch : tie.Need-sub-batch
 sub-batch c = search needs
 
--- src/lib.rt:95:9
 batch-requires : tie.Need-batch-requires
 batch-requires c κs = search needs
 
--- src/lib.rt:97:13
 stop-for-requires : tie.Need-stop-for-requires
 stop-for-requires c κs = search needs
 
--- src/lib.rt:98:9
 returns-2 : tie.Need-returns-2
 returns-2 c =
     let a = c .before .before .before .before .args in
     drain-stops (a .total) (a .written) (a .room) (a .noise) _ (c .before .before .before .if1 .left) (c .before .before .batch .ensures) _ (c .before .if2 .taken) (c .stop-for .ensures)
 
--- src/lib.rt:89:1
 returns-3 : tie.Need-returns-3
 returns-3 c =
     let a = c .before .before .before .args in

@@ -2,29 +2,20 @@
 use Rattle.call_lists.proofs.Plans.{dueMany}
 use Rattle.running.proofs.Tests.{stops, dues}
 use borrow.Author.Needs.{needs}
-use native.Mathlib.Omega.{arith}
 use Rattle.running.proofs.due.Statement.{statement}
 use Rattle.running.proofs.due.Tie as tie
-use Rattle.running.proofs.due.Reads as reads
-use Rattle.running.proofs.due.Lts as lts
-use Rattle.running.proofs.batch.Reads as batch-reads
-use Rattle.running.proofs.stop_for.Reads as stop-for-reads
 
--- src/lib.rt:120:9
 batch-requires : tie.Need-batch-requires
 batch-requires c κs = search needs
 
--- src/lib.rt:122:13
 stop-for-requires : tie.Need-stop-for-requires
 stop-for-requires c κs = search needs
 
--- src/lib.rt:123:9
 returns : tie.Need-returns
 returns c =
     let a = c .before .before .before .args in
     stops (λ k. dueMany k (a .time)) _ _ (a .room) _ (c .before .before .batch .ensures) (c .before .if1 .taken) (c .stop-for .ensures)
 
--- src/lib.rt:117:1
 returns-2 : tie.Need-returns-2
 returns-2 c = let a = c .before .before .args in dues _ _ (a .room) (a .time) (c .before .batch .ensures) (c .if1 .left)
 

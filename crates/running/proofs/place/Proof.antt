@@ -4,44 +4,31 @@ use mir.Facts.{toZ-ofZ}
 use Rattle.running.specs.Plans.{isNegative}
 use Rattle.running.proofs.Tests.{skips, ends-run, replies}
 use borrow.Author.Needs.{needs}
-use native.Mathlib.Omega.{arith}
 use Rattle.running.proofs.place.Statement.{statement}
 use Rattle.running.proofs.place.Tie as tie
-use Rattle.running.proofs.place.Reads as reads
-use Rattle.running.proofs.place.Lts as lts
-use Rattle.running.proofs.negative.Reads as negative-reads
-use Rattle.running.proofs.reply.Reads as reply-reads
-use Rattle.running.proofs.sample_number.Reads as sample-number-reads
 
--- src/lib.rt:168:8
 negative-requires : tie.Need-negative-requires
 negative-requires c κs = search needs
 
--- src/lib.rt:169:9
 returns : tie.Need-returns
 returns c =
     let a = c .before .before .args in
     skips (a .total) (a .written) (a .time) (a .start) (a .room) (a .noise) (a .bytes) (sym (c .if1 .taken) ∙ c .before .negative .ensures ∙ ap isNegative (toZ-ofZ (c .before .before .fits .start)))
 
--- src/lib.rt:171:9
 sample-number-requires : tie.Need-sample-number-requires
 sample-number-requires c κs = sym (c .before .negative .ensures) ∙ c .if1 .left
 
--- src/lib.rt:172:17
 add-if2 : tie.Need-add-if2
 add-if2 c = search needs
 
--- src/lib.rt:173:9
 returns-2 : tie.Need-returns-2
 returns-2 c =
     let a = c .before .before .before .before .args in
     ends-run (a .total) (a .written) (a .time) (a .start) (a .room) (a .noise) (a .bytes) _ (sym (toZ-ofZ (c .before .before .before .before .fits .start)) ∙ c .before .sample-number .ensures .0) (c .if2 .taken)
 
--- src/lib.rt:175:5
 reply-requires : tie.Need-reply-requires
 reply-requires c κs = search needs
 
--- src/lib.rt:157:1
 returns-3 : tie.Need-returns-3
 returns-3 c =
     let a = c .before .before .before .before .before .args in

@@ -1,17 +1,11 @@
 -- `sample_number` meets its contract. Assumes nothing.
 use Rattle.running.proofs.Signed.{castable, number-read}
-use borrow.Author.Needs.{needs}
-use native.Mathlib.Omega.{arith}
 use Rattle.running.proofs.sample_number.Statement.{statement}
 use Rattle.running.proofs.sample_number.Tie as tie
-use Rattle.running.proofs.sample_number.Reads as reads
-use Rattle.running.proofs.sample_number.Lts as lts
 
--- src/lib.rt:139:5
 cast-result : tie.Need-cast-result
 cast-result c = castable _ (c .fits .start) (c .pre)
 
--- src/lib.rt:135:1
 returns : tie.Need-returns
 returns c = number-read _ (c .fits .start) (c .pre)
 

@@ -4,176 +4,133 @@ use borrow.Author.Needs.{needs}
 use native.Mathlib.Omega.{arith}
 use Rattle.running.proofs.step.Statement.{statement}
 use Rattle.running.proofs.step.Tie as tie
-use Rattle.running.proofs.step.Reads as reads
-use Rattle.running.proofs.step.Lts as lts
-use Rattle.running.proofs.add.Reads as add-reads
-use Rattle.running.proofs.choose.Reads as choose-reads
-use Rattle.running.proofs.halted.Reads as halted-reads
-use Rattle.running.proofs.later.Reads as later-reads
-use Rattle.running.proofs.took.Reads as took-reads
-use Rattle.running.proofs.write_samples.Reads as write-samples-reads
 
--- src/lib.rt:338:24
 mul-choose : tie.Need-mul-choose
 mul-choose c = search needs
 
--- src/lib.rt:338:9
 sub-choose : tie.Need-sub-choose
 sub-choose c = search needs
 
--- src/lib.rt:339:23
 mul-choose-2 : tie.Need-mul-choose-2
 mul-choose-2 c = search needs
 
--- src/lib.rt:339:9
 sub-choose-2 : tie.Need-sub-choose-2
 sub-choose-2 c = search needs
 
--- src/lib.rt:340:25
 mul-choose-3 : tie.Need-mul-choose-3
 mul-choose-3 c = omega (arith, c .before .before .before .before .before .before .before .before .before .before)
 
--- src/lib.rt:340:9
 sub-choose-3 : tie.Need-sub-choose-3
 sub-choose-3 c = search needs
 
--- src/lib.rt:334:9
 choose-requires : tie.Need-choose-requires
 choose-requires c κs = search needs
 
--- src/lib.rt:343:20
 enum-known-p : tie.Need-enum-known-p
 enum-known-p c = search needs
 
--- src/lib.rt:343:26
 halted-requires : tie.Need-halted-requires
 halted-requires c κs = search needs
 
--- src/lib.rt:344:21
 enum-known-p-2 : tie.Need-enum-known-p-2
 enum-known-p-2 c = search needs
 
--- src/lib.rt:344:27
 write-samples-requires : tie.Need-write-samples-requires
 write-samples-requires c κs =
     let a = c .before .before .before .before .before .before .before .before .before .before .before .before .before .before .before .before .args in
     let f = drain-says (a .s) (a .mode-s .now) (a .mode-ac .now) (a .noise .now) (a .t) (a .memory .now) (a .rest .now) (a .output .now) (a .records .now) (c .before .before .before .before .before .before .before .before .before .before .before .before .before .before .before .before .pre .1) _ (c .before .before .before .before .before .choose .ensures) _ (c .before .before .before .p2 .given .1) in
     (c .before .before .before .before .before .before .before .before .before .before .before .before .before .before .before .before .pre .0, f .noise-fits, f .output-fits, omega (arith, f .below, c .before .before .before .before .before .before .before .before .before .before .before .before .before .before .before .before .pre .3))
 
--- src/lib.rt:345:19
 enum-known-p-3 : tie.Need-enum-known-p-3
 enum-known-p-3 c = search needs
 
--- src/lib.rt:346:33
 later-requires : tie.Need-later-requires
 later-requires c κs = search needs
 
--- src/lib.rt:346:13
 write-samples-requires-2 : tie.Need-write-samples-requires-2
 write-samples-requires-2 c κs =
     let a = c .before .before .before .before .before .before .before .before .before .before .before .before .before .before .before .before .before .args in
     let f = due-says (a .s) (a .mode-s .now) (a .mode-ac .now) (a .noise .now) (a .t) (a .memory .now) (a .rest .now) (a .output .now) (a .records .now) (c .before .before .before .before .before .before .before .before .before .before .before .before .before .before .before .before .before .pre .1) _ (c .before .before .before .before .before .before .choose .ensures) _ _ (c .before .before .before .before .p3 .given .1) in
     (c .before .before .before .before .before .before .before .before .before .before .before .before .before .before .before .before .before .pre .0, f .noise-fits, f .output-fits, omega (arith, f .below, c .before .before .before .before .before .before .before .before .before .before .before .before .before .before .before .before .before .pre .3))
 
--- src/lib.rt:348:20
 enum-known-p-4 : tie.Need-enum-known-p-4
 enum-known-p-4 c = search needs
 
--- src/lib.rt:348:29
 took-requires : tie.Need-took-requires
 took-requires c κs = search needs
 
--- src/lib.rt:349:19
 enum-known-p-5 : tie.Need-enum-known-p-5
 enum-known-p-5 c = search needs
 
--- src/lib.rt:349:28
 took-requires-2 : tie.Need-took-requires-2
 took-requires-2 c κs = search needs
 
--- src/lib.rt:350:19
 enum-known-p-6 : tie.Need-enum-known-p-6
 enum-known-p-6 c = search needs
 
--- src/lib.rt:352:73
 mul-add : tie.Need-mul-add
 mul-add c = omega (arith, c .before .before .before .before .before .before .before .before .before .before .before .before .before .before .before .before)
 
--- src/lib.rt:352:13
 add-requires : tie.Need-add-requires
 add-requires c κs =
     let a = c .before .before .before .before .before .before .before .before .before .before .before .before .before .before .before .before .args in
     let f = add-says (a .s) (a .mode-s .now) (a .mode-ac .now) (a .noise .now) (a .t) (a .memory .now) (a .rest .now) (a .output .now) (a .records .now) (c .before .before .before .before .before .before .before .before .before .before .before .before .before .before .before .before .pre .1) _ (c .before .before .before .before .before .choose .ensures) _ _ (c .before .before .before .p6 .given .1) in
     (c .before .before .before .before .before .before .before .before .before .before .before .before .before .before .before .before .pre .0, omega (arith, f .fits))
 
--- src/lib.rt:353:36
 add-took : tie.Need-add-took
 add-took c =
     let a = c .before .before .before .before .before .before .before .before .before .before .before .before .before .before .before .before .before .before .before .before .before .args in
     let f = add-says (a .s) (a .mode-s .now) (a .mode-ac .now) (a .noise .now) (a .t) (a .memory .now) (a .rest .now) (a .output .now) (a .records .now) (c .before .before .before .before .before .before .before .before .before .before .before .before .before .before .before .before .before .before .before .before .before .pre .1) _ (c .before .before .before .before .before .before .before .before .before .before .choose .ensures) _ _ (c .before .before .before .before .before .before .before .before .p6 .given .1) in
     omega (arith, f .fits, c .before .before .before .before .before .before .before .before .before .before .before .before .before .before .before .before .before .before .before .before .before)
 
--- src/lib.rt:353:13
 took-requires-3 : tie.Need-took-requires-3
 took-requires-3 c κs = search needs
 
--- src/lib.rt:320:1
 returns : tie.Need-returns
 returns c =
     let a = c .before .before .before .before .before .before .before .before .before .before .before .before .before .before .before .args in
     halt-says (a .s) (a .mode-s .now) (a .mode-ac .now) (a .noise .now) (a .t) (a .memory .now) (a .rest .now) (a .output .now) (a .records .now) (c .before .before .before .before .before .before .before .before .before .before .before .before .before .before .before .pre .1) _ (c .before .before .before .before .choose .ensures) _ (c .before .before .p .given .1) _ (c .halted .ensures)
 
--- src/lib.rt:320:1
 same-length : tie.Need-same-length
 same-length c = search needs
 
--- src/lib.rt:320:1
 same-length-2 : tie.Need-same-length-2
 same-length-2 c = search needs
 
--- src/lib.rt:320:1
 returns-2 : tie.Need-returns-2
 returns-2 c =
     let a = c .before .before .before .before .before .before .before .before .before .before .before .before .before .before .before .before .before .before .before .before .before .args in
     let w = c .before .before .before .before .write-samples .ensures in
     drained (a .s) (a .mode-s .now) (a .mode-ac .now) (a .noise .now) (a .t) (a .memory .now) (a .rest .now) (a .output .now) (a .records .now) (c .before .before .before .before .before .before .before .before .before .before .before .before .before .before .before .before .before .before .before .before .before .pre .1) _ (c .before .before .before .before .before .before .before .before .before .before .choose .ensures) _ (c .before .before .before .before .before .before .before .before .p2 .given .1) _ _ _ (w .0) (w .1) (w .2)
 
--- src/lib.rt:320:1
 same-length-3 : tie.Need-same-length-3
 same-length-3 c = search needs
 
--- src/lib.rt:320:1
 same-length-4 : tie.Need-same-length-4
 same-length-4 c = search needs
 
--- src/lib.rt:320:1
 returns-3 : tie.Need-returns-3
 returns-3 c =
     let a = c .before .before .before .before .before .before .before .before .before .before .before .before .before .before .before .before .before .before .before .before .before .before .args in
     let w = c .before .before .before .before .write-samples2 .ensures in
     dued (a .s) (a .mode-s .now) (a .mode-ac .now) (a .noise .now) (a .t) (a .memory .now) (a .rest .now) (a .output .now) (a .records .now) (c .before .before .before .before .before .before .before .before .before .before .before .before .before .before .before .before .before .before .before .before .before .before .pre .1) _ (c .before .before .before .before .before .before .before .before .before .before .before .choose .ensures) _ _ _ (c .before .before .before .before .before .before .before .before .before .p3 .given .1) _ _ _ (w .0) (c .before .before .before .before .before .before .before .later .ensures) (w .1) (w .2)
 
--- src/lib.rt:320:1
 returns-4 : tie.Need-returns-4
 returns-4 c =
     let a = c .before .before .before .before .before .before .before .before .before .before .before .before .before .before .before .args in
     skipped (a .s) (a .mode-s .now) (a .mode-ac .now) (a .noise .now) (a .t) (a .memory .now) (a .rest .now) (a .output .now) (a .records .now) (c .before .before .before .before .before .before .before .before .before .before .before .before .before .before .before .pre .1) _ (c .before .before .before .before .choose .ensures) _ (c .before .before .p4 .given .1) _ (c .took .ensures)
 
--- src/lib.rt:320:1
 returns-5 : tie.Need-returns-5
 returns-5 c =
     let a = c .before .before .before .before .before .before .before .before .before .before .before .before .before .before .before .args in
     ended-by (a .s) (a .mode-s .now) (a .mode-ac .now) (a .noise .now) (a .t) (a .memory .now) (a .rest .now) (a .output .now) (a .records .now) (c .before .before .before .before .before .before .before .before .before .before .before .before .before .before .before .pre .1) _ (c .before .before .before .before .choose .ensures) _ (c .before .before .p5 .given .1) _ (c .took2 .ensures)
 
--- src/lib.rt:320:1
 same-length-5 : tie.Need-same-length-5
 same-length-5 c = search needs
 
--- src/lib.rt:320:1
 same-length-6 : tie.Need-same-length-6
 same-length-6 c = search needs
 
--- src/lib.rt:320:1
 returns-6 : tie.Need-returns-6
 returns-6 c =
     let a = c .before .before .before .before .before .before .before .before .before .before .before .before .before .before .before .before .before .before .before .before .before .before .args in

@@ -1,17 +1,11 @@
 -- `stop_for` meets its contract. Assumes nothing.
 use Rattle.running.proofs.Tests.{few-room, some-room}
-use borrow.Author.Needs.{needs}
-use native.Mathlib.Omega.{arith}
 use Rattle.running.proofs.stop_for.Statement.{statement}
 use Rattle.running.proofs.stop_for.Tie as tie
-use Rattle.running.proofs.stop_for.Reads as reads
-use Rattle.running.proofs.stop_for.Lts as lts
 
--- src/lib.rt:83:9
 returns : tie.Need-returns
 returns c = few-room _ (c .if1 .taken)
 
--- src/lib.rt:79:1
 returns-2 : tie.Need-returns-2
 returns-2 c = some-room _ (c .if1 .left)
 

@@ -2,17 +2,12 @@
 use mathlib.Core.Path.{refl}
 use Rattle.running.specs.Ended.{ranBy}
 use borrow.Author.Needs.{needs}
-use native.Mathlib.Omega.{arith}
 use Rattle.running.proofs.stopped_at.Statement.{statement}
 use Rattle.running.proofs.stopped_at.Tie as tie
-use Rattle.running.proofs.stopped_at.Reads as reads
-use Rattle.running.proofs.stopped_at.Lts as lts
 
--- src/lib.rt:418:20
 mul-t8 : tie.Need-mul-t8
 mul-t8 c = search needs
 
--- src/lib.rt:397:1
 returns : tie.Need-returns
 unfolding ranBy
 returns c = refl

@@ -8,39 +8,28 @@ use borrow.Author.Needs.{needs}
 use native.Mathlib.Omega.{arith}
 use Rattle.running.proofs.write_samples.Statement.{statement}
 use Rattle.running.proofs.write_samples.Tie as tie
-use Rattle.running.proofs.write_samples.Reads as reads
-use Rattle.running.proofs.write_samples.Lts as lts
-use Rattle.due_samples.proofs.write_due.Reads as write-due-reads
 
--- src/lib.rt:226:14
 mul-at : tie.Need-mul-at
 mul-at c = search needs
 
--- src/lib.rt:227:70
 mul-write-due : tie.Need-mul-write-due
 mul-write-due c = search needs
 
--- src/lib.rt:227:5
 write-due-requires : tie.Need-write-due-requires
 write-due-requires c κs = search needs
 
--- src/lib.rt:229:18
 add-t15 : tie.Need-add-t15
 add-t15 c = search needs
 
--- src/lib.rt:234:18
 add-t13 : tie.Need-add-t13
 add-t13 c = search needs
 
--- src/lib.rt:215:1
 same-length : tie.Need-same-length
 same-length c = search needs
 
--- src/lib.rt:215:1
 same-length-2 : tie.Need-same-length-2
 same-length-2 c = search needs
 
--- src/lib.rt:215:1
 returns : tie.Need-returns
 unfolding wroteBy
 returns c =
