@@ -5,7 +5,8 @@ use mathlib.Core.Bool.{Bool, true, false, _&&_, cond}
 use mathlib.Core.List.{List}
 use lib.Dec.{T}
 use lib.ListN.{length}
-use lib.Ieee.{Float, nan, binary32, fits, lt}
+use lib.Ieee.{Float, nan, binary32, fits, ofBits, lt}
+use lib.Ieee.Bits.{ofBits-fits}
 use Rattle.constants.specs.Rate.{four}
 use Rattle.call_lists.proofs.Machine as Machine
 use Rattle.message_config_laws.proofs.InRange.{zeroF}
@@ -24,7 +25,7 @@ use Rattle.settings.specs.Settings.{settingsOf}
 use Rattle.settings.specs.Accepted.{acceptedOf}
 use Rattle.settings.proofs.InRange.{read-held}
 use Rattle.opening.specs.declared.Opened as Opened
-use Rattle.opening.specs.Opening.{Lent, firstState, lentFits, modeSDelay, modeACDelay, delaysThen, delaysOf, tapsOf, settingsThen, openedOf, leftBy}
+use Rattle.opening.specs.Opening.{Lent, half, firstState, lentFits, modeSDelay, modeACDelay, delaysThen, delaysOf, tapsOf, settingsThen, openedOf, leftBy}
 use Rattle.opening.proofs.Decided.{Fits, fits-for}
 
 -- a delay that is found is that of a prototype within 16
@@ -113,3 +114,9 @@ module _ (level : Float) (tapsS tapsAC : List Float) (bytes : List ℕ) (l : Len
         subst (λ (s : State). _≡_ {A = Machine.State (genOf s (modeSPrototype four tapsS) (modeACPrototype four tapsAC)) nan}
         (record { memory = leftBy four tapsS tapsAC (Opened.the-variants.Run s) l .memory; written = s .written; time = s .time; over = s .ended; mark = s .latest })
         (Machine.opened (genOf s (modeSPrototype four tapsS) (modeACPrototype four tapsAC)) nan)) (sym (what-is-opened .is)) refl
+
+-- at document 01's level
+pub opened-run-in-range : (tapsS tapsAC : List Float) (bytes : List ℕ) (l : Lent) (state : State) → openedOf four half tapsS tapsAC bytes l ≡ Opened.the-variants.Run state
+    → Range.FiltersInRange (filtersOf state (modeSPrototype four tapsS) (modeACPrototype four tapsAC)) × (state .total ≤ 2 ^ 52)
+unfolding ofBits lt
+opened-run-in-range tapsS tapsAC bytes l state opens = opened-in-range half tapsS tapsAC bytes l state opens (ofBits-fits binary32 0x3f00_0000) tt

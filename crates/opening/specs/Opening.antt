@@ -4,7 +4,7 @@ use mathlib.Core.Bool.{Bool, false, _&&_, cond}
 use mathlib.Core.List.{List}
 use lib.Dec.{eqb}
 use lib.ListN.{length}
-use lib.Ieee.{Float}
+use lib.Ieee.{Float, binary32, ofBits}
 use Rattle.constants.specs.Rate.{prototypeLength, workingMemory}
 use Rattle.draw_times.specs.FloatGenerator.{nought}
 use Rattle.due_samples.specs.Due.{zeros}
@@ -56,6 +56,10 @@ unfoldable pub delaysThen : MessagesPerSecond → ℕ → Distributions → Cros
 delaysThen rates total all (Crossing.the-variants.At a) (Crossing.the-variants.At b) = Opened.the-variants.Run (firstState rates total all a b)
 delaysThen rates total all (Crossing.the-variants.At a) Crossing.the-variants.Nowhere = Opened.the-variants.Refused Refusal.the-variants.Prototype
 delaysThen rates total all Crossing.the-variants.Nowhere b = Opened.the-variants.Refused Refusal.the-variants.Prototype
+
+-- 0.5, the level that document 01's prototypes cross
+abbrev pub half : Float
+half = ofBits binary32 0x3f00_0000
 
 -- the samples per pulse, the level of the prototypes' crossings (0.5 in document 01), and the two lent lowpasses
 module _ (sps : ℕ) (level : Float) (tapsS tapsAC : List Float) where

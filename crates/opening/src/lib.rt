@@ -3,7 +3,7 @@ ghost use mathlib.Core.Path.{_≡_};
 ghost use lib.ListN.{length};
 ghost use Rattle.constants.specs.Rate.{four};
 ghost use Rattle.due_samples.specs.Due.{zeros};
-ghost use Rattle.opening.specs.Opening.{lentFits, modeSDelay, modeACDelay, firstState, delaysOf, tapsOf, openedOf, leftBy};
+ghost use Rattle.opening.specs.Opening.{half, lentFits, modeSDelay, modeACDelay, firstState, delaysOf, tapsOf, openedOf, leftBy};
 use message_config::Delays;
 use pulse_shape::Crossing;
 use refusals::Refusal;
@@ -211,4 +211,18 @@ fn open_at(
             )
         }
     }
+}
+
+// Opens a run, as document 01 has it: the prototypes cross 0.5.
+fn open(
+    settings: &[u8; 119],
+    taps_s: &[f32],
+    taps_ac: &[f32],
+    mode_s: &mut [f32],
+    mode_ac: &mut [f32],
+    memory: &mut [f32],
+) -> Opened
+    ensures { λ r. ⌜ (r ≡ openedOf four half (now («taps_s» .entry)) (now («taps_ac» .entry)) (now (settings .entry)) (record { modeS = now («mode_s» .entry); modeAC = now («mode_ac» .entry); memory = now (memory .entry) })) × (record { modeS = now («mode_s» .exit); modeAC = now («mode_ac» .exit); memory = now (memory .exit) } ≡ leftBy four (now («taps_s» .entry)) (now («taps_ac» .entry)) r (record { modeS = now («mode_s» .entry); modeAC = now («mode_ac» .entry); memory = now (memory .entry) })) ⌝ }
+{
+    open_at(settings, 0.5, taps_s, taps_ac, mode_s, mode_ac, memory)
 }
