@@ -1,0 +1,146 @@
+-- What each test of opening decides: which answer of the definitions it gives. Assumes nothing.
+use Prim.Native.Nat.{ℕ}
+use mathlib.Core.Path.{_≡_, refl, sym, ap, _∙_}
+use mathlib.Core.Bool.{Bool, true, false, _&&_, cond, false≢true}
+use mathlib.Core.List.{List}
+use lib.Dec.{eqb}
+use lib.ListN.{length}
+use lib.Ieee.{Float}
+use borrow.Author.Tests.{eqb-true, eq-eqb}
+use Rattle.constants.specs.Rate.{four}
+use Rattle.due_samples.specs.Due.{zeros}
+use Rattle.pulse_shape.specs.declared.Crossing.{Crossing}
+use Rattle.pulse_shape.specs.declared.Crossing.the-variants.{At, Nowhere}
+use Rattle.pulse_shape.specs.Prototype.{modeSPrototype, modeACPrototype}
+use Rattle.pulse_shape.specs.Accepted.{allWithin16, modeSTapsAccepted, modeACTapsAccepted}
+use Rattle.pulse_shape.specs.GroupDelay.{groupDelay, modeACGroupDelay}
+use Rattle.refusals.specs.declared.Refusal.{Refusal}
+use Rattle.refusals.specs.declared.Refusal.the-variants as Cause
+use Rattle.running.specs.declared.State.{State}
+use Rattle.settings.specs.declared.MessagesPerSecond.{MessagesPerSecond}
+use Rattle.settings.specs.declared.Distributions.{Distributions}
+use Rattle.settings.specs.declared.Settings.{Settings}
+use Rattle.settings.specs.declared.Checked as Checked
+use Rattle.settings.specs.Settings.{settingsOf}
+use Rattle.settings.specs.Accepted.{acceptedOf}
+use Rattle.opening.specs.declared.Opened.the-variants.{Run, Refused}
+use Rattle.opening.specs.Opening.{Lent, firstState, lentFits, modeSDelay, modeACDelay, delaysThen, delaysOf, tapsOf, settingsThen, openedOf, leftBy}
+
+-- the lengths, from facts and to facts
+pub record Fits (modeS modeAC memory : ℕ) : Type 0 where
+  pub mode-s-is : modeS ≡ 1792
+  pub mode-ac-is : modeAC ≡ 1792
+  pub memory-is : memory ≡ 2252
+
+pub fits-if : (modeS modeAC memory : ℕ) → Fits modeS modeAC memory → true ≡ lentFits four modeS modeAC memory
+unfolding lentFits
+fits-if modeS modeAC memory f = sym (rw (eq-eqb memory 2252 (f .memory-is), eq-eqb modeS 1792 (f .mode-s-is), eq-eqb modeAC 1792 (f .mode-ac-is)))
+
+pub fits-for : (modeS modeAC memory : ℕ) → lentFits four modeS modeAC memory ≡ true → Fits modeS modeAC memory
+unfolding lentFits
+fits-for modeS modeAC memory e = go (eqb memory 2252) refl (eqb modeS 1792) refl (eqb modeAC 1792) refl e
+  where
+    go : (a : Bool) → eqb memory 2252 ≡ a → (b : Bool) → eqb modeS 1792 ≡ b → (c : Bool) → eqb modeAC 1792 ≡ c → a && b && c ≡ true → Fits modeS modeAC memory
+    go true p true q true r e = record { mode-s-is = eqb-true modeS 1792 q; mode-ac-is = eqb-true modeAC 1792 r; memory-is = eqb-true memory 2252 p }
+    go false p b q c r e = absurd (false≢true e)
+    go true p false q c r e = absurd (false≢true e)
+    go true p true q false r e = absurd (false≢true e)
+
+pub fits-not : (modeS modeAC memory : ℕ) → (Fits modeS modeAC memory → ⊥) → false ≡ lentFits four modeS modeAC memory
+fits-not modeS modeAC memory no-fit = go (lentFits four modeS modeAC memory) refl
+  where
+    go : (x : Bool) → lentFits four modeS modeAC memory ≡ x → false ≡ x
+    go true e = absurd (no-fit (fits-for modeS modeAC memory e))
+    go false e = refl
+
+-- the delay of a prototype
+module _ (sps : ℕ) (level : Float) (prototype : List Float) where
+  pub mode-s-delay-of : allWithin16 prototype ≡ true → modeSDelay sps level prototype ≡ groupDelay sps level prototype
+  unfolding modeSDelay
+  mode-s-delay-of e = rw e
+
+  pub mode-s-nowhere : allWithin16 prototype ≡ false → modeSDelay sps level prototype ≡ Nowhere
+  unfolding modeSDelay
+  mode-s-nowhere e = rw e
+
+  pub mode-ac-delay-of : allWithin16 prototype ≡ true → modeACDelay sps level prototype ≡ modeACGroupDelay sps level prototype
+  unfolding modeACDelay
+  mode-ac-delay-of e = rw e
+
+  pub mode-ac-nowhere : allWithin16 prototype ≡ false → modeACDelay sps level prototype ≡ Nowhere
+  unfolding modeACDelay
+  mode-ac-nowhere e = rw e
+
+-- a refusal leaves what was lent
+pub left-refused : (sps : ℕ) (tapsS tapsAC : List Float) (r : Refusal) (l : Lent) → l ≡ leftBy sps tapsS tapsAC (Refused r) l
+unfolding leftBy
+left-refused sps tapsS tapsAC r l = refl
+
+module _ (level : Float) (tapsS tapsAC : List Float) where
+  -- the delays, from the values that the calls give
+  pub found-mode-s : (p : List Float) (x : Crossing) → p ≡ modeSPrototype four tapsS → x ≡ modeSDelay four level p → modeSDelay four level (modeSPrototype four tapsS) ≡ x
+  found-mode-s p x e f = ap (modeSDelay four level) (sym e) ∙ sym f
+
+  pub found-mode-ac : (p : List Float) (x : Crossing) → p ≡ modeACPrototype four tapsAC → x ≡ modeACDelay four level p → modeACDelay four level (modeACPrototype four tapsAC) ≡ x
+  found-mode-ac p x e f = ap (modeACDelay four level) (sym e) ∙ sym f
+
+  module _ (rates : MessagesPerSecond) (total : ℕ) (all : Distributions) where
+    -- refusal 6, for either prototype
+    pub no-mode-s : modeSDelay four level (modeSPrototype four tapsS) ≡ Nowhere → Refused Cause.Prototype ≡ delaysOf four level tapsS tapsAC rates total all
+    unfolding delaysOf delaysThen
+    no-mode-s e = ap (λ (x : Crossing). delaysThen rates total all x (modeACDelay four level (modeACPrototype four tapsAC))) (sym e)
+
+    pub no-mode-ac : (a : Float) → modeSDelay four level (modeSPrototype four tapsS) ≡ At a → modeACDelay four level (modeACPrototype four tapsAC) ≡ Nowhere → Refused Cause.Prototype ≡ delaysOf four level tapsS tapsAC rates total all
+    unfolding delaysOf delaysThen
+    no-mode-ac a e f = λ i. delaysThen rates total all (sym e i) (sym f i)
+
+    pub both-found : (a b : Float) → modeSDelay four level (modeSPrototype four tapsS) ≡ At a → modeACDelay four level (modeACPrototype four tapsAC) ≡ At b → Run (firstState rates total all a b) ≡ delaysOf four level tapsS tapsAC rates total all
+    unfolding delaysOf delaysThen
+    both-found a b e f = λ i. delaysThen rates total all (sym e i) (sym f i)
+
+    -- refusal 5, for either list
+    by-taps : (b : Bool) → modeSTapsAccepted four tapsS && modeACTapsAccepted four tapsAC ≡ b → cond b (delaysOf four level tapsS tapsAC rates total all) (Refused Cause.Taps) ≡ tapsOf four level tapsS tapsAC rates total all
+    unfolding tapsOf
+    by-taps b e = ap (λ (x : Bool). cond x (delaysOf four level tapsS tapsAC rates total all) (Refused Cause.Taps)) (sym e)
+
+    pub mode-s-taps-refused : modeSTapsAccepted four tapsS ≡ false → Refused Cause.Taps ≡ tapsOf four level tapsS tapsAC rates total all
+    mode-s-taps-refused e = by-taps false (ap (λ (x : Bool). x && modeACTapsAccepted four tapsAC) e)
+
+    pub mode-ac-taps-refused : modeSTapsAccepted four tapsS ≡ true → modeACTapsAccepted four tapsAC ≡ false → Refused Cause.Taps ≡ tapsOf four level tapsS tapsAC rates total all
+    mode-ac-taps-refused e f = by-taps false (ap (λ (x : Bool). x && modeACTapsAccepted four tapsAC) e ∙ f)
+
+    pub taps-pass : modeSTapsAccepted four tapsS ≡ true → modeACTapsAccepted four tapsAC ≡ true → delaysOf four level tapsS tapsAC rates total all ≡ tapsOf four level tapsS tapsAC rates total all
+    taps-pass e f = by-taps true (ap (λ (x : Bool). x && modeACTapsAccepted four tapsAC) e ∙ f)
+
+  -- refusal 9, then 1 to 4
+  module _ (bytes : List ℕ) (l : Lent) where
+    by-lent : (b : Bool) → lentFits four (length (l .modeS)) (length (l .modeAC)) (length (l .memory)) ≡ b
+        → cond b (settingsThen four level tapsS tapsAC (settingsOf bytes .rates) (acceptedOf four (settingsOf bytes))) (Refused Cause.Lent) ≡ openedOf four level tapsS tapsAC bytes l
+    unfolding openedOf
+    by-lent b e = ap (λ (x : Bool). cond x (settingsThen four level tapsS tapsAC (settingsOf bytes .rates) (acceptedOf four (settingsOf bytes))) (Refused Cause.Lent)) (sym e)
+
+    pub lent-refused : lentFits four (length (l .modeS)) (length (l .modeAC)) (length (l .memory)) ≡ false → Refused Cause.Lent ≡ openedOf four level tapsS tapsAC bytes l
+    lent-refused = by-lent false
+
+    -- the settings, and what their check gives
+    module _ (s : Settings) (x : Checked.Checked) (held : s ≡ settingsOf bytes) (checks : x ≡ acceptedOf four s) (fit : lentFits four (length (l .modeS)) (length (l .modeAC)) (length (l .memory)) ≡ true) where
+      by-settings : settingsThen four level tapsS tapsAC (s .rates) x ≡ openedOf four level tapsS tapsAC bytes l
+      by-settings =
+          ap (settingsThen four level tapsS tapsAC (s .rates)) checks
+          ∙ ap (λ (z : Settings). settingsThen four level tapsS tapsAC (z .rates) (acceptedOf four z)) held
+          ∙ by-lent true fit
+
+      pub settings-refused : (r : Refusal) → x ≡ Checked.the-variants.Refused r → Refused r ≡ openedOf four level tapsS tapsAC bytes l
+      unfolding settingsThen
+      settings-refused r e = ap (settingsThen four level tapsS tapsAC (s .rates)) (sym e) ∙ by-settings
+
+      pub settings-pass : (total : ℕ) (all : Distributions) → x ≡ Checked.the-variants.Accepted total all → tapsOf four level tapsS tapsAC (s .rates) total all ≡ openedOf four level tapsS tapsAC bytes l
+      unfolding settingsThen
+      settings-pass total all e = ap (settingsThen four level tapsS tapsAC (s .rates)) (sym e) ∙ by-settings
+
+-- a run that is opened fills what was lent
+pub left-run : (tapsS tapsAC modeS modeAC memory : List Float) (state : State) (n : ℕ) (l : Lent)
+    → modeS ≡ modeSPrototype four tapsS → modeAC ≡ modeACPrototype four tapsAC → memory ≡ zeros n → n ≡ 2252
+    → record { modeS = modeS; modeAC = modeAC; memory = memory } ≡ leftBy four tapsS tapsAC (Run state) l
+unfolding leftBy
+left-run tapsS tapsAC modeS modeAC memory state n l p q r e = λ i. record { modeS = p i; modeAC = q i; memory = (r ∙ ap zeros e) i }

@@ -1,0 +1,89 @@
+-- Document 01's opening of a run: "checks 9 for the memory lent to it, then 1 to 6 in that order; accepted, it fills the prototypes and sets working memory to 0.0". Definitions only.
+use Prim.Native.Nat.{ℕ}
+use mathlib.Core.Bool.{Bool, false, _&&_, cond}
+use mathlib.Core.List.{List}
+use lib.Dec.{eqb}
+use lib.ListN.{length}
+use lib.Ieee.{Float, binary32, ofBits}
+use Rattle.constants.specs.Rate.{prototypeLength, workingMemory}
+use Rattle.draw_times.specs.FloatGenerator.{nought}
+use Rattle.due_samples.specs.Due.{zeros}
+use Rattle.pulse_shape.specs.declared.Crossing as Crossing
+use Rattle.pulse_shape.specs.Prototype.{modeSPrototype, modeACPrototype}
+use Rattle.pulse_shape.specs.Accepted.{allWithin16, modeSTapsAccepted, modeACTapsAccepted}
+use Rattle.pulse_shape.specs.GroupDelay.{groupDelay, modeACGroupDelay}
+use Rattle.refusals.specs.declared.Refusal as Refusal
+use Rattle.running.specs.declared.State.{State}
+use Rattle.settings.specs.declared.MessagesPerSecond.{MessagesPerSecond}
+use Rattle.settings.specs.declared.Distributions.{Distributions}
+use Rattle.settings.specs.declared.Checked as Checked
+use Rattle.settings.specs.Settings.{settingsOf}
+use Rattle.settings.specs.Accepted.{acceptedOf}
+use Rattle.opening.specs.declared.Opened as Opened
+
+-- what opening is lent to write: the two prototypes and working memory
+pub record Lent : Type 0 where
+  pub modeS : List Float
+  pub modeAC : List Float
+  pub memory : List Float
+
+-- the state before the first run call: no sample written, no draw taken, no time by whose start a sample was written
+unfoldable pub firstState : MessagesPerSecond → ℕ → Distributions → Float → Float → State
+firstState rates total all modeS modeAC = record {
+  written = 0;
+  total = total;
+  time = nought;
+  latest = nought;
+  ended = false;
+  rates = rates;
+  delays = record { «mode_s» = modeS; «mode_ac» = modeAC };
+  distributions = all;
+}
+
+-- the lengths of the two prototypes and of working memory are 1,792, 1,792 and 2,252
+unfoldable pub lentFits : ℕ → ℕ → ℕ → ℕ → Bool
+lentFits sps modeS modeAC memory = eqb memory (workingMemory sps) && eqb modeS (prototypeLength sps) && eqb modeAC (prototypeLength sps)
+
+-- the delay of a prototype; nowhere where a value is not finite or above 16 in size
+unfoldable pub modeSDelay : ℕ → Float → List Float → Crossing.Crossing
+modeSDelay sps level prototype = cond (allWithin16 prototype) (groupDelay sps level prototype) Crossing.the-variants.Nowhere
+
+unfoldable pub modeACDelay : ℕ → Float → List Float → Crossing.Crossing
+modeACDelay sps level prototype = cond (allWithin16 prototype) (modeACGroupDelay sps level prototype) Crossing.the-variants.Nowhere
+
+-- refusal 6, "a prototype value not finite or above 16 in size, or no 0.5 crossing"; or the run's first state
+unfoldable pub delaysThen : MessagesPerSecond → ℕ → Distributions → Crossing.Crossing → Crossing.Crossing → Opened.Opened
+delaysThen rates total all (Crossing.the-variants.At a) (Crossing.the-variants.At b) = Opened.the-variants.Run (firstState rates total all a b)
+delaysThen rates total all (Crossing.the-variants.At a) Crossing.the-variants.Nowhere = Opened.the-variants.Refused Refusal.the-variants.Prototype
+delaysThen rates total all Crossing.the-variants.Nowhere b = Opened.the-variants.Refused Refusal.the-variants.Prototype
+
+-- 0.5, the level that document 01's prototypes cross
+abbrev pub half : Float
+half = ofBits binary32 0x3f00_0000
+
+-- the samples per pulse, the level of the prototypes' crossings (0.5 in document 01), and the two lent lowpasses
+module _ (sps : ℕ) (level : Float) (tapsS tapsAC : List Float) where
+  unfoldable pub delaysOf : MessagesPerSecond → ℕ → Distributions → Opened.Opened
+  delaysOf rates total all = delaysThen rates total all (modeSDelay sps level (modeSPrototype sps tapsS)) (modeACDelay sps level (modeACPrototype sps tapsAC))
+
+  -- refusal 5, "filter list of the wrong length, or a tap not finite or above 16 in size"; then 6
+  unfoldable pub tapsOf : MessagesPerSecond → ℕ → Distributions → Opened.Opened
+  tapsOf rates total all = cond (modeSTapsAccepted sps tapsS && modeACTapsAccepted sps tapsAC) (delaysOf rates total all) (Opened.the-variants.Refused Refusal.the-variants.Taps)
+
+  -- refusals 1 to 4, of the settings; then 5 and 6
+  unfoldable pub settingsThen : MessagesPerSecond → Checked.Checked → Opened.Opened
+  settingsThen rates (Checked.the-variants.Accepted total all) = tapsOf rates total all
+  settingsThen rates (Checked.the-variants.Refused refusal) = Opened.the-variants.Refused refusal
+
+  -- what opening answers: refusal 9, "working memory not 2,252 f32, a prototype not 1,792 f32"; then the others
+  unfoldable pub openedOf : List ℕ → Lent → Opened.Opened
+  openedOf bytes lent =
+      cond (lentFits sps (length (lent .modeS)) (length (lent .modeAC)) (length (lent .memory)))
+      (settingsThen (settingsOf bytes .rates) (acceptedOf sps (settingsOf bytes)))
+      (Opened.the-variants.Refused Refusal.the-variants.Lent)
+
+-- what opening leaves: "accepted, it fills the prototypes and sets working memory to 0.0"; "a refusal changes neither state nor any lent buffer"
+unfoldable pub leftBy : ℕ → List Float → List Float → Opened.Opened → Lent → Lent
+leftBy sps tapsS tapsAC (Opened.the-variants.Run state) lent =
+    record { modeS = modeSPrototype sps tapsS; modeAC = modeACPrototype sps tapsAC; memory = zeros (workingMemory sps) }
+leftBy sps tapsS tapsAC (Opened.the-variants.Refused refusal) lent = lent

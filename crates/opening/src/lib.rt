@@ -1,0 +1,228 @@
+// Opening a run: refusal 9 for what is lent, refusals 1 to 6, and, accepted, the prototypes, the working memory and the state. Assumes nothing.
+ghost use mathlib.Core.Path.{_≡_};
+ghost use lib.ListN.{length};
+ghost use Rattle.constants.specs.Rate.{four};
+ghost use Rattle.due_samples.specs.Due.{zeros};
+ghost use Rattle.opening.specs.Opening.{half, lentFits, modeSDelay, modeACDelay, firstState, delaysOf, tapsOf, openedOf, leftBy};
+use message_config::Delays;
+use pulse_shape::Crossing;
+use refusals::Refusal;
+use running::State;
+use settings::Checked;
+use settings::Distributions;
+use settings::MessagesPerSecond;
+
+pub enum Opened {
+    Run(State),
+    Refused(Refusal),
+}
+
+// Whether the prototypes and working memory have their lengths.
+fn lent_fits(mode_s: usize, mode_ac: usize, memory: usize) -> bool
+    ensures { λ r. ⌜ r ≡ lentFits four «mode_s» «mode_ac» memory ⌝ }
+{
+    if memory != 2252 {
+        return false;
+    }
+    if mode_s != 1792 {
+        return false;
+    }
+    if mode_ac != 1792 {
+        return false;
+    }
+    true
+}
+
+fn copy(from: &[f32], to: &mut [f32])
+    requires { ⌜ length (now from) ≡ length (now to) ⌝ }
+    ensures { λ _. ⌜ now (to .exit) ≡ now (from .entry) ⌝ }
+{
+    let mut k: usize = 0;
+    while k < from.len() {
+        to[k] = from[k];
+        k = k + 1;
+    }
+}
+
+fn clear(memory: &mut [f32])
+    ensures { λ _. ⌜ now (memory .exit) ≡ zeros (length (now (memory .entry))) ⌝ }
+{
+    let mut k: usize = 0;
+    while k < memory.len() {
+        memory[k] = 0.0;
+        k = k + 1;
+    }
+}
+
+// The delay of a Mode S prototype; nowhere where a value is not finite or above 16 in size.
+fn mode_s_delay(level: f32, prototype: &[f32]) -> Crossing
+    ensures { λ r. ⌜ r ≡ modeSDelay four level (now (prototype .entry)) ⌝ }
+{
+    if pulse_shape::all_within_16(prototype) {
+        return pulse_shape::group_delay(level, prototype);
+    }
+    Crossing::Nowhere
+}
+
+// The delay of a Mode A/C prototype; nowhere where a value is not finite or above 16 in size.
+fn mode_ac_delay(level: f32, prototype: &[f32]) -> Crossing
+    ensures { λ r. ⌜ r ≡ modeACDelay four level (now (prototype .entry)) ⌝ }
+{
+    if pulse_shape::all_within_16(prototype) {
+        return pulse_shape::mode_ac_group_delay(level, prototype);
+    }
+    Crossing::Nowhere
+}
+
+// The state before the first run call.
+fn first_state(
+    rates: MessagesPerSecond,
+    total: u64,
+    all: Distributions,
+    mode_s: f64,
+    mode_ac: f64,
+) -> State
+    ensures { λ r. ⌜ r ≡ firstState rates total all «mode_s» «mode_ac» ⌝ }
+{
+    State {
+        written: 0,
+        total: total,
+        time: 0.0,
+        latest: 0.0,
+        ended: false,
+        rates: rates,
+        delays: Delays {
+            mode_s: mode_s,
+            mode_ac: mode_ac,
+        },
+        distributions: all,
+    }
+}
+
+// Fills the prototypes and sets working memory to 0.0.
+fn fill(
+    proto_s: &[f32],
+    proto_ac: &[f32],
+    mode_s: &mut [f32],
+    mode_ac: &mut [f32],
+    memory: &mut [f32],
+)
+    requires { ⌜ (length (now «proto_s») ≡ length (now «mode_s»)) × (length (now «proto_ac») ≡ length (now «mode_ac»)) ⌝ }
+    ensures { λ _. ⌜ (now («mode_s» .exit) ≡ now («proto_s» .entry)) × (now («mode_ac» .exit) ≡ now («proto_ac» .entry)) × (now (memory .exit) ≡ zeros (length (now (memory .entry)))) ⌝ }
+{
+    copy(proto_s, mode_s);
+    copy(proto_ac, mode_ac);
+    clear(memory);
+}
+
+// Refusal 6, found before anything is written; or what a run is opened with.
+fn build(
+    rates: MessagesPerSecond,
+    total: u64,
+    all: Distributions,
+    level: f32,
+    taps_s: &[f32],
+    taps_ac: &[f32],
+    mode_s: &mut [f32],
+    mode_ac: &mut [f32],
+    memory: &mut [f32],
+) -> Opened
+    requires { ⌜ (length (now «mode_s») ≡ 1792) × (length (now «mode_ac») ≡ 1792) × (length (now memory) ≡ 2252) ⌝ }
+    ensures { λ r. ⌜ (r ≡ delaysOf four level (now («taps_s» .entry)) (now («taps_ac» .entry)) rates total all) × (record { modeS = now («mode_s» .exit); modeAC = now («mode_ac» .exit); memory = now (memory .exit) } ≡ leftBy four (now («taps_s» .entry)) (now («taps_ac» .entry)) r (record { modeS = now («mode_s» .entry); modeAC = now («mode_ac» .entry); memory = now (memory .entry) })) ⌝ }
+{
+    let proto_s = pulse_shape::mode_s_prototype(taps_s);
+    let proto_ac = pulse_shape::mode_ac_prototype(taps_ac);
+    let Crossing::At(delay_s) = mode_s_delay(level, &proto_s) else {
+        return Opened::Refused(Refusal::Prototype);
+    };
+    let Crossing::At(delay_ac) = mode_ac_delay(level, &proto_ac) else {
+        return Opened::Refused(Refusal::Prototype);
+    };
+    fill(&proto_s, &proto_ac, mode_s, mode_ac, memory);
+    let state = first_state(rates, total, all, delay_s, delay_ac);
+    Opened::Run(state)
+}
+
+// Refusal 5, then 6.
+fn check_taps(
+    rates: MessagesPerSecond,
+    total: u64,
+    all: Distributions,
+    level: f32,
+    taps_s: &[f32],
+    taps_ac: &[f32],
+    mode_s: &mut [f32],
+    mode_ac: &mut [f32],
+    memory: &mut [f32],
+) -> Opened
+    requires { ⌜ (length (now «mode_s») ≡ 1792) × (length (now «mode_ac») ≡ 1792) × (length (now memory) ≡ 2252) ⌝ }
+    ensures { λ r. ⌜ (r ≡ tapsOf four level (now («taps_s» .entry)) (now («taps_ac» .entry)) rates total all) × (record { modeS = now («mode_s» .exit); modeAC = now («mode_ac» .exit); memory = now (memory .exit) } ≡ leftBy four (now («taps_s» .entry)) (now («taps_ac» .entry)) r (record { modeS = now («mode_s» .entry); modeAC = now («mode_ac» .entry); memory = now (memory .entry) })) ⌝ }
+{
+    if !pulse_shape::mode_s_taps_accepted(taps_s) {
+        return Opened::Refused(Refusal::Taps);
+    }
+    if !pulse_shape::mode_ac_taps_accepted(taps_ac) {
+        return Opened::Refused(Refusal::Taps);
+    }
+    build(
+        rates,
+        total,
+        all,
+        level,
+        taps_s,
+        taps_ac,
+        mode_s,
+        mode_ac,
+        memory,
+    )
+}
+
+// Opens a run: refusal 9, then 1 to 6, or the state. The level is that of the prototypes' crossings.
+fn open_at(
+    settings: &[u8; 119],
+    level: f32,
+    taps_s: &[f32],
+    taps_ac: &[f32],
+    mode_s: &mut [f32],
+    mode_ac: &mut [f32],
+    memory: &mut [f32],
+) -> Opened
+    ensures { λ r. ⌜ (r ≡ openedOf four level (now («taps_s» .entry)) (now («taps_ac» .entry)) (now (settings .entry)) (record { modeS = now («mode_s» .entry); modeAC = now («mode_ac» .entry); memory = now (memory .entry) })) × (record { modeS = now («mode_s» .exit); modeAC = now («mode_ac» .exit); memory = now (memory .exit) } ≡ leftBy four (now («taps_s» .entry)) (now («taps_ac» .entry)) r (record { modeS = now («mode_s» .entry); modeAC = now («mode_ac» .entry); memory = now (memory .entry) })) ⌝ }
+{
+    if !lent_fits(mode_s.len(), mode_ac.len(), memory.len()) {
+        return Opened::Refused(Refusal::Lent);
+    }
+    let s = settings::read(settings);
+    let rates = s.rates;
+    let checked = settings::check(s);
+    match checked {
+        Checked::Refused(refusal) => Opened::Refused(refusal),
+        Checked::Accepted(total, all) => {
+            check_taps(
+                rates,
+                total,
+                all,
+                level,
+                taps_s,
+                taps_ac,
+                mode_s,
+                mode_ac,
+                memory,
+            )
+        }
+    }
+}
+
+// Opens a run, as document 01 has it: the prototypes cross 0.5.
+fn open(
+    settings: &[u8; 119],
+    taps_s: &[f32],
+    taps_ac: &[f32],
+    mode_s: &mut [f32],
+    mode_ac: &mut [f32],
+    memory: &mut [f32],
+) -> Opened
+    ensures { λ r. ⌜ (r ≡ openedOf four half (now («taps_s» .entry)) (now («taps_ac» .entry)) (now (settings .entry)) (record { modeS = now («mode_s» .entry); modeAC = now («mode_ac» .entry); memory = now (memory .entry) })) × (record { modeS = now («mode_s» .exit); modeAC = now («mode_ac» .exit); memory = now (memory .exit) } ≡ leftBy four (now («taps_s» .entry)) (now («taps_ac» .entry)) r (record { modeS = now («mode_s» .entry); modeAC = now («mode_ac» .entry); memory = now (memory .entry) })) ⌝ }
+{
+    open_at(settings, 0.5, taps_s, taps_ac, mode_s, mode_ac, memory)
+}
