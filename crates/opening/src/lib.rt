@@ -214,7 +214,7 @@ fn open_at(
 }
 
 // Opens a run, as document 01 has it: the prototypes cross 0.5.
-fn open(
+pub fn open(
     settings: &[u8; 119],
     taps_s: &[f32],
     taps_ac: &[f32],

@@ -546,7 +546,7 @@ fn refused(s: State, q: Refusal) -> Ran
 }
 
 // A run call: refused, or its turns until one stops it. A refusal changes neither the state nor any lent buffer.
-fn run(
+pub fn run(
     s: State,
     mode_s: &[f32],
     mode_ac: &[f32],
