@@ -1,0 +1,55 @@
+-- The answers of the functions of the crate, put together from what each called. Assumes nothing.
+use mathlib.Core.Path.{_≡_, sym, ap, _∙_}
+use mathlib.Core.List.{List}
+use Prim.Native.Nat.{ℕ}
+use lib.Ieee.{Float}
+use Rattle.constants.specs.Rate.{four}
+use Rattle.refusals.specs.declared.Refusal.{Refusal}
+use Rattle.refusals.specs.Number.{numberOf}
+use Rattle.opening.specs.declared.Opened as Opened
+use Rattle.opening.specs.Opening as Opening
+use Rattle.running.specs.declared.State.{State}
+use Rattle.running.specs.declared.Stop.{Stop}
+use Rattle.running.specs.declared.Counts.{Counts}
+use Rattle.running.specs.declared.Answer as Answer
+use Rattle.running.specs.declared.Ran.{Ran}
+use Rattle.running.specs.Ended.{Left}
+use Rattle.running.specs.Calls.{runLeft}
+use Rattle.more1090_generator.specs.declared.FlatState.{FlatState}
+use Rattle.more1090_generator.specs.declared.FlatOpened.{FlatOpened}
+use Rattle.more1090_generator.specs.declared.FlatRan.{FlatRan}
+use Rattle.more1090_generator.specs.declared.Values.{Values}
+use Rattle.more1090_generator.specs.States.{flatOf, stateFrom, noState}
+use Rattle.more1090_generator.specs.Answers.{valuesFlat, openedFlat, stopNumber, told, answered, ranFlat, FlatLeft, leftFlat, flatRunLeft}
+
+opened : FlatState → ℕ → ℕ → FlatOpened
+opened f n v = record { state = f; refusal = n; value = v }
+
+pub opened-run : (o : Opened.Opened) (s : State) → o ≡ Opened.the-variants.Run s → (f : FlatState) → f ≡ flatOf s → record { state = f; refusal = 0; value = 0 } ≡ openedFlat o
+unfolding opened openedFlat
+opened-run o s p f q = ap (λ x. opened x 0 0) q ∙ sym (ap openedFlat p)
+
+pub opened-refused : (o : Opened.Opened) (q : Refusal) → o ≡ Opened.the-variants.Refused q → (f : FlatState) → f ≡ noState → (n : ℕ) → n ≡ numberOf q → (v : Values) → v ≡ valuesFlat q → record { state = f; refusal = n; value = v .value } ≡ openedFlat o
+unfolding opened openedFlat
+opened-refused o q p f a n b v d = (λ i. opened (a i) (b i) (d i .value)) ∙ sym (ap openedFlat p)
+
+module _ (f : FlatState) (counts : Counts) (answer : Answer.Answer) where
+  pub answered-stopped : (w : Stop) → answer ≡ Answer.the-variants.Stopped w → (n : ℕ) → n ≡ stopNumber w → (r : FlatRan) → r ≡ told f counts n 0 0 0 → r ≡ answered f counts answer
+  unfolding answered
+  answered-stopped w p n a r e = e ∙ ap (λ x. told f counts x 0 0 0) a ∙ sym (ap (answered f counts) p)
+
+  pub answered-refused : (q : Refusal) → answer ≡ Answer.the-variants.Refused q → (n : ℕ) → n ≡ numberOf q → (v : Values) → v ≡ valuesFlat q → (r : FlatRan) → r ≡ told f counts 5 n (v .value) (v .field) → r ≡ answered f counts answer
+  unfolding answered
+  answered-refused q p n a v b r e = e ∙ (λ i. told f counts 5 (a i) (b i .value) (b i .field)) ∙ sym (ap (answered f counts) p)
+
+module _ (tapsS tapsAC : List Float) (bytes : List ℕ) (lent : Opening.Lent) where
+  pub open-flat : (o : Opened.Opened) (after : Opening.Lent) → (o ≡ Opening.openedOf four Opening.half tapsS tapsAC bytes lent) × (after ≡ Opening.leftBy four tapsS tapsAC o lent) → (r : FlatOpened) → r ≡ openedFlat o → (r ≡ openedFlat (Opening.openedOf four Opening.half tapsS tapsAC bytes lent)) × (after ≡ Opening.leftBy four tapsS tapsAC (Opening.openedOf four Opening.half tapsS tapsAC bytes lent) lent)
+  open-flat o after e r p = (p ∙ ap openedFlat (e .0), e .1 ∙ ap (λ (x : Opened.Opened). Opening.leftBy four tapsS tapsAC x lent) (e .0))
+
+module _ (f : FlatState) (modeS modeAC memory : List Float) (draws : List ℕ) (noise output : List Float) (records : List ℕ) where
+  left : FlatRan → Left → FlatLeft
+  left r l = record { ran = r; memory = l .memory; output = l .output; records = l .records }
+
+  pub run-flat : (s : State) → s ≡ stateFrom f → (l : Left) → l ≡ runLeft s modeS modeAC memory draws noise output records → (r : FlatRan) → r ≡ ranFlat (l .ran) → record { ran = r; memory = l .memory; output = l .output; records = l .records } ≡ flatRunLeft f modeS modeAC memory draws noise output records
+  unfolding left leftFlat flatRunLeft
+  run-flat s p l q r e = ap (λ (x : FlatRan). left x l) e ∙ ap leftFlat (q ∙ ap (λ (x : State). runLeft x modeS modeAC memory draws noise output records) p)

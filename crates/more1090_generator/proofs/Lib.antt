@@ -1,0 +1,3 @@
+pub mod Joined
+pub mod StateBack
+pub mod Demand3
