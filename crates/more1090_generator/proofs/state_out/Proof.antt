@@ -1,6 +1,6 @@
 -- `state_out` meets its contract. Assumes nothing.
 use borrow.Author.Needs.{needs}
-use Rattle.more1090_generator.specs.States.{flatOf}
+use Rattle.more1090_generator.proofs.Joined.{state-flat}
 use Rattle.more1090_generator.proofs.state_out.Statement.{statement}
 use Rattle.more1090_generator.proofs.state_out.Tie as tie
 
@@ -20,8 +20,7 @@ ended-out-requires : tie.Need-ended-out-requires
 ended-out-requires c κs = search needs
 
 returns : tie.Need-returns
-unfolding flatOf
-returns c = cc
+returns c = state-flat (c .before .before .before .before .before .before .before .before .args .s) _ _ _ _ _ (c .before .before .before .before .rates-out .ensures) (c .before .before .before .carrier-out .ensures) (c .before .before .phase-out .ensures) (c .before .clock-out .ensures) (c .ended-out .ensures)
 
 pub state-out-spec : {M : Type 1} → statement M
 state-out-spec =

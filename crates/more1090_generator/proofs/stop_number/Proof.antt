@@ -21,23 +21,23 @@ enum-told-5 c = search needs
 
 returns : tie.Need-returns
 unfolding stopNumber
-returns c = search needs
+returns c = rw (c .enum-told .given .1, stopNumber)
 
 returns-2 : tie.Need-returns-2
 unfolding stopNumber
-returns-2 c = search needs
+returns-2 c = rw (c .enum-told2 .given .1, stopNumber)
 
 returns-3 : tie.Need-returns-3
 unfolding stopNumber
-returns-3 c = search needs
+returns-3 c = rw (c .enum-told3 .given .1, stopNumber)
 
 returns-4 : tie.Need-returns-4
 unfolding stopNumber
-returns-4 c = search needs
+returns-4 c = rw (c .enum-told4 .given .1, stopNumber)
 
 returns-5 : tie.Need-returns-5
 unfolding stopNumber
-returns-5 c = search needs
+returns-5 c = rw (c .enum-told5 .given .1, stopNumber)
 
 pub stop-number-spec : {M : Type 1} → statement M
 stop-number-spec =
