@@ -226,23 +226,25 @@ module _ (level : Float) (tapsS tapsAC : List Float) (bytes : List ℕ) (l : Len
     taps-go-on t = taps-pass level tapsS tapsAC _ n d (good-taps t .0) (good-taps t .1)
 
     prototype-refused : (BothPrototypes level tapsS tapsAC → ⊥) → Refused Cause.Prototype ≡ delaysOf four level tapsS tapsAC (settingsOf bytes .rates) n d
+    unfolding delaysOf
     prototype-refused p = go _ refl (mode-s-says level (modeSPrototype four tapsS)) _ refl (mode-ac-says level (modeACPrototype four tapsAC))
       where
         go : (x : Crossing) → modeSDelay four level (modeSPrototype four tapsS) ≡ x → DelaySays level (modeSPrototype four tapsS) (groupDelay four level (modeSPrototype four tapsS)) x
             → (y : Crossing) → modeACDelay four level (modeACPrototype four tapsAC) ≡ y → DelaySays level (modeACPrototype four tapsAC) (modeACGroupDelay four level (modeACPrototype four tapsAC)) y
             → Refused Cause.Prototype ≡ delaysOf four level tapsS tapsAC (settingsOf bytes .rates) n d
         go (At a) e f (At b) h g = absurd (p (f .0, g .0))
-        go (At a) e f Nowhere h g = no-mode-ac level tapsS tapsAC _ n d a e h
-        go Nowhere e f y h g = no-mode-s level tapsS tapsAC _ n d e
+        go (At a) e f Nowhere h g = no-mode-ac _ n d _ _ a e h
+        go Nowhere e f y h g = no-mode-s _ n d _ _ e
 
   pub only : (c : Opened) → Right c → openedOf four level tapsS tapsAC bytes l ≡ c
+  unfolding delaysOf
   only c (refused-9 f) = sym (lent-refused level tapsS tapsAC bytes l (fails _ (lent-decides (length (l .modeS)) (length (l .modeAC)) (length (l .memory))) f))
   only c (refused-1-to-4 {q} f s) = sym (settings-refused level tapsS tapsAC bytes l (settingsOf bytes) _ refl refl (fit f) q (Settings.only four (settingsOf bytes) _ s))
   only c (refused-5 {n} {d} P t) = passes n d P ∙ sym (taps-refused n d t)
   only c (refused-6 {n} {d} P t p) = passes n d P ∙ sym (prototype-refused n d p ∙ taps-go-on n d t)
   only c (accepted {n} {d} {a} {b} P t p f g) =
       passes n d P
-      ∙ sym (both-found level tapsS tapsAC _ n d a b (mode-s-delay-of four level _ (within-16 level _ (p .0)) ∙ f) (mode-ac-delay-of four level _ (within-16 level _ (p .1)) ∙ g) ∙ taps-go-on n d t)
+      ∙ sym (both-found _ n d _ _ a b (mode-s-delay-of four level _ (within-16 level _ (p .0)) ∙ f) (mode-ac-delay-of four level _ (within-16 level _ (p .1)) ∙ g) ∙ taps-go-on n d t)
 
   -- a run is opened where no refusal has a cause
   pub opens : (n : ℕ) (d : Distributions) → Passed bytes l n d → BothTaps tapsS tapsAC → BothPrototypes level tapsS tapsAC → (s : State) × (openedOf four level tapsS tapsAC bytes l ≡ Run s)
