@@ -10,10 +10,13 @@ use lib.ListN.{length, drop}
 use Rattle.call_lists.specs.Generator.{Generator}
 use Rattle.call_lists.specs.PlainRun.{Kind, ignored, ends, reply}
 use Rattle.call_lists.specs.PlainBench.{Stop, wantsDraws, Call, resultOf}
-use Rattle.call_lists.proofs.Machine.{later, State, machineCall}
-use Rattle.call_lists.proofs.FlatLists.{laid, length-laid, draws-cons, length-draws}
-use Rattle.call_lists.proofs.Turns.{Turn, Ended, firstTurn, stopped, restOf, nextTime, wroteTurn, tookTurn, same-length, endResult, call-state, call-result}
-use Rattle.call_lists.proofs.Plans.{Plan, stopAt, drainMany, dueMany, ignore, endRun, addReply, Within, planOf, Written, Taken, PlanSays, plan-says, afterPlan, plan-right}
+use Rattle.call_lists.specs.Machine.{later, State, machineCall}
+use Rattle.call_lists.specs.Buffers.{laid}
+use Rattle.call_lists.specs.Turns.{Turn, Ended, firstTurn, stopped, restOf, Within, turnFuel}
+use Rattle.call_lists.specs.Plans.{Plan, stopAt, drainMany, dueMany, ignore, endRun, addReply}
+use Rattle.call_lists.proofs.FlatLists.{length-laid, draws-cons, length-draws}
+use Rattle.call_lists.proofs.Turns.{nextTime, wroteTurn, tookTurn, same-length, endResult, call-state, call-result}
+use Rattle.call_lists.proofs.Plans.{planOf, Written, Taken, PlanSays, plan-says, afterPlan, plan-right}
 
 module _ (G : Generator) (o : G .Value) (noise : List (G .Value)) where
   open Generator G using (Draw, Time, entry, adds, drawAt, drawBytes, recordBytes)
@@ -41,15 +44,11 @@ module _ (G : Generator) (o : G .Value) (noise : List (G .Value)) where
   turns zero t = stopped G o t wantsDraws
   turns (suc f) t = turnBy (λ t′. turns f t′) t (planOf G o noise t)
 
-  -- each turn takes a draw or fills output
-  abbrev pub turnFuel : Turn G o → ℕ
-  turnFuel t = suc (length (t .rest) / drawBytes + (length (t .output) / 2 - t .samples))
-
   module _ (draw-pos : 0 < drawBytes) (record-pos : 0 < recordBytes) (line-length : (t : Time) (d : Draw) (s n : ℕ) → length (entry t d s n) ≡ recordBytes) where
     -- a turn that is no stop keeps the counts within what is lent, and comes nearer to the end
     pub record Nearer (t t′ : Turn G o) : Type 0 where
       pub within : Within G o noise t′
-      pub less : turnFuel t′ < turnFuel t
+      pub less : turnFuel G o noise t′ < turnFuel G o noise t
 
     wrote-nearer : (t : Turn G o) (n : ℕ) (m : Time) → Within G o noise t → Written G o noise t n m → Nearer t (wroteTurn G o noise t n m)
     wrote-nearer t n m w h = record {
@@ -92,7 +91,7 @@ module _ (G : Generator) (o : G .Value) (noise : List (G .Value)) where
     turn-is go t w (endRun time) h ih = ih (nextTurn t (endRun time)) (nearer t w (endRun time) h (λ s e. let z : _≡_ {A = ℕ} 0 1 = cc in omega arith))
     turn-is go t w (addReply time s) h ih = ih (nextTurn t (addReply time s)) (nearer t w (addReply time s) h (λ s e. let z : _≡_ {A = ℕ} 0 1 = cc in omega arith))
 
-    pub turns-are : (f : ℕ) (t : Turn G o) → Within G o noise t → turnFuel t ≤ f → turns f t ≡ restOf G o noise t
+    pub turns-are : (f : ℕ) (t : Turn G o) → Within G o noise t → turnFuel G o noise t ≤ f → turns f t ≡ restOf G o noise t
     unfolding turns
     turns-are zero t w h = absurd (omega arith)
     turns-are (suc f) t w h =

@@ -3,13 +3,13 @@
 use mathlib.Core.List.{List, [], _∷_, _++_, append-nil, append-assoc}
 use mathlib.Core.Option.{Option}
 use mathlib.Core.Path.{_≡_, refl, sym, ap, _∙_}
-use Prim.Native.Nat.{ℕ, zero, suc, _+_, _-_, _≤_}
+use Prim.Native.Nat.{ℕ, zero, suc, _+_, _≤_}
 use native.Mathlib.Omega.{arith}
 use lib.ListN.{length}
 use Rattle.call_lists.specs.Generator.{Generator, NoisePair}
 use Rattle.call_lists.specs.PlainRun.{Kind, ignored, ends, reply, timeOf, ended}
 use Rattle.call_lists.specs.PlainBench.{Lent, Step, halt, drain, due, taking, latest, Bench, Benched, benchStep, benchOn, benchSteps}
-use Rattle.call_lists.proofs.Machine.{later, State, Ran, stateStep, wrote, took, noted, machineOn, machineSteps}
+use Rattle.call_lists.specs.Machine.{later, State, Ran, stateStep, wrote, took, noted, machineOn, machineSteps}
 use Rattle.call_lists.proofs.StepFacts.{Says, step-says, Takes}
 use Rattle.call_lists.proofs.FlatLists.{AllOf}
 

@@ -14,7 +14,7 @@ use Rattle.call_lists.specs.PlainRun.{Reply, timeOf, ended, replies, sam
 use Rattle.call_lists.specs.PlainBench.{Stop, done, outputFull, wantsNoise, wantsDraws, recordsFull, Refusal, pairs, flatten, join, over, Call, Result, drawsOf, refusalOf, Lent, lentOf, Bench, Benched, bench0, benchSteps, fuel, counts, Given, resultOf, benchCall, benchResults, benchAfter}
 use Rattle.call_lists.specs.Laws.{Laws, Accepted}
 use Rattle.call_lists.specs.Demand3.{Prefix, isDone, doneIn, drawsTaken, samplesWritten, noiseUsed, recordsWritten, allSamples, allRecords, reachesDone, allTaken, allUsed, bench, plainOutput, plainLines, Demand3}
-use Rattle.call_lists.proofs.Machine.{State, Ran, opened, machineSteps, machineCall, machineRun, machineResults, machineAfter, runs}
+use Rattle.call_lists.specs.Machine.{State, Ran, opened, machineSteps, machineCall, machineRun, machineResults, machineAfter, runs}
 use Rattle.call_lists.proofs.PlainFacts.{replies-still, replies-append, samplesFrom-append, length-samplesFrom}
 use Rattle.call_lists.proofs.Reached.{Reached, reached-first, samples-stay}
 use Rattle.call_lists.proofs.Refusals.{accepted-draws, not-refused}

@@ -8,7 +8,7 @@ use lib.ListN.{length}
 use Rattle.call_lists.specs.Generator.{Generator, NoisePair}
 use Rattle.call_lists.specs.PlainRun.{Kind, timeOf, ended}
 use Rattle.call_lists.specs.PlainBench.{Lent, Step, halt, drain, due, taking, latest, Bench, Benched, benchStep, benchOn, benchSteps, fuel}
-use Rattle.call_lists.proofs.Machine.{later, State, Ran, stateStep, wrote, sample, took, noted, withSample, machineOn, machineSteps}
+use Rattle.call_lists.specs.Machine.{later, State, Ran, stateStep, wrote, sample, took, noted, withSample, machineOn, machineSteps}
 use Rattle.call_lists.proofs.StepFacts.{Says, step-says, Drains, Dues, Takes}
 
 module _ (G : Generator) where

@@ -10,6 +10,7 @@ use lib.ListN.{set, getD, replicate, length, take, drop, length-append, length-d
 use lib.Seq.{length-take-le, drop-drop, drop-cons, set-at, getD-append-add, getD-drop, take-at, drop-at}
 use Rattle.call_lists.specs.Generator.{Generator, Pair}
 use Rattle.call_lists.specs.PlainBench.{pairs, flatten, join, over, cut, drawsOf}
+use Rattle.call_lists.specs.Buffers.{laid}
 
 module _ {X : Type 0} where
   pub length-flatten : (l : List (Pair X)) → length (flatten l) ≡ 2 * length l
@@ -87,9 +88,6 @@ module _ {X : Type 0} where
   length-over xs buffer h = length-append xs (drop (length xs) buffer) ∙ omega (arith, length-drop (length xs) buffer)
 
 -- ---- a buffer with xs written at a place
-abbrev pub laid : {X : Type 0} → ℕ → List X → List X → List X
-laid at xs buffer = take at buffer ++ (xs ++ drop (at + length xs) buffer)
-
 module _ {X : Type 0} where
   pub length-laid : (at : ℕ) (xs buffer : List X) → at + length xs ≤ length buffer → length (laid at xs buffer) ≡ length buffer
   length-laid at xs buffer h =

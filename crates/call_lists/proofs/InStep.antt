@@ -12,7 +12,7 @@ use lib.ListN.{length, length-append}
 use Rattle.call_lists.specs.Generator.{Generator, Sample, NoisePair, silence, noisy}
 use Rattle.call_lists.specs.PlainRun.{Kind, ignored, ends, reply, timeOf, ended, replyOf, replies, addNth, hit, sumAt, plainSamples, plainRecords}
 use Rattle.call_lists.specs.PlainBench.{done, Lent, Step, halt, drain, due, taking, latest, Bench, Benched, bench0, benchStep, benchOn, benchSteps}
-use Rattle.call_lists.proofs.Machine.{window, rd, wr, put, later, State, Ran, opened, stateStep, wrote, sample, took, withSample, noted, machineOn, machineSteps}
+use Rattle.call_lists.specs.Machine.{window, rd, wr, put, later, State, Ran, opened, stateStep, wrote, sample, took, withSample, noted, machineOn, machineSteps}
 use Rattle.call_lists.specs.Laws.{Laws}
 use Rattle.call_lists.proofs.PlainFacts.{hit-before, hit-at}
 use Rattle.call_lists.proofs.Ring.{Fit, fit-blank, rd-blank, fit-wr, fit-put, rd-back, rd-here, put-ahead, put-at}

@@ -9,7 +9,7 @@ use native.Mathlib.Omega.{arith}
 use Rattle.call_lists.specs.Generator.{Generator}
 use Rattle.call_lists.specs.PlainBench.{Refusal, wrongLength, wrongDraw, Call, drawsOf, wrongLengths, orElse, atDraw, firstFault, firstLoud, jumpsBack, drawRefusal, refusalOf, latest}
 use Rattle.call_lists.specs.Laws.{Laws, NotAfter}
-use Rattle.call_lists.proofs.Machine.{later}
+use Rattle.call_lists.specs.Machine.{later}
 
 module _ (G : Generator) (L : Laws G) where
   open Generator G using (Draw, Time, t0, after, before, fault)

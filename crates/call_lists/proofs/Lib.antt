@@ -1,4 +1,3 @@
-pub mod Machine
 pub mod PlainFacts
 pub mod Ring
 pub mod StepFacts

@@ -3,7 +3,7 @@
 use mathlib.Core.Bool.{Bool, true, false, cond}
 use mathlib.Core.List.{List}
 use mathlib.Core.Path.{_≡_, refl}
-use Prim.Native.Nat.{ℕ, _+_, _-_, _*_, _/_, _≤_, _<_, min}
+use Prim.Native.Nat.{ℕ, _+_, _-_, _*_, _≤_, _<_}
 use native.Mathlib.Nat.{mul-add}
 use native.Mathlib.Omega.{arith}
 use lib.Dec.{eqb, leb, ltb}
@@ -11,53 +11,13 @@ use lib.ListN.{length}
 use borrow.Author.Tests.{eqb-true, eqb-false, leb-true, leb-false, ltb-true, ltb-false, eq-eqb, ne-eqb, le-leb, lt-leb, lt-ltb, le-ltb}
 use Rattle.call_lists.specs.Generator.{Generator, from}
 use Rattle.call_lists.specs.PlainRun.{Kind, ignored, ends, reply, kindOf}
-use Rattle.call_lists.specs.PlainBench.{Stop, done, outputFull, wantsNoise, wantsDraws, recordsFull}
-use Rattle.call_lists.proofs.Machine.{later}
-use Rattle.call_lists.proofs.FlatLists.{laid}
+use Rattle.call_lists.specs.PlainBench.{done, outputFull, wantsNoise, wantsDraws, recordsFull}
+use Rattle.call_lists.specs.Machine.{later}
+use Rattle.call_lists.specs.Buffers.{laid}
+use Rattle.call_lists.specs.Turns.{Turn, Ended, stopped, restOf, Within}
+use Rattle.call_lists.specs.Plans.{Plan, stopAt, drainMany, dueMany, ignore, endRun, addReply, batch, stopFor, someOr, planEnded, planReply, planDraw, plan}
 use Rattle.call_lists.proofs.StepFacts.{reply-fits}
-use Rattle.call_lists.proofs.Turns.{Turn, Ended, stopped, restOf, nextTime, nextKind, AreDue, after-end, by-start, wroteTurn, tookTurn, turn-done, turn-wants-draws, turn-output-full, turn-wants-noise, turn-writes, turn-ignores, turn-ends, turn-records-full, turn-adds}
-
--- of times T: a stop; n samples after the end draw; n samples by the start of the next draw, at its time; a draw taken at its time, ignored, ending the run, or a reply from its start on
-pub data Plan (T : Type 0) : Type 0 where
-  stopAt : Stop → Plan T
-  drainMany : ℕ → Plan T
-  dueMany : ℕ → T → Plan T
-  ignore : T → Plan T
-  endRun : T → Plan T
-  addReply : T → ℕ → Plan T
-
--- ---- the choice, from counts alone: numbers left in output and noise, bytes left for records
--- as many of the samples due as there is room and noise for
-abbrev pub batch : ℕ → ℕ → ℕ → ℕ
-batch n room noise = min n (min (room / 2) (noise / 2))
-
--- where none can be written
-abbrev pub stopFor : ℕ → Stop
-stopFor room = cond (ltb room 2) outputFull wantsNoise
-
-abbrev pub someOr : {T : Type 0} → (ℕ → Plan T) → ℕ → ℕ → Plan T
-someOr f n room = cond (eqb n 0) (stopAt (stopFor room)) (f n)
-
-module _ (G : Generator) where
-  open Generator G using (Time, drawBytes, recordBytes, hold, total)
-
-  abbrev pub planEnded : ℕ → ℕ → ℕ → Plan Time
-  planEnded written room noise = cond (leb total written) (stopAt done) (someOr drainMany (batch (total - written) room noise) room)
-
-  -- a reply by whose start so many samples are due
-  abbrev pub planReply : ℕ → Time → ℕ → ℕ → ℕ → ℕ → Plan Time
-  planReply n time s room noise bytes =
-      cond (ltb 0 n) (someOr (λ k. dueMany k time) (batch n room noise) room) (cond (ltb bytes recordBytes) (stopAt recordsFull) (addReply time s))
-
-  abbrev pub planDraw : ℕ → Time → Kind → ℕ → ℕ → ℕ → Plan Time
-  planDraw written time ignored room noise bytes = ignore time
-  planDraw written time ends room noise bytes = endRun time
-  planDraw written time (reply s) room noise bytes = planReply (s - hold - written) time s room noise bytes
-
-  -- `rest` counts the draw bytes that are left
-  abbrev pub plan : Bool → ℕ → ℕ → Time → Kind → ℕ → ℕ → ℕ → Plan Time
-  plan true written rest time k room noise bytes = planEnded written room noise
-  plan false written rest time k room noise bytes = cond (ltb rest drawBytes) (stopAt wantsDraws) (planDraw written time k room noise bytes)
+use Rattle.call_lists.proofs.Turns.{nextTime, nextKind, AreDue, after-end, by-start, wroteTurn, tookTurn, turn-done, turn-wants-draws, turn-output-full, turn-wants-noise, turn-writes, turn-ignores, turn-ends, turn-records-full, turn-adds}
 
 -- ---- the choice, test by test, as code meets it
 pub none-written : {T : Type 0} (f : ℕ → Plan T) (n room : ℕ) → n ≡ 0 → someOr f n room ≡ stopAt (stopFor room)
@@ -99,12 +59,6 @@ module _ (G : Generator) where
 module _ (G : Generator) (o : G .Value) (noise : List (G .Value)) where
   open Generator G using (Time, start, entry, adds, drawAt, drawBytes, recordBytes, hold, total)
 
-  -- the counts lie within what is lent
-  pub record Within (t : Turn G o) : Type 0 where
-    pub output-in : 2 * t .samples ≤ length (t .output)
-    pub noise-in : 2 * t .samples ≤ length noise
-    pub records-in : recordBytes * t .lines ≤ length (t .records)
-
   abbrev pub planOf : Turn G o → Plan Time
   planOf t =
       plan G (t .state .over) (t .state .written) (length (t .rest)) (nextTime G o noise t) (nextKind G o noise t)
@@ -139,7 +93,7 @@ module _ (G : Generator) (o : G .Value) (noise : List (G .Value)) where
   PlanSays t (addReply time s) = Added t time s
 
   -- where n ≥ 1 samples are due, the batch of them or the stop
-  some-or : (t : Turn G o) (f : ℕ → Plan Time) (n : ℕ) (m : Time) → Within t → 0 < n → ((k : ℕ) → k ≤ n → AreDue G o noise t k m)
+  some-or : (t : Turn G o) (f : ℕ → Plan Time) (n : ℕ) (m : Time) → Within G o noise t → 0 < n → ((k : ℕ) → k ≤ n → AreDue G o noise t k m)
       → ((k : ℕ) → 0 < k → k ≤ n → 2 * (t .samples + k) ≤ length (t .output) → 2 * (t .samples + k) ≤ length noise → PlanSays t (f k))
       → PlanSays t (someOr f (batch n (length (t .output) - 2 * t .samples) (length noise - 2 * t .samples)) (length (t .output) - 2 * t .samples))
   some-or t f n m w pos d h = go (eqb (batch n (length (t .output) - 2 * t .samples) (length noise - 2 * t .samples)) 0) refl
@@ -161,7 +115,7 @@ module _ (G : Generator) (o : G .Value) (noise : List (G .Value)) where
           positive : (k : ℕ) → (k ≡ 0 → ⊥) → 0 < k
           positive k ne = omega arith
 
-  ended-says : (t : Turn G o) → Within t → t .state .over ≡ true
+  ended-says : (t : Turn G o) → Within G o noise t → t .state .over ≡ true
       → PlanSays t (planEnded G (t .state .written) (length (t .output) - 2 * t .samples) (length noise - 2 * t .samples))
   ended-says t w e = go (leb total (t .state .written)) refl
     where
@@ -180,7 +134,7 @@ module _ (G : Generator) (o : G .Value) (noise : List (G .Value)) where
           })
 
   module _ (draw-pos : 0 < drawBytes) (record-pos : 0 < recordBytes) where
-    reply-says : (t : Turn G o) (s : ℕ) → Within t → Taken t (nextTime G o noise t) (reply s) → (n : ℕ) → s - hold - t .state .written ≡ n
+    reply-says : (t : Turn G o) (s : ℕ) → Within G o noise t → Taken t (nextTime G o noise t) (reply s) → (n : ℕ) → s - hold - t .state .written ≡ n
         → PlanSays t (planReply G n (nextTime G o noise t) s (length (t .output) - 2 * t .samples) (length noise - 2 * t .samples) (length (t .records) - recordBytes * t .lines))
     reply-says t s w k n e = on (ltb 0 n) refl
       where
@@ -211,13 +165,13 @@ module _ (G : Generator) (o : G .Value) (noise : List (G .Value)) where
               refl,
             ))
 
-    draw-says : (t : Turn G o) → Within t → t .state .over ≡ false → drawBytes ≤ length (t .rest) → (k : Kind) → nextKind G o noise t ≡ k
+    draw-says : (t : Turn G o) → Within G o noise t → t .state .over ≡ false → drawBytes ≤ length (t .rest) → (k : Kind) → nextKind G o noise t ≡ k
         → PlanSays t (planDraw G (t .state .written) (nextTime G o noise t) k (length (t .output) - 2 * t .samples) (length noise - 2 * t .samples) (length (t .records) - recordBytes * t .lines))
     draw-says t w e b ignored p = record { going = e; bytes = b; is = p; at = refl }
     draw-says t w e b ends p = record { going = e; bytes = b; is = p; at = refl }
     draw-says t w e b (reply s) p = reply-says t s w (record { going = e; bytes = b; is = p; at = refl }) (s - hold - t .state .written) refl
 
-    pub plan-says : (t : Turn G o) → Within t → PlanSays t (planOf t)
+    pub plan-says : (t : Turn G o) → Within G o noise t → PlanSays t (planOf t)
     plan-says t w = go (t .state .over) refl
       where
         drawn : t .state .over ≡ false → (x : Bool) → ltb (length (t .rest)) drawBytes ≡ x
@@ -255,5 +209,5 @@ module _ (G : Generator) (o : G .Value) (noise : List (G .Value)) where
           (line-length (nextTime G o noise t) (drawAt (t .rest)) s (length (adds (nextTime G o noise t) (drawAt (t .rest)) s))) (h .fits)
 
       -- the plan is right: what the rest of the call comes to is what doing it and going on comes to
-      pub plan-right : (t : Turn G o) → Within t → restOf G o noise t ≡ afterPlan t (planOf t)
+      pub plan-right : (t : Turn G o) → Within G o noise t → restOf G o noise t ≡ afterPlan t (planOf t)
       plan-right t w = by-says t (planOf t) (plan-says t w)

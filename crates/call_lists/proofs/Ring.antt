@@ -3,7 +3,7 @@
 use mathlib.Core.List.{List, [], _∷_}
 use mathlib.Core.Logic.{_≢_}
 use mathlib.Core.Path.{_≡_, refl, sym, ap, _∙_, subst}
-use Prim.Native.Nat.{ℕ, zero, suc, _+_, _-_, _*_, _/_, _%_, _≤_, _<_}
+use Prim.Native.Nat.{ℕ, zero, suc, _+_, _*_, _/_, _%_, _≤_, _<_}
 use native.Mathlib.Decide.{decLe}
 use native.Mathlib.Nat.{mod-lt, div-add-mod', mul-le-mul-right, add-zero}
 use native.Mathlib.Omega.{arith}
@@ -11,7 +11,7 @@ use lib.ListN.{length, set, length-replicate, length-set, getD-replicate}
 use lib.Seq.{getD-set-same, getD-set-other}
 use Rattle.call_lists.specs.Generator.{Generator, Sample, silence, add}
 use Rattle.call_lists.specs.PlainRun.{addNth}
-use Rattle.call_lists.proofs.Machine.{window, blank, rd, wr, put}
+use Rattle.call_lists.specs.Machine.{window, blank, rd, wr, put}
 
 pub mod-apart : (w n m : ℕ) → n < m → m < n + w → n % w ≢ m % w
 mod-apart w n m lt near e = go (decLe (m / w) (n / w))

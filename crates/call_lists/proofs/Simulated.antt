@@ -6,7 +6,7 @@ use Rattle.call_lists.specs.Generator.{Generator}
 use Rattle.call_lists.specs.PlainBench.{Call, Result, resultOf}
 use Rattle.call_lists.specs.Laws.{Laws}
 use Rattle.call_lists.specs.Demand3.{Demand3}
-use Rattle.call_lists.proofs.Machine.{State, opened, machineRun, machineResults}
+use Rattle.call_lists.specs.Machine.{State, opened, machineRun, machineResults}
 use Rattle.call_lists.proofs.Demand3.{demand3}
 
 -- S is what is handed from call to call (state, prototypes, working memory), `call` what a call comes to and hands on, and `Rel` when it stands for a machine's state

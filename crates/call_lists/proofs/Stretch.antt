@@ -12,10 +12,12 @@ use lib.Seq.{getD-drop, take-add, length-take-le, getD-set-other, drop-cons, tak
 use borrow.Author.Tests.{ltb-true, ltb-false}
 use Rattle.call_lists.specs.Generator.{Generator, Sample, NoisePair, silence, add, noisy}
 use Rattle.call_lists.specs.PlainBench.{pairs, flatten}
-use Rattle.call_lists.proofs.Machine.{window, rd, wr, put}
-use Rattle.call_lists.proofs.FlatLists.{laid, laid-snoc, laid-beyond, replicate-snoc, flatten-append, flatten-pairs, pairs-after, length-pairs}
+use Rattle.call_lists.specs.Machine.{window, rd, wr, put}
+use Rattle.call_lists.specs.Buffers.{laid}
+use Rattle.call_lists.specs.Batch.{written, cleared, mixed}
+use Rattle.call_lists.proofs.FlatLists.{laid-snoc, laid-beyond, replicate-snoc, flatten-append, flatten-pairs, pairs-after, length-pairs}
 use Rattle.call_lists.proofs.Ring.{rd-other, length-wr}
-use Rattle.call_lists.proofs.Batch.{written, cleared, written-append, cleared-add, length-cleared}
+use Rattle.call_lists.proofs.Batch.{written-append, cleared-add, length-cleared}
 
 -- the place of the next sample, by a comparison
 pub next-place : (w s : ℕ) → s % w < w → suc s % w ≡ cond (ltb (suc (s % w)) w) (suc (s % w)) 0
@@ -57,12 +59,6 @@ module _ (G : Generator) (o : G .Value) where
       ∙ put-from xs (bump (bump m (2 * (s % window G o)) (x .re)) (2 * (s % window G o) + 1) (x .im)) (suc s) pos
       ∙ ap (λ (q : ℕ). putFrom (bump (bump m (2 * (s % window G o)) (x .re)) (2 * (s % window G o) + 1) (x .im)) q xs) (next-place (window G o) s (mod-lt s pos))
 
-  -- numbers of memory with their noise
-  abbrev pub mixed : List Value → List Value → List Value
-  mixed [] vs = []
-  mixed (x ∷ xs) [] = []
-  mixed (x ∷ xs) (v ∷ vs) = plus x (scaled v) ∷ mixed xs vs
-
   -- ---- by place
   reads : List Value → ℕ → List (NoisePair G) → List (Sample G)
   reads m p [] = []
@@ -88,17 +84,17 @@ module _ (G : Generator) (o : G .Value) where
       ∙ ap (λ (l : List (Sample G)). noisy G (rd G o m p) v ∷ l)
       (written-reads (u ∷ vs) (wr G o m p (silence G)) (suc w) (suc p) (step-place w p e (omega arith)) (omega arith) ∙ reads-wr (u ∷ vs) m p (suc p) (silence G) (omega arith))
 
-  reads-flat : (vs : List (NoisePair G)) (m : List Value) (p : ℕ) → 2 * (p + length vs) ≤ length m → flatten (reads m p vs) ≡ mixed (drop (2 * p) m) (flatten vs)
+  reads-flat : (vs : List (NoisePair G)) (m : List Value) (p : ℕ) → 2 * (p + length vs) ≤ length m → flatten (reads m p vs) ≡ mixed G o (drop (2 * p) m) (flatten vs)
   unfolding reads
   reads-flat [] m p h = sym (no-noise (drop (2 * p) m))
     where
-      no-noise : (l : List Value) → mixed l [] ≡ []
+      no-noise : (l : List Value) → mixed G o l [] ≡ []
       no-noise [] = refl
       no-noise (x ∷ l) = refl
   reads-flat (v ∷ vs) m p h =
       ap (λ (l : List Value). plus (getD m (2 * p) o) (scaled (v .re)) ∷ plus (getD m (2 * p + 1) o) (scaled (v .im)) ∷ l)
-      (reads-flat vs m (suc p) (omega arith) ∙ ap (λ (n : ℕ). mixed (drop n m) (flatten vs)) {x = 2 * suc p} {y = suc (2 * p + 1)} (omega arith))
-      ∙ ap (λ (l : List Value). mixed l (flatten (v ∷ vs))) (sym two)
+      (reads-flat vs m (suc p) (omega arith) ∙ ap (λ (n : ℕ). mixed G o (drop n m) (flatten vs)) {x = 2 * suc p} {y = suc (2 * p + 1)} (omega arith))
+      ∙ ap (λ (l : List Value). mixed G o l (flatten (v ∷ vs))) (sym two)
     where
       two : drop (2 * p) m ≡ getD m (2 * p) o ∷ getD m (2 * p + 1) o ∷ drop (suc (2 * p + 1)) m
       two =
@@ -107,7 +103,7 @@ module _ (G : Generator) (o : G .Value) where
 
   -- samples of a stretch, as numbers
   pub written-stretch : (vs : List (NoisePair G)) (m : List Value) (w : ℕ) → w % window G o + length vs ≤ window G o → length m ≡ 2 * window G o
-      → flatten (written G o m w vs) ≡ mixed (drop (2 * (w % window G o)) m) (flatten vs)
+      → flatten (written G o m w vs) ≡ mixed G o (drop (2 * (w % window G o)) m) (flatten vs)
   written-stretch vs m w h f =
       ap (λ (l : List (Sample G)). flatten l) (written-reads vs m w (w % window G o) refl h) ∙ reads-flat vs m (w % window G o) (omega arith)
 
@@ -174,7 +170,7 @@ module _ (G : Generator) (o : G .Value) where
   -- after k samples with the noise xs, a stretch of j more
   pub written-more : (k j : ℕ) (xs m : List Value) (w : ℕ) → 2 * (k + j) ≤ length xs → (w + k) % window G o + j ≤ window G o → length m ≡ 2 * window G o
       → flatten (written G o m w (pairs (take (2 * (k + j)) xs)))
-      ≡ flatten (written G o m w (pairs (take (2 * k) xs))) ++ mixed (drop (2 * ((w + k) % window G o)) (cleared G o m w k)) (take (2 * j) (drop (2 * k) xs))
+      ≡ flatten (written G o m w (pairs (take (2 * k) xs))) ++ mixed G o (drop (2 * ((w + k) % window G o)) (cleared G o m w k)) (take (2 * j) (drop (2 * k) xs))
   written-more k j xs m w h fits f =
       ap (λ (vs : List (NoisePair G)). flatten (written G o m w vs)) (pairs-more k j xs h)
       ∙ ap (λ (l : List (Sample G)). flatten l) (written-append G o first next m w)
@@ -194,10 +190,10 @@ module _ (G : Generator) (o : G .Value) where
       count : length next ≡ j
       count = length-pairs (take (2 * j) (drop (2 * k) xs)) ∙ omega (arith, more)
 
-      stretch : flatten (written G o (cleared G o m w k) (w + k) next) ≡ mixed (drop (2 * ((w + k) % window G o)) (cleared G o m w k)) (take (2 * j) (drop (2 * k) xs))
+      stretch : flatten (written G o (cleared G o m w k) (w + k) next) ≡ mixed G o (drop (2 * ((w + k) % window G o)) (cleared G o m w k)) (take (2 * j) (drop (2 * k) xs))
       stretch =
           written-stretch next (cleared G o m w k) (w + k) (omega (arith, count)) (length-cleared G o k m w ∙ f)
-          ∙ ap (λ (l : List Value). mixed (drop (2 * ((w + k) % window G o)) (cleared G o m w k)) l) (flatten-pairs j (take (2 * j) (drop (2 * k) xs)) more)
+          ∙ ap (λ (l : List Value). mixed G o (drop (2 * ((w + k) % window G o)) (cleared G o m w k)) l) (flatten-pairs j (take (2 * j) (drop (2 * k) xs)) more)
 
   pub cleared-more : (k j : ℕ) (m : List Value) (w : ℕ) → (w + k) % window G o + j ≤ window G o → length m ≡ 2 * window G o
       → cleared G o m w (k + j)
@@ -205,14 +201,14 @@ module _ (G : Generator) (o : G .Value) where
   cleared-more k j m w fits f = cleared-add G o k j m w ∙ cleared-stretch j (cleared G o m w k) (w + k) fits (length-cleared G o k m w ∙ f)
 
   -- ---- the tight loop: one number more
-  pub length-mixed : (i : ℕ) (xs vs : List Value) → i ≤ length xs → i ≤ length vs → length (mixed xs (take i vs)) ≡ i
+  pub length-mixed : (i : ℕ) (xs vs : List Value) → i ≤ length xs → i ≤ length vs → length (mixed G o xs (take i vs)) ≡ i
   length-mixed zero [] vs h k = refl
   length-mixed zero (x ∷ xs) vs h k = refl
   length-mixed (suc i) [] vs h k = absurd (omega arith)
   length-mixed (suc i) (x ∷ xs) [] h k = absurd (omega arith)
   length-mixed (suc i) (x ∷ xs) (v ∷ vs) h k = ap suc (length-mixed i xs vs (omega arith) (omega arith))
 
-  pub mixed-snoc : (i : ℕ) (xs vs : List Value) → i < length xs → i < length vs → mixed xs (take i vs) ++ (plus (getD xs i o) (scaled (getD vs i o)) ∷ []) ≡ mixed xs (take (suc i) vs)
+  pub mixed-snoc : (i : ℕ) (xs vs : List Value) → i < length xs → i < length vs → mixed G o xs (take i vs) ++ (plus (getD xs i o) (scaled (getD vs i o)) ∷ []) ≡ mixed G o xs (take (suc i) vs)
   mixed-snoc i [] vs h k = absurd (omega arith)
   mixed-snoc i (x ∷ xs) [] h k = absurd (omega arith)
   mixed-snoc zero (x ∷ []) (v ∷ vs) h k = refl
@@ -221,13 +217,13 @@ module _ (G : Generator) (o : G .Value) where
 
   -- after i numbers of a stretch from place p on, output laid from `at` on and memory blanked: the next number goes to output, and its place in memory is blanked
   module _ (m noise output : List Value) (p from at i : ℕ) (in-memory : p + i < length m) (in-noise : from + i < length noise) (in-output : at + i < length output) where
-    pub stretch-output : set (laid at (mixed (drop p m) (take i (drop from noise))) output) (at + i) (plus (getD (laid p (replicate i nought) m) (p + i) o) (scaled (getD noise (from + i) o)))
-        ≡ laid at (mixed (drop p m) (take (suc i) (drop from noise))) output
+    pub stretch-output : set (laid at (mixed G o (drop p m) (take i (drop from noise))) output) (at + i) (plus (getD (laid p (replicate i nought) m) (p + i) o) (scaled (getD noise (from + i) o)))
+        ≡ laid at (mixed G o (drop p m) (take (suc i) (drop from noise))) output
     stretch-output =
-        laid-snoc at i (mixed (drop p m) (take i (drop from noise))) output (plus (getD (laid p (replicate i nought) m) (p + i) o) (scaled (getD noise (from + i) o))) len in-output
-        ∙ ap (λ (l : List Value). laid at l output) (ap (λ (x : Value). mixed (drop p m) (take i (drop from noise)) ++ (x ∷ [])) number ∙ mixed-snoc i (drop p m) (drop from noise) (omega (arith, length-drop p m)) (omega (arith, length-drop from noise)))
+        laid-snoc at i (mixed G o (drop p m) (take i (drop from noise))) output (plus (getD (laid p (replicate i nought) m) (p + i) o) (scaled (getD noise (from + i) o))) len in-output
+        ∙ ap (λ (l : List Value). laid at l output) (ap (λ (x : Value). mixed G o (drop p m) (take i (drop from noise)) ++ (x ∷ [])) number ∙ mixed-snoc i (drop p m) (drop from noise) (omega (arith, length-drop p m)) (omega (arith, length-drop from noise)))
       where
-        len : length (mixed (drop p m) (take i (drop from noise))) ≡ i
+        len : length (mixed G o (drop p m) (take i (drop from noise))) ≡ i
         len = length-mixed i (drop p m) (drop from noise) (omega (arith, length-drop p m)) (omega (arith, length-drop from noise))
 
         read : getD (laid p (replicate i nought) m) (p + i) o ≡ getD m (p + i) o

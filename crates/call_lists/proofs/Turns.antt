@@ -1,5 +1,4 @@
--- A call on flat buffers, turn by turn, as the code goes: `restOf t` is what the rest of a call comes to from a turn t, and each turn of the code's loop leaves it as it is.
--- The buffers stay whole; the counts say where the next numbers go. No law of the generator is used but the length of a record. Assumes nothing.
+-- A call turn by turn, as the code goes: each turn of the code's loop leaves `restOf`, what the rest of the call comes to, as it is. No law of the generator is used but the length of a record. Assumes nothing.
 use mathlib.Core.Bool.{Bool, true, false, cond}
 use mathlib.Core.List.{List, [], _∷_, _++_}
 use mathlib.Core.Option.{none}
@@ -14,71 +13,28 @@ use borrow.Author.Tests.{le-leb, lt-leb, lt-ltb, le-ltb}
 use Rattle.call_lists.specs.Generator.{Generator, Sample, NoisePair}
 use Rattle.call_lists.specs.PlainRun.{Kind, ignored, ends, reply, kind}
 use Rattle.call_lists.specs.PlainBench.{Stop, done, outputFull, wantsNoise, wantsDraws, recordsFull, Answer, ran, pairs, flatten, join, over, Call, Result, drawsOf, Lent, lentOf, Step, halt, drain, due, taking, write, step4, step5, dueBy, step1, fuel, resultOf}
-use Rattle.call_lists.proofs.Machine.{later, State, Ran, stateStep, took, noted, machineOn, machineCall}
+use Rattle.call_lists.specs.Machine.{later, State, Ran, stateStep, took, noted, machineOn, machineCall}
+use Rattle.call_lists.specs.Buffers.{laid}
+use Rattle.call_lists.specs.Batch.{written}
+use Rattle.call_lists.specs.Turns.{allSteps, lentWith, Turn, Ended, firstTurn, stopped, leftOf, finish, restOf}
 use Rattle.call_lists.proofs.EnoughFuel.{machine-repeats}
-use Rattle.call_lists.proofs.FlatLists.{laid, length-laid, laid-laid, pairs-split, pairs-none, length-flatten, flatten-append, draws-none, draws-cons}
+use Rattle.call_lists.proofs.FlatLists.{length-laid, laid-laid, pairs-split, pairs-none, length-flatten, flatten-append, draws-none, draws-cons}
 use Rattle.call_lists.proofs.Counted.{Counted, counted}
-use Rattle.call_lists.proofs.Batch.{allSteps, lentWith, written, length-written, wroteMany, withSamples, drain-many, due-many}
+use Rattle.call_lists.proofs.Batch.{length-written, wroteMany, withSamples, drain-many, due-many}
 
 module _ (G : Generator) (o : G .Value) where
   open Generator G using (Value, Byte, Draw, Time, after, adds, entry, drawBytes, recordBytes, drawAt, hold, total)
 
-  -- a call so far: the state, the counts, the draw bytes that are not taken, and the buffers
-  pub record Turn : Type 0 where
-    pub state : State G o
-    pub taken : ℕ
-    pub samples : ℕ
-    pub lines : ℕ
-    pub rest : List Byte
-    pub output : List Value
-    pub records : List Byte
-
-  -- a call at its stop
-  pub record Ended : Type 0 where
-    pub state : State G o
-    pub taken : ℕ
-    pub samples : ℕ
-    pub lines : ℕ
-    pub output : List Value
-    pub records : List Byte
-    pub stop : Stop
-
-  abbrev pub firstTurn : State G o → Call G → Turn
-  firstTurn z c = record { state = z; taken = 0; samples = 0; lines = 0; rest = c .draws; output = c .output; records = c .records }
-
-  abbrev pub stopped : Turn → Stop → Ended
-  stopped t s = record { state = t .state; taken = t .taken; samples = t .samples; lines = t .lines; output = t .output; records = t .records; stop = s }
-
   module _ (noise : List Value) where
-    -- what is left of what is lent
-    abbrev pub leftOf : Turn → Lent G
-    leftOf t = lentWith G o (drawsOf G (t .rest)) (pairs (drop (2 * t .samples) noise)) (length (t .output) / 2 - t .samples) (length (t .records) / recordBytes - t .lines)
-
-    -- a turn and then what steps on what is left come to
-    abbrev pub finish : Turn → Ran G o → Ended
-    finish t r = record {
-      state = r .state;
-      taken = t .taken + (length (drawsOf G (t .rest)) - length (r .rest .draws));
-      samples = t .samples + length (r .samples);
-      lines = t .lines + length (r .records);
-      output = laid (2 * t .samples) (flatten (r .samples)) (t .output);
-      records = laid (recordBytes * t .lines) (join (r .records)) (t .records);
-      stop = r .stop;
-    }
-
-    -- what the rest of a call comes to
-    unfoldable pub restOf : Turn → Ended
-    restOf t = finish t (allSteps G o (t .state) (leftOf t))
-
-    by-step : (t : Turn) (s : Step G) → stateStep G o (t .state) (leftOf t) ≡ s → restOf t ≡ finish t (machineOn G o (λ z l. allSteps G o z l) (t .state) (leftOf t) s)
+    by-step : (t : Turn G o) (s : Step G) → stateStep G o (t .state) (leftOf G o noise t) ≡ s → restOf G o noise t ≡ finish G o noise t (machineOn G o (λ z l. allSteps G o z l) (t .state) (leftOf G o noise t) s)
     unfolding restOf
-    by-step t s e = ap (λ (r : Ran G o). finish t r) (machine-repeats G o (t .state) (leftOf t) ∙ ap (λ (x : Step G). machineOn G o (λ z l. allSteps G o z l) (t .state) (leftOf t) x) e)
+    by-step t s e = ap (λ (r : Ran G o). finish G o noise t r) (machine-repeats G o (t .state) (leftOf G o noise t) ∙ ap (λ (x : Step G). machineOn G o (λ z l. allSteps G o z l) (t .state) (leftOf G o noise t) x) e)
 
     -- ---- stops
     laid-none : {X : Type 0} (at : ℕ) (buffer : List X) → laid at [] buffer ≡ buffer
     laid-none at buffer = ap (λ (n : ℕ). take at buffer ++ drop n buffer) {x = at + 0} {y = at} (omega arith) ∙ take-append-drop at buffer
 
-    turn-stops : (t : Turn) (s : Stop) → stateStep G o (t .state) (leftOf t) ≡ halt s → restOf t ≡ stopped t s
+    turn-stops : (t : Turn G o) (s : Stop) → stateStep G o (t .state) (leftOf G o noise t) ≡ halt s → restOf G o noise t ≡ stopped G o t s
     turn-stops t s e = by-step t (halt s) e ∙ (λ i. record {
       state = t .state;
       taken = p i;
@@ -99,59 +55,59 @@ module _ (G : Generator) (o : G .Value) where
         r = omega arith
 
     -- Step 1
-    pub turn-done : (t : Turn) → t .state .over ≡ true → total ≤ t .state .written → restOf t ≡ stopped t done
+    pub turn-done : (t : Turn G o) → t .state .over ≡ true → total ≤ t .state .written → restOf G o noise t ≡ stopped G o t done
     turn-done t e h = turn-stops t done is
       where
-        is : stateStep G o (t .state) (leftOf t) ≡ halt done
+        is : stateStep G o (t .state) (leftOf G o noise t) ≡ halt done
         is = rw (e, le-leb total (t .state .written) h)
 
     -- Step 3
-    pub turn-wants-draws : (t : Turn) → t .state .over ≡ false → length (t .rest) < drawBytes → restOf t ≡ stopped t wantsDraws
+    pub turn-wants-draws : (t : Turn G o) → t .state .over ≡ false → length (t .rest) < drawBytes → restOf G o noise t ≡ stopped G o t wantsDraws
     turn-wants-draws t e h = turn-stops t wantsDraws is
       where
-        is : stateStep G o (t .state) (leftOf t) ≡ halt wantsDraws
+        is : stateStep G o (t .state) (leftOf G o noise t) ≡ halt wantsDraws
         is = rw (e, draws-none G (t .rest) h)
 
     -- ---- samples
     -- the next draw, its time and its kind
-    abbrev pub nextTime : Turn → Time
+    abbrev pub nextTime : Turn G o → Time
     nextTime t = after (t .state .time) (drawAt (t .rest))
 
-    abbrev pub nextKind : Turn → Kind
+    abbrev pub nextKind : Turn G o → Kind
     nextKind t = kind G (nextTime t) (drawAt (t .rest))
 
     -- n samples are due: after the end draw, or by the start of the next draw; with the latest time after them
-    pub data AreDue (t : Turn) (n : ℕ) : Time → Type 0 where
+    pub data AreDue (t : Turn G o) (n : ℕ) : Time → Type 0 where
       after-end : t .state .over ≡ true → t .state .written + n ≤ total → AreDue t n (t .state .mark)
       by-start : (s : ℕ) → t .state .over ≡ false → 0 < drawBytes → drawBytes ≤ length (t .rest) → nextKind t ≡ reply s → t .state .written + n + hold ≤ s → AreDue t n (later G (t .state .mark) (nextTime t))
 
     -- where one is due, the step is to write it
-    pub record Writes (t : Turn) : Type 0 where
+    pub record Writes (t : Turn G o) : Type 0 where
       pub how : NoisePair G → Lent G → Step G
-      pub is : stateStep G o (t .state) (leftOf t) ≡ write G how (drawsOf G (t .rest)) (leftOf t .noise) (leftOf t .room) (leftOf t .slots)
+      pub is : stateStep G o (t .state) (leftOf G o noise t) ≡ write G how (drawsOf G (t .rest)) (leftOf G o noise t .noise) (leftOf G o noise t .room) (leftOf G o noise t .slots)
 
-    one-due : (t : Turn) (m : Time) → AreDue t 1 m → Writes t
+    one-due : (t : Turn G o) (m : Time) → AreDue t 1 m → Writes t
     one-due t m (after-end e h) = record { how = drain; is = rw (e, lt-leb total (t .state .written) (omega arith)) }
     one-due t m (by-start s e p b k h) = record {
       how = due (nextTime t);
       is =
-          ap (λ (x : Bool). step1 G x (t .state .written) (t .state .time) (drawsOf G (t .rest)) (leftOf t .noise) (leftOf t .room) (leftOf t .slots)) e
-          ∙ ap (λ (ds : List Draw). step1 G false (t .state .written) (t .state .time) ds (leftOf t .noise) (leftOf t .room) (leftOf t .slots)) (draws-cons G (t .rest) p b)
+          ap (λ (x : Bool). step1 G x (t .state .written) (t .state .time) (drawsOf G (t .rest)) (leftOf G o noise t .noise) (leftOf G o noise t .room) (leftOf G o noise t .slots)) e
+          ∙ ap (λ (ds : List Draw). step1 G false (t .state .written) (t .state .time) ds (leftOf G o noise t .noise) (leftOf G o noise t .room) (leftOf G o noise t .slots)) (draws-cons G (t .rest) p b)
           ∙ by-kind (nextKind t) k
-          ∙ ap (λ (ds : List Draw). write G (due (nextTime t)) ds (leftOf t .noise) (leftOf t .room) (leftOf t .slots)) (sym (draws-cons G (t .rest) p b));
+          ∙ ap (λ (ds : List Draw). write G (due (nextTime t)) ds (leftOf G o noise t .noise) (leftOf G o noise t .room) (leftOf G o noise t .slots)) (sym (draws-cons G (t .rest) p b));
     }
       where
         more : List Draw
         more = drawsOf G (drop drawBytes (t .rest))
 
         by-kind : (k′ : Kind) → k′ ≡ reply s
-            → cond (dueBy G (t .state .written) k′) (write G (due (nextTime t)) (drawAt (t .rest) ∷ more) (leftOf t .noise) (leftOf t .room) (leftOf t .slots)) (step4 G (drawAt (t .rest)) k′ more (leftOf t .noise) (leftOf t .room) (leftOf t .slots))
-            ≡ write G (due (nextTime t)) (drawAt (t .rest) ∷ more) (leftOf t .noise) (leftOf t .room) (leftOf t .slots)
+            → cond (dueBy G (t .state .written) k′) (write G (due (nextTime t)) (drawAt (t .rest) ∷ more) (leftOf G o noise t .noise) (leftOf G o noise t .room) (leftOf G o noise t .slots)) (step4 G (drawAt (t .rest)) k′ more (leftOf G o noise t .noise) (leftOf G o noise t .room) (leftOf G o noise t .slots))
+            ≡ write G (due (nextTime t)) (drawAt (t .rest) ∷ more) (leftOf G o noise t .noise) (leftOf G o noise t .room) (leftOf G o noise t .slots)
         by-kind k′ q = rw (q, lt-ltb (t .state .written) (s - hold) (omega arith))
 
     -- Step 2: none left in output, fewer than 2 noise values left
-    pub turn-output-full : (t : Turn) (m : Time) → AreDue t 1 m → length (t .output) < 2 * t .samples + 2 → restOf t ≡ stopped t outputFull
-    turn-output-full t m d h = turn-stops t outputFull (w .is ∙ ap (λ (n : ℕ). write G (w .how) (drawsOf G (t .rest)) (leftOf t .noise) n (leftOf t .slots)) no-room)
+    pub turn-output-full : (t : Turn G o) (m : Time) → AreDue t 1 m → length (t .output) < 2 * t .samples + 2 → restOf G o noise t ≡ stopped G o t outputFull
+    turn-output-full t m d h = turn-stops t outputFull (w .is ∙ ap (λ (n : ℕ). write G (w .how) (drawsOf G (t .rest)) (leftOf G o noise t .noise) n (leftOf G o noise t .slots)) no-room)
       where
         w : Writes t
         w = one-due t m d
@@ -159,12 +115,12 @@ module _ (G : Generator) (o : G .Value) where
         no-room : length (t .output) / 2 - t .samples ≡ 0
         no-room = omega arith
 
-    pub turn-wants-noise : (t : Turn) (m : Time) → AreDue t 1 m → 2 * t .samples + 2 ≤ length (t .output) → length noise < 2 * t .samples + 2 → restOf t ≡ stopped t wantsNoise
+    pub turn-wants-noise : (t : Turn G o) (m : Time) → AreDue t 1 m → 2 * t .samples + 2 ≤ length (t .output) → length noise < 2 * t .samples + 2 → restOf G o noise t ≡ stopped G o t wantsNoise
     turn-wants-noise t m d h g =
         turn-stops t wantsNoise
         (w .is
-        ∙ ap (λ (n : ℕ). write G (w .how) (drawsOf G (t .rest)) (leftOf t .noise) n (leftOf t .slots)) some-room
-        ∙ ap (λ (vs : List (NoisePair G)). write G (w .how) (drawsOf G (t .rest)) vs (suc (length (t .output) / 2 - t .samples - 1)) (leftOf t .slots)) (pairs-none (drop (2 * t .samples) noise) (omega (arith, length-drop (2 * t .samples) noise))))
+        ∙ ap (λ (n : ℕ). write G (w .how) (drawsOf G (t .rest)) (leftOf G o noise t .noise) n (leftOf G o noise t .slots)) some-room
+        ∙ ap (λ (vs : List (NoisePair G)). write G (w .how) (drawsOf G (t .rest)) vs (suc (length (t .output) / 2 - t .samples - 1)) (leftOf G o noise t .slots)) (pairs-none (drop (2 * t .samples) noise) (omega (arith, length-drop (2 * t .samples) noise))))
       where
         w : Writes t
         w = one-due t m d
@@ -173,14 +129,14 @@ module _ (G : Generator) (o : G .Value) where
         some-room = omega arith
 
     -- the noise of the next n samples
-    abbrev pub nextNoise : Turn → ℕ → List (NoisePair G)
+    abbrev pub nextNoise : Turn G o → ℕ → List (NoisePair G)
     nextNoise t n = pairs (take (2 * n) (drop (2 * t .samples) noise))
 
-    abbrev pub nextSamples : Turn → ℕ → List (Sample G)
+    abbrev pub nextSamples : Turn G o → ℕ → List (Sample G)
     nextSamples t n = written G o (t .state .memory) (t .state .written) (nextNoise t n)
 
     -- the turn after n samples, m being the latest time
-    abbrev pub wroteTurn : Turn → ℕ → Time → Turn
+    abbrev pub wroteTurn : Turn G o → ℕ → Time → Turn G o
     wroteTurn t n m = record {
       state = wroteMany G o (t .state) n m;
       taken = t .taken;
@@ -191,8 +147,8 @@ module _ (G : Generator) (o : G .Value) where
       records = t .records;
     }
 
-    module _ (t : Turn) (n : ℕ) (pos : 0 < n) (room : 2 * (t .samples + n) ≤ length (t .output)) (lent : 2 * (t .samples + n) ≤ length noise) where
-      split : (leftOf t .noise ≡ nextNoise t n ++ pairs (drop (2 * (t .samples + n)) noise)) × (length (nextNoise t n) ≡ n)
+    module _ (t : Turn G o) (n : ℕ) (pos : 0 < n) (room : 2 * (t .samples + n) ≤ length (t .output)) (lent : 2 * (t .samples + n) ≤ length noise) where
+      split : (leftOf G o noise t .noise ≡ nextNoise t n ++ pairs (drop (2 * (t .samples + n)) noise)) × (length (nextNoise t n) ≡ n)
       split =
           let s = pairs-split n (drop (2 * t .samples) noise) (omega (arith, length-drop (2 * t .samples) noise)) in
           (s .0 ∙ ap (λ (l : List Value). nextNoise t n ++ pairs l) (drop-drop (2 * n) (2 * t .samples) noise ∙ ap (λ (k : ℕ). drop k noise) {x = 2 * t .samples + 2 * n} {y = 2 * (t .samples + n)} (omega arith)), s .1)
@@ -207,18 +163,18 @@ module _ (G : Generator) (o : G .Value) where
       same-length m = length-laid (2 * t .samples) (flatten (nextSamples t n)) (t .output) (omega (arith, length-flatten (nextSamples t n), count))
 
       -- what is left, before and after
-      left-before : leftOf t ≡ lentWith G o (drawsOf G (t .rest)) (nextNoise t n ++ pairs (drop (2 * (t .samples + n)) noise)) (length (nextNoise t n) + room-left) (leftOf t .slots)
+      left-before : leftOf G o noise t ≡ lentWith G o (drawsOf G (t .rest)) (nextNoise t n ++ pairs (drop (2 * (t .samples + n)) noise)) (length (nextNoise t n) + room-left) (leftOf G o noise t .slots)
       unfolding room-left
-      left-before = λ i. lentWith G o (drawsOf G (t .rest)) (split .0 i) (q i) (leftOf t .slots)
+      left-before = λ i. lentWith G o (drawsOf G (t .rest)) (split .0 i) (q i) (leftOf G o noise t .slots)
         where
           q : length (t .output) / 2 - t .samples ≡ length (nextNoise t n) + (length (t .output) / 2 - (t .samples + n))
           q = omega (arith, split .1)
 
-      left-after : (m : Time) → lentWith G o (drawsOf G (t .rest)) (pairs (drop (2 * (t .samples + n)) noise)) room-left (leftOf t .slots) ≡ leftOf (wroteTurn t n m)
+      left-after : (m : Time) → lentWith G o (drawsOf G (t .rest)) (pairs (drop (2 * (t .samples + n)) noise)) room-left (leftOf G o noise t .slots) ≡ leftOf G o noise (wroteTurn t n m)
       unfolding room-left
-      left-after m = λ i. lentWith G o (drawsOf G (t .rest)) (pairs (drop (2 * (t .samples + n)) noise)) (sym (same-length m) i / 2 - (t .samples + n)) (leftOf t .slots)
+      left-after m = λ i. lentWith G o (drawsOf G (t .rest)) (pairs (drop (2 * (t .samples + n)) noise)) (sym (same-length m) i / 2 - (t .samples + n)) (leftOf G o noise t .slots)
 
-      finish-wrote : (m : Time) (r : Ran G o) → finish t (withSamples G o (nextSamples t n) r) ≡ finish (wroteTurn t n m) r
+      finish-wrote : (m : Time) (r : Ran G o) → finish G o noise t (withSamples G o (nextSamples t n) r) ≡ finish G o noise (wroteTurn t n m) r
       finish-wrote m r = λ i. record {
         state = r .state;
         taken = t .taken + (length (drawsOf G (t .rest)) - length (r .rest .draws));
@@ -238,25 +194,25 @@ module _ (G : Generator) (o : G .Value) where
               ∙ sym (laid-laid (2 * t .samples) (2 * n) (flatten (nextSamples t n)) (flatten (r .samples)) (t .output) (length-flatten (nextSamples t n) ∙ ap (λ (k : ℕ). 2 * k) count) (omega arith))
               ∙ ap (λ (k : ℕ). laid k (flatten (r .samples)) (wroteTurn t n m .output)) {x = 2 * t .samples + 2 * n} {y = 2 * (t .samples + n)} (omega arith)
 
-      steps-written : (m : Time) → AreDue t n m → allSteps G o (t .state) (leftOf t) ≡ withSamples G o (nextSamples t n) (allSteps G o (wroteMany G o (t .state) n m) (leftOf (wroteTurn t n m)))
+      steps-written : (m : Time) → AreDue t n m → allSteps G o (t .state) (leftOf G o noise t) ≡ withSamples G o (nextSamples t n) (allSteps G o (wroteMany G o (t .state) n m) (leftOf G o noise (wroteTurn t n m)))
       steps-written m (after-end e h) =
           ap (λ (l : Lent G). allSteps G o (t .state) l) left-before
-          ∙ drain-many G o (nextNoise t n) (pairs (drop (2 * (t .samples + n)) noise)) (t .state) (drawsOf G (t .rest)) room-left (leftOf t .slots) (omega (arith, split .1)) e (omega (arith, split .1))
+          ∙ drain-many G o (nextNoise t n) (pairs (drop (2 * (t .samples + n)) noise)) (t .state) (drawsOf G (t .rest)) room-left (leftOf G o noise t .slots) (omega (arith, split .1)) e (omega (arith, split .1))
           ∙ (λ i. withSamples G o (nextSamples t n) (allSteps G o (wroteMany G o (t .state) (split .1 i) (t .state .mark)) (left-after (t .state .mark) i)))
       steps-written m (by-start s e p b k h) =
-          ap (λ (l : Lent G). allSteps G o (t .state) l) (left-before ∙ (λ i. lentWith G o (draws-cons G (t .rest) p b i) (nextNoise t n ++ pairs (drop (2 * (t .samples + n)) noise)) (length (nextNoise t n) + room-left) (leftOf t .slots)))
-          ∙ due-many G o (nextNoise t n) (pairs (drop (2 * (t .samples + n)) noise)) (t .state) (drawAt (t .rest)) (drawsOf G (drop drawBytes (t .rest))) room-left (leftOf t .slots) s (omega (arith, split .1)) e k (omega (arith, split .1))
-          ∙ (λ i. withSamples G o (nextSamples t n) (allSteps G o (wroteMany G o (t .state) (split .1 i) (later G (t .state .mark) (nextTime t))) (lentWith G o (sym (draws-cons G (t .rest) p b) i) (pairs (drop (2 * (t .samples + n)) noise)) room-left (leftOf t .slots))))
+          ap (λ (l : Lent G). allSteps G o (t .state) l) (left-before ∙ (λ i. lentWith G o (draws-cons G (t .rest) p b i) (nextNoise t n ++ pairs (drop (2 * (t .samples + n)) noise)) (length (nextNoise t n) + room-left) (leftOf G o noise t .slots)))
+          ∙ due-many G o (nextNoise t n) (pairs (drop (2 * (t .samples + n)) noise)) (t .state) (drawAt (t .rest)) (drawsOf G (drop drawBytes (t .rest))) room-left (leftOf G o noise t .slots) s (omega (arith, split .1)) e k (omega (arith, split .1))
+          ∙ (λ i. withSamples G o (nextSamples t n) (allSteps G o (wroteMany G o (t .state) (split .1 i) (later G (t .state .mark) (nextTime t))) (lentWith G o (sym (draws-cons G (t .rest) p b) i) (pairs (drop (2 * (t .samples + n)) noise)) room-left (leftOf G o noise t .slots))))
           ∙ ap (λ (l : Lent G). withSamples G o (nextSamples t n) (allSteps G o (wroteMany G o (t .state) n (later G (t .state .mark) (nextTime t))) l)) (left-after (later G (t .state .mark) (nextTime t)))
 
       -- n samples that are due, written at once
-      pub turn-writes : (m : Time) → AreDue t n m → restOf t ≡ restOf (wroteTurn t n m)
+      pub turn-writes : (m : Time) → AreDue t n m → restOf G o noise t ≡ restOf G o noise (wroteTurn t n m)
       unfolding restOf
-      turn-writes m d = ap (λ (r : Ran G o). finish t r) (steps-written m d) ∙ finish-wrote m (allSteps G o (wroteMany G o (t .state) n m) (leftOf (wroteTurn t n m)))
+      turn-writes m d = ap (λ (r : Ran G o). finish G o noise t r) (steps-written m d) ∙ finish-wrote m (allSteps G o (wroteMany G o (t .state) n m) (leftOf G o noise (wroteTurn t n m)))
 
     -- ---- draws
     -- the turn after the next draw is taken, with its bytes behind and lines records more
-    abbrev pub tookTurn : Turn → Kind → ℕ → List Byte → Turn
+    abbrev pub tookTurn : Turn G o → Kind → ℕ → List Byte → Turn G o
     tookTurn t k lines records = record {
       state = took G o (t .state) (drawAt (t .rest)) k;
       taken = t .taken + 1;
@@ -267,14 +223,14 @@ module _ (G : Generator) (o : G .Value) where
       records = records;
     }
 
-    module _ (t : Turn) (going : t .state .over ≡ false) (pos : 0 < drawBytes) (some-draw : drawBytes ≤ length (t .rest)) where
+    module _ (t : Turn G o) (going : t .state .over ≡ false) (pos : 0 < drawBytes) (some-draw : drawBytes ≤ length (t .rest)) where
       -- the step for a draw of this kind that asks for no sample
-      step-is : (k : Kind) → nextKind t ≡ k → dueBy G (t .state .written) k ≡ false → stateStep G o (t .state) (leftOf t) ≡ step4 G (drawAt (t .rest)) k (drawsOf G (drop drawBytes (t .rest))) (leftOf t .noise) (leftOf t .room) (leftOf t .slots)
+      step-is : (k : Kind) → nextKind t ≡ k → dueBy G (t .state .written) k ≡ false → stateStep G o (t .state) (leftOf G o noise t) ≡ step4 G (drawAt (t .rest)) k (drawsOf G (drop drawBytes (t .rest))) (leftOf G o noise t .noise) (leftOf G o noise t .room) (leftOf G o noise t .slots)
       step-is k e h =
-          ap (λ (x : Bool). step1 G x (t .state .written) (t .state .time) (drawsOf G (t .rest)) (leftOf t .noise) (leftOf t .room) (leftOf t .slots)) going
-          ∙ ap (λ (ds : List Draw). step1 G false (t .state .written) (t .state .time) ds (leftOf t .noise) (leftOf t .room) (leftOf t .slots)) (draws-cons G (t .rest) pos some-draw)
-          ∙ (λ i. cond (dueBy G (t .state .written) (e i)) (write G (due (nextTime t)) (drawAt (t .rest) ∷ drawsOf G (drop drawBytes (t .rest))) (leftOf t .noise) (leftOf t .room) (leftOf t .slots)) (step4 G (drawAt (t .rest)) (e i) (drawsOf G (drop drawBytes (t .rest))) (leftOf t .noise) (leftOf t .room) (leftOf t .slots)))
-          ∙ ap (λ (x : Bool). cond x (write G (due (nextTime t)) (drawAt (t .rest) ∷ drawsOf G (drop drawBytes (t .rest))) (leftOf t .noise) (leftOf t .room) (leftOf t .slots)) (step4 G (drawAt (t .rest)) k (drawsOf G (drop drawBytes (t .rest))) (leftOf t .noise) (leftOf t .room) (leftOf t .slots))) h
+          ap (λ (x : Bool). step1 G x (t .state .written) (t .state .time) (drawsOf G (t .rest)) (leftOf G o noise t .noise) (leftOf G o noise t .room) (leftOf G o noise t .slots)) going
+          ∙ ap (λ (ds : List Draw). step1 G false (t .state .written) (t .state .time) ds (leftOf G o noise t .noise) (leftOf G o noise t .room) (leftOf G o noise t .slots)) (draws-cons G (t .rest) pos some-draw)
+          ∙ (λ i. cond (dueBy G (t .state .written) (e i)) (write G (due (nextTime t)) (drawAt (t .rest) ∷ drawsOf G (drop drawBytes (t .rest))) (leftOf G o noise t .noise) (leftOf G o noise t .room) (leftOf G o noise t .slots)) (step4 G (drawAt (t .rest)) (e i) (drawsOf G (drop drawBytes (t .rest))) (leftOf G o noise t .noise) (leftOf G o noise t .room) (leftOf G o noise t .slots)))
+          ∙ ap (λ (x : Bool). cond x (write G (due (nextTime t)) (drawAt (t .rest) ∷ drawsOf G (drop drawBytes (t .rest))) (leftOf G o noise t .noise) (leftOf G o noise t .room) (leftOf G o noise t .slots)) (step4 G (drawAt (t .rest)) k (drawsOf G (drop drawBytes (t .rest))) (leftOf G o noise t .noise) (leftOf G o noise t .room) (leftOf G o noise t .slots))) h
 
       -- the count of draws taken
       taken-one : (k : Kind) (l : Lent G) → l .draws ≡ drawsOf G (drop drawBytes (t .rest))
@@ -284,12 +240,12 @@ module _ (G : Generator) (o : G .Value) where
           omega (arith, ap length (draws-cons G (t .rest) pos some-draw), ap length e, counted G o (fuel G l) (took G o (t .state) (drawAt (t .rest)) k) l .draws)
 
       -- a draw that is taken and not recorded
-      not-recorded : (k : Kind) → stateStep G o (t .state) (leftOf t) ≡ taking (drawAt (t .rest)) k (leftOf (tookTurn t k (t .lines) (t .records)))
-          → ((r : Ran G o) → noted G o (nextTime t) (drawAt (t .rest)) k r ≡ r) → restOf t ≡ restOf (tookTurn t k (t .lines) (t .records))
+      not-recorded : (k : Kind) → stateStep G o (t .state) (leftOf G o noise t) ≡ taking (drawAt (t .rest)) k (leftOf G o noise (tookTurn t k (t .lines) (t .records)))
+          → ((r : Ran G o) → noted G o (nextTime t) (drawAt (t .rest)) k r ≡ r) → restOf G o noise t ≡ restOf G o noise (tookTurn t k (t .lines) (t .records))
       unfolding restOf
       not-recorded k is plain =
           by-step t (taking (drawAt (t .rest)) k left) is
-          ∙ ap (λ (x : Ran G o). finish t x) (plain r)
+          ∙ ap (λ (x : Ran G o). finish G o noise t x) (plain r)
           ∙ (λ i. record {
             state = r .state;
             taken = taken-one k left refl i;
@@ -301,16 +257,16 @@ module _ (G : Generator) (o : G .Value) where
           })
         where
           left : Lent G
-          left = leftOf (tookTurn t k (t .lines) (t .records))
+          left = leftOf G o noise (tookTurn t k (t .lines) (t .records))
 
           r : Ran G o
           r = allSteps G o (took G o (t .state) (drawAt (t .rest)) k) left
 
       -- Step 4: the draw is taken and ignored, or is taken and ends the run
-      pub turn-ignores : nextKind t ≡ ignored → restOf t ≡ restOf (tookTurn t ignored (t .lines) (t .records))
+      pub turn-ignores : nextKind t ≡ ignored → restOf G o noise t ≡ restOf G o noise (tookTurn t ignored (t .lines) (t .records))
       turn-ignores e = not-recorded ignored (step-is ignored e refl) (λ r. refl)
 
-      pub turn-ends : nextKind t ≡ ends → restOf t ≡ restOf (tookTurn t ends (t .lines) (t .records))
+      pub turn-ends : nextKind t ≡ ends → restOf G o noise t ≡ restOf G o noise (tookTurn t ends (t .lines) (t .records))
       turn-ends e = not-recorded ends (step-is ends e refl) (λ r. refl)
 
       -- Step 5: fewer than a record's bytes left, else the message is added and recorded
@@ -318,10 +274,10 @@ module _ (G : Generator) (o : G .Value) where
         not-due : ltb (t .state .written) (s - hold) ≡ false
         not-due = le-ltb (t .state .written) (s - hold) (omega arith)
 
-        pub turn-records-full : length (t .records) < recordBytes * (t .lines + 1) → restOf t ≡ stopped t recordsFull
+        pub turn-records-full : length (t .records) < recordBytes * (t .lines + 1) → restOf G o noise t ≡ stopped G o t recordsFull
         turn-records-full h =
             turn-stops t recordsFull
-            (step-is (reply s) is not-due ∙ ap (λ (n : ℕ). step5 G (drawAt (t .rest)) s (drawsOf G (drop drawBytes (t .rest))) (leftOf t .noise) (leftOf t .room) n) no-slot)
+            (step-is (reply s) is not-due ∙ ap (λ (n : ℕ). step5 G (drawAt (t .rest)) s (drawsOf G (drop drawBytes (t .rest))) (leftOf G o noise t .noise) (leftOf G o noise t .room) n) no-slot)
           where
             few : length (t .records) / recordBytes < t .lines + 1
             few = div-lt-iff-lt-mul record-pos .1 (omega (arith, mul-comm recordBytes (t .lines + 1)))
@@ -333,11 +289,11 @@ module _ (G : Generator) (o : G .Value) where
         abbrev pub line : List Byte
         line = entry (nextTime t) (drawAt (t .rest)) s (length (adds (nextTime t) (drawAt (t .rest)) s))
 
-        pub turn-adds : length line ≡ recordBytes → recordBytes * (t .lines + 1) ≤ length (t .records) → restOf t ≡ restOf (tookTurn t (reply s) (t .lines + 1) (laid (recordBytes * t .lines) line (t .records)))
+        pub turn-adds : length line ≡ recordBytes → recordBytes * (t .lines + 1) ≤ length (t .records) → restOf G o noise t ≡ restOf G o noise (tookTurn t (reply s) (t .lines + 1) (laid (recordBytes * t .lines) line (t .records)))
         unfolding restOf
         turn-adds len h =
             by-step t (taking (drawAt (t .rest)) (reply s) left)
-            (step-is (reply s) is not-due ∙ ap (λ (n : ℕ). step5 G (drawAt (t .rest)) s (drawsOf G (drop drawBytes (t .rest))) (leftOf t .noise) (leftOf t .room) n) one-slot)
+            (step-is (reply s) is not-due ∙ ap (λ (n : ℕ). step5 G (drawAt (t .rest)) s (drawsOf G (drop drawBytes (t .rest))) (leftOf G o noise t .noise) (leftOf G o noise t .room) n) one-slot)
             ∙ (λ i. record {
               state = r .state;
               taken = taken-one (reply s) left refl i;
@@ -348,11 +304,11 @@ module _ (G : Generator) (o : G .Value) where
               stop = r .stop;
             })
           where
-            next : Turn
+            next : Turn G o
             next = tookTurn t (reply s) (t .lines + 1) (laid (recordBytes * t .lines) line (t .records))
 
             left : Lent G
-            left = leftOf next
+            left = leftOf G o noise next
 
             r : Ran G o
             r = allSteps G o (took G o (t .state) (drawAt (t .rest)) (reply s)) left
@@ -377,10 +333,10 @@ module _ (G : Generator) (o : G .Value) where
                 ∙ ap (λ (k : ℕ). laid k (join (r .records)) (laid (recordBytes * t .lines) line (t .records))) {x = recordBytes * t .lines + recordBytes} {y = recordBytes * (t .lines + 1)} (omega (arith, mul-add recordBytes (t .lines) 1))
 
   -- ---- the whole call
-  abbrev pub answerOf : Ended → Answer
+  abbrev pub answerOf : Ended G o → Answer
   answerOf e = ran (e .taken) (e .samples) (2 * e .samples) (e .lines) (e .stop)
 
-  abbrev pub endResult : Ended → Result G
+  abbrev pub endResult : Ended G o → Result G
   endResult e = record { answer = answerOf e; output = e .output; records = e .records }
 
   -- a call that is not refused comes to what the turns from its first on come to
@@ -388,7 +344,7 @@ module _ (G : Generator) (o : G .Value) where
     abbrev l : Lent G
     l = lentOf G c
 
-    first-left : leftOf (c .noise) (firstTurn z c) ≡ l
+    first-left : leftOf G o (c .noise) (firstTurn G o z c) ≡ l
     first-left = λ i. lentWith G o (drawsOf G (c .draws)) (pairs (c .noise)) (p i) (q i)
       where
         p : length (c .output) / 2 - 0 ≡ length (c .output) / 2
@@ -397,14 +353,14 @@ module _ (G : Generator) (o : G .Value) where
         q : length (c .records) / recordBytes - 0 ≡ length (c .records) / recordBytes
         q = omega arith
 
-    first-rest : restOf (c .noise) (firstTurn z c) ≡ finish (c .noise) (firstTurn z c) (allSteps G o z l)
+    first-rest : restOf G o (c .noise) (firstTurn G o z c) ≡ finish G o (c .noise) (firstTurn G o z c) (allSteps G o z l)
     unfolding restOf
-    first-rest = ap (λ (x : Lent G). finish (c .noise) (firstTurn z c) (allSteps G o z x)) first-left
+    first-rest = ap (λ (x : Lent G). finish G o (c .noise) (firstTurn G o z c) (allSteps G o z x)) first-left
 
-    pub call-state : restOf (c .noise) (firstTurn z c) .state ≡ machineCall G o z c none .1
-    call-state = ap (λ (e : Ended). e .state) first-rest
+    pub call-state : restOf G o (c .noise) (firstTurn G o z c) .state ≡ machineCall G o z c none .1
+    call-state = ap (λ (e : Ended G o). e .state) first-rest
 
-    pub call-result : endResult (restOf (c .noise) (firstTurn z c)) ≡ resultOf G c (machineCall G o z c none .0)
+    pub call-result : endResult (restOf G o (c .noise) (firstTurn G o z c)) ≡ resultOf G c (machineCall G o z c none .0)
     call-result = ap endResult first-rest ∙ (λ i. record {
       answer = ran (taken i) (samples i) (noise i) (lines i) (r .stop);
       output = at-start (flatten (r .samples)) (c .output) i;

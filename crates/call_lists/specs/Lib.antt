@@ -4,3 +4,8 @@ pub mod PlainBench
 pub mod Laws
 pub mod Refusals
 pub mod Demand3
+pub mod Machine
+pub mod Buffers
+pub mod Batch
+pub mod Turns
+pub mod Plans

@@ -12,6 +12,14 @@ use Rattle.call_lists.specs.PlainRun.{Kind, ignored, ends, reply, kind, 
 pub data Stop : Type 0 where
   done outputFull wantsNoise wantsDraws recordsFull : Stop
 
+-- the stops in the order of document 01's steps
+abbrev pub stopNumber : Stop → ℕ
+stopNumber done = 0
+stopNumber outputFull = 1
+stopNumber wantsNoise = 2
+stopNumber wantsDraws = 3
+stopNumber recordsFull = 4
+
 -- why a run call is refused: what it was lent has a wrong length; a draw and its field; the place of a noise value
 pub data Refusal : Type 0 where
   wrongLength : Refusal

@@ -12,7 +12,7 @@ use Rattle.call_lists.specs.Generator.{negative, from}
 use Rattle.call_lists.specs.PlainRun.{ends, reply, kindOf}
 use Rattle.call_lists.specs.Laws.{Laws}
 use Rattle.call_lists.specs.Demand3.{Demand3}
-use Rattle.call_lists.proofs.Machine.{runs}
+use Rattle.call_lists.specs.Machine.{runs}
 use Rattle.call_lists.proofs.Demand3.{demand3}
 use Rattle.call_lists_example.specs.Small.{SmallDraw, faultOf, startOf, smallOf}
 

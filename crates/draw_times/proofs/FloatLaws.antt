@@ -10,7 +10,7 @@ use lib.ListN.{length}
 use Rattle.call_lists.specs.PlainRun.{reply, kind}
 use Rattle.call_lists.specs.Laws.{Laws}
 use Rattle.call_lists.specs.Demand3.{Demand3}
-use Rattle.call_lists.proofs.Machine.{runs}
+use Rattle.call_lists.specs.Machine.{runs}
 use Rattle.call_lists.proofs.Demand3.{demand3}
 use Rattle.constants.specs.Rate.{replyLimit, holdBack}
 use Rattle.draw_times.specs.FloatGenerator.{Draws, nought, noiseScale, generator}

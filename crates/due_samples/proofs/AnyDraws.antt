@@ -5,8 +5,8 @@ use Prim.Native.Nat.{ℕ, zero, suc, _%_}
 use lib.Ieee.{Float, nan}
 use Rattle.call_lists.specs.Generator.{Pair, silence, noisy}
 use Rattle.call_lists.specs.PlainBench.{pairs, flatten}
-use Rattle.call_lists.proofs.Machine.{window, rd, wr}
-use Rattle.call_lists.proofs.Batch.{written, cleared}
+use Rattle.call_lists.specs.Machine.{window, rd, wr}
+use Rattle.call_lists.specs.Batch.{written, cleared}
 use Rattle.constants.specs.Rate.{four}
 use Rattle.draw_times.specs.FloatGenerator.{Draws, generator}
 use Rattle.due_samples.specs.Due.{gen, samplesOf, clearOf}

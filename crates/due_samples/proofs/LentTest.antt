@@ -7,7 +7,7 @@ use lib.Dec.{eqb, leb}
 use lib.Ieee.{Float}
 use lib.ListN.{length, take, drop}
 use borrow.Author.Tests.{eqb-true, leb-true, eq-eqb, le-leb}
-use Rattle.call_lists.proofs.FlatLists.{laid}
+use Rattle.call_lists.specs.Buffers.{laid}
 use Rattle.due_samples.specs.Due.{samplesOf, clearOf, fitsOf, Lent, dueOf}
 
 pub record Fits (memory noise output from at values : ℕ) : Type 0 where

@@ -8,9 +8,11 @@ use native.Mathlib.Omega.{arith}
 use lib.ListN.{length, getD, set, take, drop, length-set, length-drop, take-append-drop}
 use lib.Seq.{drop-drop, length-take-le}
 use Rattle.call_lists.specs.PlainBench.{pairs, flatten}
-use Rattle.call_lists.proofs.Batch.{written, cleared, length-written}
+use Rattle.call_lists.specs.Batch.{written, cleared}
+use Rattle.call_lists.proofs.Batch.{length-written}
 use lib.Ieee.{Float, nan, binary32, ofBits, add, mul}
-use Rattle.call_lists.proofs.FlatLists.{laid, laid-laid, length-flatten, length-pairs}
+use Rattle.call_lists.specs.Buffers.{laid}
+use Rattle.call_lists.proofs.FlatLists.{laid-laid, length-flatten, length-pairs}
 use Rattle.call_lists.proofs.Stretch.{stretch-output, stretch-memory, place-wraps, written-more, cleared-laid}
 use Rattle.draw_times.proofs.FloatLaws.{scale-bits, nought-bits}
 use Rattle.due_samples.specs.Due.{gen, mix, zeros, samplesOf, clearOf}

@@ -8,9 +8,9 @@ use lib.ListN.{length, take, drop, replicate}
 use lib.Ieee.{Float, nan}
 use Rattle.call_lists.specs.Generator.{Generator, negative}
 use Rattle.call_lists.specs.PlainBench.{pairs, flatten}
-use Rattle.call_lists.proofs.FlatLists.{laid}
-use Rattle.call_lists.proofs.Batch.{written, cleared}
-use Rattle.call_lists.proofs.Stretch.{mixed}
+use Rattle.call_lists.specs.Buffers.{laid}
+use Rattle.call_lists.specs.Batch.{written, cleared}
+use Rattle.call_lists.specs.Batch.{mixed}
 use Rattle.constants.specs.Rate.{four, workingMemory}
 use Rattle.draw_times.specs.FloatGenerator.{Draws, nought, generator}
 

@@ -2,7 +2,7 @@
 ghost use mathlib.Core.Path.{_≡_};
 ghost use Prim.Native.Nat.{_+_, _*_, _/_, _%_, _≤_, _<_, min};
 ghost use lib.ListN.{length, drop, take};
-ghost use Rattle.call_lists.proofs.FlatLists.{laid};
+ghost use Rattle.call_lists.specs.Buffers.{laid};
 ghost use Rattle.due_samples.specs.Due.{mix, zeros, samplesOf, clearOf, fitsOf, Lent, dueOf};
 
 // Writes a stretch of the memory with its noise, and clears it.

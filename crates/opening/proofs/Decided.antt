@@ -23,8 +23,9 @@ use Rattle.settings.specs.declared.Settings.{Settings}
 use Rattle.settings.specs.declared.Checked as Checked
 use Rattle.settings.specs.Settings.{settingsOf}
 use Rattle.settings.specs.Accepted.{acceptedOf}
+use Rattle.opening.specs.declared.Opened.{Opened}
 use Rattle.opening.specs.declared.Opened.the-variants.{Run, Refused}
-use Rattle.opening.specs.Opening.{Lent, firstState, lentFits, modeSDelay, modeACDelay, delaysThen, delaysOf, tapsOf, settingsThen, openedOf, leftBy}
+use Rattle.opening.specs.Opening.{Lent, firstState, lentFits, modeSDelay, modeACDelay, delaysThen, delaysOf, tapsOf, settingsThen, openedOf, isRun, leftBy}
 
 -- the lengths, from facts and to facts
 pub record Fits (modeS modeAC memory : ℕ) : Type 0 where
@@ -71,32 +72,42 @@ module _ (sps : ℕ) (level : Float) (prototype : List Float) where
   unfolding modeACDelay
   mode-ac-nowhere e = rw e
 
+-- a run is told from a refusal
+pub a-run : (r : Opened) (s : State) → r ≡ Run s → true ≡ isRun r
+unfolding isRun
+a-run r s e = sym (ap isRun e)
+
+pub a-refusal : (r : Opened) (q : Refusal) → r ≡ Refused q → false ≡ isRun r
+unfolding isRun
+a-refusal r q e = sym (ap isRun e)
+
 -- a refusal leaves what was lent
 pub left-refused : (sps : ℕ) (tapsS tapsAC : List Float) (r : Refusal) (l : Lent) → l ≡ leftBy sps tapsS tapsAC (Refused r) l
 unfolding leftBy
 left-refused sps tapsS tapsAC r l = refl
 
+-- refusal 6, for either delay; or the first state
+module _ (rates : MessagesPerSecond) (total : ℕ) (all : Distributions) (x y : Crossing) where
+  pub no-mode-s : x ≡ Nowhere → Refused Cause.Prototype ≡ delaysThen rates total all x y
+  unfolding delaysThen
+  no-mode-s e = λ i. delaysThen rates total all (sym e i) y
+
+  pub no-mode-ac : (a : Float) → x ≡ At a → y ≡ Nowhere → Refused Cause.Prototype ≡ delaysThen rates total all x y
+  unfolding delaysThen
+  no-mode-ac a e f = λ i. delaysThen rates total all (sym e i) (sym f i)
+
+  pub both-found : (a b : Float) → x ≡ At a → y ≡ At b → Run (firstState rates total all a b) ≡ delaysThen rates total all x y
+  unfolding delaysThen
+  both-found a b e f = λ i. delaysThen rates total all (sym e i) (sym f i)
+
 module _ (level : Float) (tapsS tapsAC : List Float) where
-  -- the delays, from the values that the calls give
-  pub found-mode-s : (p : List Float) (x : Crossing) → p ≡ modeSPrototype four tapsS → x ≡ modeSDelay four level p → modeSDelay four level (modeSPrototype four tapsS) ≡ x
-  found-mode-s p x e f = ap (modeSDelay four level) (sym e) ∙ sym f
-
-  pub found-mode-ac : (p : List Float) (x : Crossing) → p ≡ modeACPrototype four tapsAC → x ≡ modeACDelay four level p → modeACDelay four level (modeACPrototype four tapsAC) ≡ x
-  found-mode-ac p x e f = ap (modeACDelay four level) (sym e) ∙ sym f
-
   module _ (rates : MessagesPerSecond) (total : ℕ) (all : Distributions) where
-    -- refusal 6, for either prototype
-    pub no-mode-s : modeSDelay four level (modeSPrototype four tapsS) ≡ Nowhere → Refused Cause.Prototype ≡ delaysOf four level tapsS tapsAC rates total all
-    unfolding delaysOf delaysThen
-    no-mode-s e = ap (λ (x : Crossing). delaysThen rates total all x (modeACDelay four level (modeACPrototype four tapsAC))) (sym e)
-
-    pub no-mode-ac : (a : Float) → modeSDelay four level (modeSPrototype four tapsS) ≡ At a → modeACDelay four level (modeACPrototype four tapsAC) ≡ Nowhere → Refused Cause.Prototype ≡ delaysOf four level tapsS tapsAC rates total all
-    unfolding delaysOf delaysThen
-    no-mode-ac a e f = λ i. delaysThen rates total all (sym e i) (sym f i)
-
-    pub both-found : (a b : Float) → modeSDelay four level (modeSPrototype four tapsS) ≡ At a → modeACDelay four level (modeACPrototype four tapsAC) ≡ At b → Run (firstState rates total all a b) ≡ delaysOf four level tapsS tapsAC rates total all
-    unfolding delaysOf delaysThen
-    both-found a b e f = λ i. delaysThen rates total all (sym e i) (sym f i)
+    -- the delays, from the values that the calls give
+    pub delays-given : (p q : List Float) (x y : Crossing) (r : Opened) → p ≡ modeSPrototype four tapsS → q ≡ modeACPrototype four tapsAC
+        → x ≡ modeSDelay four level p → y ≡ modeACDelay four level q → r ≡ delaysThen rates total all x y → r ≡ delaysOf four level tapsS tapsAC rates total all
+    unfolding delaysOf
+    delays-given p q x y r e f g h k =
+        k ∙ (λ i. delaysThen rates total all ((g ∙ ap (modeSDelay four level) e) i) ((h ∙ ap (modeACDelay four level) f) i))
 
     -- refusal 5, for either list
     by-taps : (b : Bool) → modeSTapsAccepted four tapsS && modeACTapsAccepted four tapsAC ≡ b → cond b (delaysOf four level tapsS tapsAC rates total all) (Refused Cause.Taps) ≡ tapsOf four level tapsS tapsAC rates total all
@@ -138,9 +149,21 @@ module _ (level : Float) (tapsS tapsAC : List Float) where
       unfolding settingsThen
       settings-pass total all e = ap (settingsThen four level tapsS tapsAC (s .rates)) (sym e) ∙ by-settings
 
--- a run that is opened fills what was lent
-pub left-run : (tapsS tapsAC modeS modeAC memory : List Float) (state : State) (n : ℕ) (l : Lent)
-    → modeS ≡ modeSPrototype four tapsS → modeAC ≡ modeACPrototype four tapsAC → memory ≡ zeros n → n ≡ 2252
-    → record { modeS = modeS; modeAC = modeAC; memory = memory } ≡ leftBy four tapsS tapsAC (Run state) l
-unfolding leftBy
-left-run tapsS tapsAC modeS modeAC memory state n l p q r e = λ i. record { modeS = p i; modeAC = q i; memory = (r ∙ ap zeros e) i }
+-- an opened run fills what was lent, a refusal leaves it
+pub left-given : (tapsS tapsAC modeS modeAC memory p q : List Float) (r : Opened) (b : Bool) (n : ℕ) (l : Lent)
+    → p ≡ modeSPrototype four tapsS → q ≡ modeACPrototype four tapsAC → n ≡ 2252 → b ≡ isRun r
+    → modeS ≡ cond b p (l .modeS) → modeAC ≡ cond b q (l .modeAC) → memory ≡ cond b (zeros n) (l .memory)
+    → record { modeS = modeS; modeAC = modeAC; memory = memory } ≡ leftBy four tapsS tapsAC r l
+unfolding leftBy isRun
+left-given tapsS tapsAC modeS modeAC memory p q (Run state) b n l e f k t x y z =
+    λ i. record {
+      modeS = (x ∙ ap (λ (c : Bool). cond c p (l .modeS)) t ∙ e) i;
+      modeAC = (y ∙ ap (λ (c : Bool). cond c q (l .modeAC)) t ∙ f) i;
+      memory = (z ∙ ap (λ (c : Bool). cond c (zeros n) (l .memory)) t ∙ ap zeros k) i;
+    }
+left-given tapsS tapsAC modeS modeAC memory p q (Refused refusal) b n l e f k t x y z =
+    λ i. record {
+      modeS = (x ∙ ap (λ (c : Bool). cond c p (l .modeS)) t) i;
+      modeAC = (y ∙ ap (λ (c : Bool). cond c q (l .modeAC)) t) i;
+      memory = (z ∙ ap (λ (c : Bool). cond c (zeros n) (l .memory)) t) i;
+    }

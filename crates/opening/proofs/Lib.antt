@@ -1,3 +1,4 @@
 pub mod Filling
 pub mod Decided
+pub mod FirstCause
 pub mod WhatIsOpened

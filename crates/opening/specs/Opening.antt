@@ -1,6 +1,6 @@
 -- Document 01's opening of a run: "checks 9 for the memory lent to it, then 1 to 6 in that order; accepted, it fills the prototypes and sets working memory to 0.0". Definitions only.
 use Prim.Native.Nat.{ℕ}
-use mathlib.Core.Bool.{Bool, false, _&&_, cond}
+use mathlib.Core.Bool.{Bool, true, false, _&&_, cond}
 use mathlib.Core.List.{List}
 use lib.Dec.{eqb}
 use lib.ListN.{length}
@@ -81,6 +81,11 @@ module _ (sps : ℕ) (level : Float) (tapsS tapsAC : List Float) where
       cond (lentFits sps (length (lent .modeS)) (length (lent .modeAC)) (length (lent .memory)))
       (settingsThen (settingsOf bytes .rates) (acceptedOf sps (settingsOf bytes)))
       (Opened.the-variants.Refused Refusal.the-variants.Lent)
+
+-- whether a run is opened, and not refused
+unfoldable pub isRun : Opened.Opened → Bool
+isRun (Opened.the-variants.Run state) = true
+isRun (Opened.the-variants.Refused refusal) = false
 
 -- what opening leaves: "accepted, it fills the prototypes and sets working memory to 0.0"; "a refusal changes neither state nor any lent buffer"
 unfoldable pub leftBy : ℕ → List Float → List Float → Opened.Opened → Lent → Lent

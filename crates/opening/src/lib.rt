@@ -1,9 +1,10 @@
 // Opening a run: refusal 9 for what is lent, refusals 1 to 6, and, accepted, the prototypes, the working memory and the state. Assumes nothing.
+ghost use mathlib.Core.Bool.{cond};
 ghost use mathlib.Core.Path.{_≡_};
 ghost use lib.ListN.{length};
 ghost use Rattle.constants.specs.Rate.{four};
 ghost use Rattle.due_samples.specs.Due.{zeros};
-ghost use Rattle.opening.specs.Opening.{half, lentFits, modeSDelay, modeACDelay, firstState, delaysOf, tapsOf, openedOf, leftBy};
+ghost use Rattle.opening.specs.Opening.{half, lentFits, modeSDelay, modeACDelay, firstState, delaysThen, delaysOf, tapsOf, openedOf, isRun, leftBy};
 use message_config::Delays;
 use pulse_shape::Crossing;
 use refusals::Refusal;
@@ -99,8 +100,38 @@ fn first_state(
     }
 }
 
-// Fills the prototypes and sets working memory to 0.0.
+// The first state, or refusal 6.
+fn decide(
+    rates: MessagesPerSecond,
+    total: u64,
+    all: Distributions,
+    mode_s: Crossing,
+    mode_ac: Crossing,
+) -> Opened
+    ensures { λ r. ⌜ r ≡ delaysThen rates total all «mode_s» «mode_ac» ⌝ }
+{
+    let Crossing::At(delay_s) = mode_s else {
+        return Opened::Refused(Refusal::Prototype);
+    };
+    let Crossing::At(delay_ac) = mode_ac else {
+        return Opened::Refused(Refusal::Prototype);
+    };
+    let state = first_state(rates, total, all, delay_s, delay_ac);
+    Opened::Run(state)
+}
+
+fn is_run(answer: Opened) -> bool
+    ensures { λ r. ⌜ r ≡ isRun answer ⌝ }
+{
+    match answer {
+        Opened::Run(state) => true,
+        Opened::Refused(refusal) => false,
+    }
+}
+
+// For a run, fills the prototypes and sets working memory to 0.0.
 fn fill(
+    opened: bool,
     proto_s: &[f32],
     proto_ac: &[f32],
     mode_s: &mut [f32],
@@ -108,14 +139,17 @@ fn fill(
     memory: &mut [f32],
 )
     requires { ⌜ (length (now «proto_s») ≡ length (now «mode_s»)) × (length (now «proto_ac») ≡ length (now «mode_ac»)) ⌝ }
-    ensures { λ _. ⌜ (now («mode_s» .exit) ≡ now («proto_s» .entry)) × (now («mode_ac» .exit) ≡ now («proto_ac» .entry)) × (now (memory .exit) ≡ zeros (length (now (memory .entry)))) ⌝ }
+    ensures { λ _. ⌜ (now («mode_s» .exit) ≡ cond opened (now («proto_s» .entry)) (now («mode_s» .entry))) × (now («mode_ac» .exit) ≡ cond opened (now («proto_ac» .entry)) (now («mode_ac» .entry))) × (now (memory .exit) ≡ cond opened (zeros (length (now (memory .entry)))) (now (memory .entry))) ⌝ }
 {
+    if !opened {
+        return;
+    }
     copy(proto_s, mode_s);
     copy(proto_ac, mode_ac);
     clear(memory);
 }
 
-// Refusal 6, found before anything is written; or what a run is opened with.
+// Refusal 6, or what a run is opened with.
 fn build(
     rates: MessagesPerSecond,
     total: u64,
@@ -132,15 +166,12 @@ fn build(
 {
     let proto_s = pulse_shape::mode_s_prototype(taps_s);
     let proto_ac = pulse_shape::mode_ac_prototype(taps_ac);
-    let Crossing::At(delay_s) = mode_s_delay(level, &proto_s) else {
-        return Opened::Refused(Refusal::Prototype);
-    };
-    let Crossing::At(delay_ac) = mode_ac_delay(level, &proto_ac) else {
-        return Opened::Refused(Refusal::Prototype);
-    };
-    fill(&proto_s, &proto_ac, mode_s, mode_ac, memory);
-    let state = first_state(rates, total, all, delay_s, delay_ac);
-    Opened::Run(state)
+    let delay_s = mode_s_delay(level, &proto_s);
+    let delay_ac = mode_ac_delay(level, &proto_ac);
+    let answer = decide(rates, total, all, delay_s, delay_ac);
+    let opened = is_run(answer);
+    fill(opened, &proto_s, &proto_ac, mode_s, mode_ac, memory);
+    answer
 }
 
 // Refusal 5, then 6.

@@ -11,8 +11,8 @@ use lib.Ieee.{Float, nan}
 use borrow.Author.Tests.{le-leb, eq-eqb, lt-ltb}
 use Rattle.constants.specs.Rate.{four}
 use Rattle.le_bytes.specs.LeBytes as LeBytes
-use Rattle.call_lists.proofs.Machine.{put}
-use Rattle.call_lists.proofs.FlatLists.{laid}
+use Rattle.call_lists.specs.Machine.{put}
+use Rattle.call_lists.specs.Buffers.{laid}
 use Rattle.message.specs.Types.{typeNumbered}
 use Rattle.message_config.specs.declared.Delays.{Delays}
 use Rattle.message_config.specs.declared.MessageConfig.{MessageConfig}

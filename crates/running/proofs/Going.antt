@@ -6,7 +6,7 @@ use native.Mathlib.Omega.{arith}
 use lib.ListN.{length, take, drop, length-drop}
 use lib.Seq.{take-all}
 use lib.Ieee.{Float, nan}
-use Rattle.call_lists.proofs.Turns as Theory
+use Rattle.call_lists.specs.Turns as Theory
 use Rattle.running.specs.declared.State.{State}
 use Rattle.running.specs.declared.Turn.{Turn}
 use Rattle.running.specs.declared.Next as Next

@@ -7,7 +7,7 @@ use lib.ListN.{length}
 use Rattle.call_lists.specs.Generator.{Generator, Sample, silence, add}
 use Rattle.call_lists.specs.PlainRun.{Kind, ignored, ends, reply}
 use Rattle.call_lists.specs.PlainBench.{Refusal, Call, Lent, lentOf, Step, halt, drain, due, taking, refusalOf, fuel}
-use Rattle.call_lists.proofs.Machine.{later, window, rd, wr, put, State, Ran, stateStep, wrote, took, noted, machineOn, machineSteps, machineCall, machineRun}
+use Rattle.call_lists.specs.Machine.{later, window, rd, wr, put, State, Ran, stateStep, wrote, took, noted, machineOn, machineSteps, machineCall, machineRun}
 use Rattle.call_lists.proofs.Ring.{length-wr}
 
 module _ (G : Generator) (o : G .Value) where

@@ -7,7 +7,7 @@ use lib.ListN.{length}
 use lib.Ieee.{Float, nan}
 use borrow.Author.Tests.{eq-eqb}
 use Rattle.call_lists.specs.PlainBench as Bench
-use Rattle.call_lists.proofs.Machine as Machine
+use Rattle.call_lists.specs.Machine as Machine
 use Rattle.call_lists.proofs.Turns.{call-state, call-result}
 use Rattle.running.specs.declared.State.{State}
 use Rattle.running.specs.Turns.{genOf}

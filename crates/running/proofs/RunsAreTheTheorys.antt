@@ -1,15 +1,15 @@
 -- `runs-are`: a list of run calls, from any state with working memory and prototypes of their lengths, is the theory's list of calls. Assumes nothing.
-use mathlib.Core.Path.{_≡_, refl, sym, ap, _∙_}
+use mathlib.Core.Path.{_≡_, refl, ap, _∙_}
 use mathlib.Core.List.{List, [], _∷_}
 use lib.ListN.{length}
 use lib.Ieee.{Float, nan}
 use Rattle.call_lists.specs.PlainBench as Bench
-use Rattle.call_lists.proofs.Machine as Machine
+use Rattle.call_lists.specs.Machine as Machine
 use Rattle.running.specs.declared.State.{State}
 use Rattle.running.specs.Turns.{genOf}
 use Rattle.running.specs.Ended.{Left}
 use Rattle.running.specs.Calls.{runLeft}
-use Rattle.running.specs.Handed.{machineOf, stateOf, ranGiven, leftGiven, Lent, runsLeft, callOf, runsGiven}
+use Rattle.running.specs.Handed.{stateOf, ranGiven, leftGiven, Lent, runsLeft, callOf, runsGiven}
 use Rattle.running.proofs.RunIsTheTheorys.{run-is}
 use Rattle.running.proofs.MemoryKept.{run-kept}
 

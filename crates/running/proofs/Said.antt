@@ -11,9 +11,11 @@ use Rattle.constants.specs.Rate.{four}
 use Rattle.call_lists.specs.Generator.{Generator}
 use Rattle.call_lists.specs.PlainRun.{ignored, ends}
 use Rattle.call_lists.specs.PlainBench as Bench
-use Rattle.call_lists.proofs.Machine.{later, put}
-use Rattle.call_lists.proofs.FlatLists.{laid}
-use Rattle.call_lists.proofs.Turns as Turns
+use Rattle.call_lists.specs.Machine.{later, put}
+use Rattle.call_lists.specs.Buffers.{laid}
+use Rattle.call_lists.specs.Turns as Turns
+use Rattle.call_lists.specs.Plans.{Plan, stopAt}
+use Rattle.call_lists.proofs.Turns.{wroteTurn}
 use Rattle.call_lists.proofs.Plans as Theory
 use Rattle.call_lists.proofs.Batched.{nextTurn, nearer}
 use Rattle.due_samples.specs.Due.{samplesOf, clearOf}
@@ -47,22 +49,22 @@ module _ (s : State) (modeS modeAC noise : List Float) (t : Turn) (memory : List
   chosen-is = refl
 
   module _ (i : Inside t (length noise) (length output) (length records)) (q : Plan.Plan) (e : planRead q ≡ chosen s t rest (length output - 2 * t .samples) (length noise - 2 * t .samples) (length records - 66 * t .records)) where
-    within : Theory.Within G nan noise z
+    within : Turns.Within G nan noise z
     within = record { output-in = i .output-in; noise-in = i .noise-in; records-in = i .records-in }
 
     is : (x : Plan.Plan) → q ≡ x → Theory.planOf G nan noise z ≡ planRead x
     is x h = sym (e ∙ chosen-is) ∙ ap planRead h
 
     says : (x : Plan.Plan) → q ≡ x → Theory.PlanSays G nan noise z (planRead x)
-    says x h = subst (λ (p : Theory.Plan Float). Theory.PlanSays G nan noise z p) (is x h) (Theory.plan-says G nan noise (lit< tt) (lit< tt) z within)
+    says x h = subst (λ (p : Plan Float). Theory.PlanSays G nan noise z p) (is x h) (Theory.plan-says G nan noise (lit< tt) (lit< tt) z within)
 
     right : (x : Plan.Plan) → q ≡ x → Turns.restOf G nan noise z ≡ Theory.afterPlan G nan noise (lit< tt) (lit< tt) z (planRead x)
     right x h =
         Theory.plan-right G nan noise (lit< tt) (lit< tt) (λ time d k n. line-length (s .distributions) time (d .draw) k n) z within
-        ∙ ap (λ (p : Theory.Plan Float). Theory.afterPlan G nan noise (lit< tt) (lit< tt) z p) (is x h)
+        ∙ ap (λ (p : Plan Float). Theory.afterPlan G nan noise (lit< tt) (lit< tt) z p) (is x h)
 
     -- a plan that is no stop, carried out
-    went : (x : Plan.Plan) → q ≡ x → ((k : Bench.Stop) → planRead x ≡ Theory.stopAt k → ⊥)
+    went : (x : Plan.Plan) → q ≡ x → ((k : Bench.Stop) → planRead x ≡ stopAt k → ⊥)
         → Theory.afterPlan G nan noise (lit< tt) (lit< tt) z (planRead x) ≡ Turns.restOf G nan noise (nextTurn G nan noise z (planRead x))
         → (y : Turns.Turn G nan) → y ≡ nextTurn G nan noise z (planRead x) → Went G noise nan z y
     went x h no-stop after y k =
@@ -85,7 +87,7 @@ module _ (s : State) (modeS modeAC noise : List Float) (t : Turn) (memory : List
 
     wrote-is : (n : ℕ) (m : Float) (memory′ output′ : List Float) → memory′ ≡ clearOf memory (t .written) n
         → output′ ≡ laid (2 * t .samples) (samplesOf memory (t .written) (take (2 * n) (drop (2 * t .samples) noise))) output
-        → turnRead s modeS modeAC (wroteBy t n m) memory′ rest output′ records ≡ Turns.wroteTurn G nan noise z n m
+        → turnRead s modeS modeAC (wroteBy t n m) memory′ rest output′ records ≡ wroteTurn G nan noise z n m
     unfolding wroteBy
     wrote-is n m memory′ output′ p o = λ j. record {
       state = record { memory = (p ∙ sym (any-memory (draws (filtersOf s modeS modeAC)) (s .total) memory (t .written) n)) j; written = t .written + n; time = t .time; over = t .ended; mark = m };

@@ -10,7 +10,8 @@ use lib.Ieee.{Float}
 use borrow.Author.Tests.{lt-ltb, le-ltb}
 use Rattle.call_lists.specs.Generator.{from}
 use Rattle.call_lists.specs.PlainRun.{Kind, kindOf}
-use Rattle.call_lists.proofs.Plans as Theory
+use Rattle.call_lists.specs.Plans as Theory
+use Rattle.call_lists.proofs.Plans as Laws
 use Rattle.generator.specs.Real.{startFrom}
 use Rattle.draw.specs.Draw.{drawAt}
 use Rattle.draw.specs.Config.{timeAfter, startAt}
@@ -30,30 +31,30 @@ some-room room h = rw (le-ltb room 2 h)
 
 pub stops : (f : ℕ → Theory.Plan Float) (n b room : ℕ) (w : Stop.Stop) → n ≡ b → n ≡ 0 → stopRead w ≡ Theory.stopFor room → planRead (Plan.the-variants.Halt w) ≡ Theory.someOr f b room
 unfolding planRead
-stops f n b room w e z h = ap Theory.stopAt h ∙ sym (Theory.none-written f b room (sym e ∙ z))
+stops f n b room w e z h = ap Theory.stopAt h ∙ sym (Laws.none-written f b room (sym e ∙ z))
 
 pub drains : (n b room : ℕ) → n ≡ b → (n ≡ 0 → ⊥) → planRead (Plan.the-variants.Drain n) ≡ Theory.someOr Theory.drainMany b room
 unfolding planRead
-drains n b room e z = ap Theory.drainMany e ∙ sym (Theory.some-written Theory.drainMany b room (λ q. z (e ∙ q)))
+drains n b room e z = ap Theory.drainMany e ∙ sym (Laws.some-written Theory.drainMany b room (λ q. z (e ∙ q)))
 
 pub dues : (n b room : ℕ) (time : Float) → n ≡ b → (n ≡ 0 → ⊥) → planRead (Plan.the-variants.Due n time) ≡ Theory.someOr (λ k. Theory.dueMany k time) b room
 unfolding planRead
-dues n b room time e z = ap (λ (k : ℕ). Theory.dueMany k time) e ∙ sym (Theory.some-written (λ k. Theory.dueMany k time) b room (λ q. z (e ∙ q)))
+dues n b room time e z = ap (λ (k : ℕ). Theory.dueMany k time) e ∙ sym (Laws.some-written (λ k. Theory.dueMany k time) b room (λ q. z (e ∙ q)))
 
 pub done : (total written room noise : ℕ) → total ≤ written → planRead (Plan.the-variants.Halt Stop.the-variants.Done) ≡ Theory.planEnded (counted total) written room noise
 unfolding planRead stopRead
-done total written room noise h = sym (Theory.ended-done (counted total) written room noise h)
+done total written room noise h = sym (Laws.ended-done (counted total) written room noise h)
 
 pub full : (n first written : ℕ) (time : Float) (room noise bytes : ℕ) → n ≡ first - 32 - written → n ≤ 0 → bytes < 66 → planRead (Plan.the-variants.Halt Stop.the-variants.RecordsFull) ≡ Theory.planReply (counted 0) (first - 32 - written) time first room noise bytes
 unfolding planRead stopRead
-full n first written time room noise bytes e h b = sym (ap (λ (k : ℕ). Theory.planReply (counted 0) k time first room noise bytes) (sym e) ∙ Theory.reply-full (counted 0) n time first room noise bytes h b)
+full n first written time room noise bytes e h b = sym (ap (λ (k : ℕ). Theory.planReply (counted 0) k time first room noise bytes) (sym e) ∙ Laws.reply-full (counted 0) n time first room noise bytes h b)
 
 pub adds : (n first written : ℕ) (time : Float) (room noise bytes : ℕ) → n ≡ first - 32 - written → n ≤ 0 → 66 ≤ bytes → planRead (Plan.the-variants.Add time first) ≡ Theory.planReply (counted 0) (first - 32 - written) time first room noise bytes
 unfolding planRead stopRead
-adds n first written time room noise bytes e h b = sym (ap (λ (k : ℕ). Theory.planReply (counted 0) k time first room noise bytes) (sym e) ∙ Theory.reply-added (counted 0) n time first room noise bytes h b)
+adds n first written time room noise bytes e h b = sym (ap (λ (k : ℕ). Theory.planReply (counted 0) k time first room noise bytes) (sym e) ∙ Laws.reply-added (counted 0) n time first room noise bytes h b)
 
 pub is-due : (n first written : ℕ) (time : Float) (room noise bytes : ℕ) → n ≡ first - 32 - written → 0 < n → Theory.someOr (λ k. Theory.dueMany k time) (Theory.batch n room noise) room ≡ Theory.planReply (counted 0) (first - 32 - written) time first room noise bytes
-is-due n first written time room noise bytes e h = sym (ap (λ (k : ℕ). Theory.planReply (counted 0) k time first room noise bytes) (sym e) ∙ Theory.reply-due (counted 0) n time first room noise bytes h)
+is-due n first written time room noise bytes e h = sym (ap (λ (k : ℕ). Theory.planReply (counted 0) k time first room noise bytes) (sym e) ∙ Laws.reply-due (counted 0) n time first room noise bytes h)
 
 -- a draw, by its start
 module _ (total written : ℕ) (time : Float) (start : ℤ) (room noise bytes : ℕ) where
@@ -77,18 +78,18 @@ module _ (total written : ℕ) (time : Float) (start : ℤ) (room noise bytes : 
 
   pub ends-run : (first : ℕ) → start ≡ pos first → total ≤ first + 1094 → planRead (Plan.the-variants.End time) ≡ by (kindOf (counted total) (startFrom start))
   unfolding planRead
-  ends-run first e h = ap by (sym (Theory.start-ends (counted total) first h) ∙ at-start first e)
+  ends-run first e h = ap by (sym (Laws.start-ends (counted total) first h) ∙ at-start first e)
 
   pub replies : (first : ℕ) → start ≡ pos first → first + 1094 < total → Theory.planReply (counted 0) (first - 32 - written) time first room noise bytes ≡ by (kindOf (counted total) (startFrom start))
-  replies first e h = ap by (sym (Theory.start-replies (counted total) first h) ∙ at-start first e)
+  replies first e h = ap by (sym (Laws.start-replies (counted total) first h) ∙ at-start first e)
 
 -- after the end draw
 module _ (total written room noise n : ℕ) (more : written < total) (e : n ≡ Theory.batch (total - written) room noise) where
   pub drain-stops : (w : Stop.Stop) → n ≡ 0 → stopRead w ≡ Theory.stopFor room → planRead (Plan.the-variants.Halt w) ≡ Theory.planEnded (counted total) written room noise
-  drain-stops w z h = stops Theory.drainMany n (Theory.batch (total - written) room noise) room w e z h ∙ sym (Theory.ended-more (counted total) written room noise more)
+  drain-stops w z h = stops Theory.drainMany n (Theory.batch (total - written) room noise) room w e z h ∙ sym (Laws.ended-more (counted total) written room noise more)
 
   pub drain-many : (n ≡ 0 → ⊥) → planRead (Plan.the-variants.Drain n) ≡ Theory.planEnded (counted total) written room noise
-  drain-many z = drains n (Theory.batch (total - written) room noise) room e z ∙ sym (Theory.ended-more (counted total) written room noise more)
+  drain-many z = drains n (Theory.batch (total - written) room noise) room e z ∙ sym (Laws.ended-more (counted total) written room noise more)
 
 -- a turn's choice
 module _ (s : State) (t : Turn) (rest : List ℕ) (room noise bytes : ℕ) where
@@ -107,12 +108,12 @@ module _ (s : State) (t : Turn) (rest : List ℕ) (room noise bytes : ℕ) where
   chose-none e h =
       sym
       (ap here e
-      ∙ Theory.wants-draws (counted (s .total)) (t .written) (length rest) (timeAfter (t .time) (drawAt rest)) (kindOf (counted (s .total)) (startFrom (startAt (s .distributions) (s .delays) (timeAfter (t .time) (drawAt rest)) (drawAt rest)))) room noise bytes h)
+      ∙ Laws.wants-draws (counted (s .total)) (t .written) (length rest) (timeAfter (t .time) (drawAt rest)) (kindOf (counted (s .total)) (startFrom (startAt (s .distributions) (s .delays) (timeAfter (t .time) (drawAt rest)) (drawAt rest)))) room noise bytes h)
 
   pub chose-draw : t .ended ≡ false → 65 ≤ length rest → (time : Float) (start : ℤ) → time ≡ timeAfter (t .time) (drawAt rest) → start ≡ startAt (s .distributions) (s .delays) time (drawAt rest)
       → Theory.planDraw (counted (s .total)) (t .written) time (kindOf (counted (s .total)) (startFrom start)) room noise bytes ≡ chosen s t rest room noise bytes
   unfolding chosen
   chose-draw e h time start p q =
-      sym (Theory.has-draw (counted (s .total)) (t .written) (length rest) time (kindOf (counted (s .total)) (startFrom start)) room noise bytes h)
+      sym (Laws.has-draw (counted (s .total)) (t .written) (length rest) time (kindOf (counted (s .total)) (startFrom start)) room noise bytes h)
       ∙ (λ i. at false (p i) ((q ∙ ap (λ (x : Float). startAt (s .distributions) (s .delays) x (drawAt rest)) p) i))
       ∙ sym (ap here e)

@@ -6,7 +6,7 @@ use Prim.Native.Nat.{ℕ, _+_, _*_, _/_, _≤_}
 use native.Mathlib.Omega.{arith}
 use lib.ListN.{length, take, drop}
 use lib.Ieee.{Float}
-use Rattle.call_lists.proofs.FlatLists.{laid}
+use Rattle.call_lists.specs.Buffers.{laid}
 use Rattle.due_samples.specs.Due.{samplesOf, clearOf, Lent, dueOf}
 use Rattle.due_samples.proofs.LentTest.{fits-if}
 

@@ -3,7 +3,7 @@ use Prim.Native.Nat.{ℕ, _*_}
 use mathlib.Core.List.{List}
 use lib.Ieee.{Float, nan}
 use Rattle.call_lists.specs.PlainBench as Bench
-use Rattle.call_lists.proofs.Turns as Theory
+use Rattle.call_lists.specs.Turns as Theory
 use Rattle.running.specs.declared.State.{State}
 use Rattle.running.specs.declared.Turn.{Turn}
 use Rattle.running.specs.declared.Next as Next
@@ -19,6 +19,14 @@ stopGiven Bench.outputFull = Stop.the-variants.OutputFull
 stopGiven Bench.wantsNoise = Stop.the-variants.WantsNoise
 stopGiven Bench.wantsDraws = Stop.the-variants.WantsDraws
 stopGiven Bench.recordsFull = Stop.the-variants.RecordsFull
+
+-- the code's stops, numbered in the order of document 01's steps, as the plain bench's are
+unfoldable pub stopNumber : Stop.Stop → ℕ
+stopNumber Stop.the-variants.Done = 0
+stopNumber Stop.the-variants.OutputFull = 1
+stopNumber Stop.the-variants.WantsNoise = 2
+stopNumber Stop.the-variants.WantsDraws = 3
+stopNumber Stop.the-variants.RecordsFull = 4
 
 -- the first turn of a call
 unfoldable pub firstBy : State → Turn

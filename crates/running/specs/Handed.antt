@@ -3,7 +3,7 @@ use Prim.Native.Nat.{ℕ}
 use mathlib.Core.List.{List, [], _∷_}
 use lib.Ieee.{Float, nan}
 use Rattle.call_lists.specs.PlainBench as Bench
-use Rattle.call_lists.proofs.Machine as Machine
+use Rattle.call_lists.specs.Machine as Machine
 use Rattle.running.specs.declared.State.{State}
 use Rattle.running.specs.declared.Answer as Answer
 use Rattle.running.specs.declared.Ran.{Ran}

@@ -9,7 +9,7 @@ use Rattle.constants.specs.Rate.{four}
 use Rattle.call_lists.specs.Generator.{Generator}
 use Rattle.call_lists.specs.PlainRun.{kindOf}
 use Rattle.call_lists.specs.PlainBench as Bench
-use Rattle.call_lists.proofs.Plans as Theory
+use Rattle.call_lists.specs.Plans as Theory
 use Rattle.draw_times.specs.FloatGenerator.{generator}
 use Rattle.due_samples.specs.Due.{noDraws}
 use Rattle.draw.specs.Draw.{drawAt}

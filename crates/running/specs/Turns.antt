@@ -6,9 +6,9 @@ use mathlib.Core.Path.{_≡_}
 use lib.ListN.{length, drop}
 use lib.Ieee.{Float, nan}
 use Rattle.call_lists.specs.Generator.{Generator}
-use Rattle.call_lists.proofs.Turns as Theory
-use Rattle.call_lists.proofs.Plans.{Within}
-use Rattle.call_lists.proofs.Batched.{turnFuel}
+use Rattle.call_lists.specs.Turns as Theory
+use Rattle.call_lists.specs.Turns.{Within}
+use Rattle.call_lists.specs.Turns.{turnFuel}
 use Rattle.generator.specs.Real.{Filters, real}
 use Rattle.running.specs.declared.State.{State}
 use Rattle.running.specs.declared.Turn.{Turn}

@@ -10,8 +10,8 @@ ghost use lib.Ieee.{lt, nan};
 ghost use Rattle.constants.specs.Rate.{four};
 ghost use Rattle.call_lists.specs.PlainRun.{kindOf};
 ghost use Rattle.call_lists.specs.PlainBench.{drawRefusal, drawsOf};
-ghost use Rattle.call_lists.proofs.FlatLists.{laid};
-ghost use Rattle.call_lists.proofs.Plans.{planEnded, planReply, planDraw, stopFor, someOr, dueMany};
+ghost use Rattle.call_lists.specs.Buffers.{laid};
+ghost use Rattle.call_lists.specs.Plans.{planEnded, planReply, planDraw, stopFor, someOr, dueMany};
 ghost use Rattle.due_samples.specs.Due.{samplesOf, clearOf};
 ghost use Rattle.draw.specs.Draw.{drawAt};
 ghost use Rattle.draw.specs.Config.{configOf};
@@ -77,7 +77,7 @@ fn capped(due: u64, room: usize) -> usize
 
 // How many of the samples due can be written; none where a stop comes first.
 fn batch(due: u64, room: usize, noise: usize) -> usize
-    ensures { λ r. ⌜ r ≡ Rattle.call_lists.proofs.Plans.batch due room noise ⌝ }
+    ensures { λ r. ⌜ r ≡ Rattle.call_lists.specs.Plans.batch due room noise ⌝ }
 {
     capped(due, least(room / 2, noise / 2))
 }
@@ -122,7 +122,7 @@ fn due_before(first: u64, written: u64) -> u64
 
 // The samples due by the start of a draw at its time.
 fn due(n: u64, time: f64, room: usize, noise: usize) -> Plan
-    ensures { λ r. ⌜ planRead r ≡ someOr (λ k. dueMany k time) (Rattle.call_lists.proofs.Plans.batch n room noise) room ⌝ }
+    ensures { λ r. ⌜ planRead r ≡ someOr (λ k. dueMany k time) (Rattle.call_lists.specs.Plans.batch n room noise) room ⌝ }
 {
     let k = batch(n, room, noise);
     if k == 0 {

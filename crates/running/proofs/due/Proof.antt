@@ -1,5 +1,5 @@
 -- `due` meets its contract. Assumes nothing.
-use Rattle.call_lists.proofs.Plans.{dueMany}
+use Rattle.call_lists.specs.Plans.{dueMany}
 use Rattle.running.proofs.Tests.{stops, dues}
 use borrow.Author.Needs.{needs}
 use Rattle.running.proofs.due.Statement.{statement}

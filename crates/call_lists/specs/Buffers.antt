@@ -1,0 +1,8 @@
+-- A mirror of the code, and not document 01's words: a lent buffer with something written at a place. Definitions only.
+use mathlib.Core.List.{List, _++_}
+use Prim.Native.Nat.{ℕ, _+_}
+use lib.ListN.{length, take, drop}
+
+-- a buffer with xs written from a place on: what is before and beyond is unchanged
+abbrev pub laid : {X : Type 0} → ℕ → List X → List X → List X
+laid at xs buffer = take at buffer ++ (xs ++ drop (at + length xs) buffer)

@@ -1,0 +1,258 @@
+-- Refusals 9, 1 to 4, 5 and 6 of opening are each given for their cause only, and for the first cause in document 01's order: opening's answer is one that `Answered` allows (`answered`), and no other (`only`).
+-- So a run is opened exactly where none has a cause (`opens`). Assumes nothing.
+use Prim.Native.Nat.{ℕ, zero, suc, _+_, _<_}
+use mathlib.Core.Path.{_≡_, refl, sym, _∙_}
+use mathlib.Core.Bool.{Bool, true, false, _&&_, cond, false≢true}
+use mathlib.Core.List.{List, [], _∷_}
+use native.Mathlib.Omega.{arith}
+use lib.Dec.{eqb}
+use lib.ListN.{length, getD}
+use lib.Ieee.{Float, nan}
+use borrow.Author.Tests.{eqb-true, eq-eqb}
+use Rattle.constants.specs.Rate.{four, modeSTaps, modeACTaps}
+use Rattle.pulse_shape.specs.declared.Crossing.{Crossing}
+use Rattle.pulse_shape.specs.declared.Crossing.the-variants.{At, Nowhere}
+use Rattle.pulse_shape.specs.Prototype.{modeSPrototype, modeACPrototype}
+use Rattle.pulse_shape.specs.Accepted.{within16, allWithin16, modeSTapsAccepted, modeACTapsAccepted}
+use Rattle.pulse_shape.specs.GroupDelay.{crosses, delayAt, choose, delayFrom, groupDelay, modeACRatio, over, modeACGroupDelay}
+use Rattle.refusals.specs.declared.Refusal.{Refusal}
+use Rattle.refusals.specs.declared.Refusal.the-variants as Cause
+use Rattle.running.specs.declared.State.{State}
+use Rattle.settings.specs.declared.Distributions.{Distributions}
+use Rattle.settings.specs.declared.Checked as Checked
+use Rattle.settings.specs.Settings.{settingsOf}
+use Rattle.settings.specs.Accepted.{acceptedOf}
+use Rattle.settings.proofs.FirstCause as Settings
+use Rattle.opening.specs.declared.Opened.{Opened}
+use Rattle.opening.specs.declared.Opened.the-variants.{Run, Refused}
+use Rattle.opening.specs.Opening.{Lent, firstState, lentFits, modeSDelay, modeACDelay, delaysThen, delaysOf, tapsOf, settingsThen, openedOf}
+use Rattle.opening.proofs.Decided.{Fits, fits-if, fits-for, mode-s-delay-of, mode-ac-delay-of, no-mode-s, no-mode-ac, both-found, mode-s-taps-refused, mode-ac-taps-refused, taps-pass, lent-refused, settings-refused, settings-pass}
+
+-- ---- what each refusal looks at, as facts
+-- every value is finite and at most 16 in size
+abbrev pub AllWithin16 : List Float → Type 0
+AllWithin16 l = (i : ℕ) → i < length l → within16 (getD l i nan) ≡ true
+
+-- 5: "filter list of the wrong length, or a tap not finite or above 16 in size" is not so
+pub record GoodTaps (count : ℕ) (taps : List Float) : Type 0 where
+  pub count-is : length taps ≡ count
+  pub within : AllWithin16 taps
+
+-- somewhere the level is at or above a value and below the next
+abbrev pub Crosses : Float → List Float → Type 0
+Crosses level l = (i : ℕ) × (suc i < length l) × (crosses level (getD l i nan) (getD l (suc i) nan) ≡ true)
+
+-- 6: "a prototype value not finite or above 16 in size, or no 0.5 crossing" is not so
+pub record GoodPrototype (level : Float) (prototype : List Float) : Type 0 where
+  pub within : AllWithin16 prototype
+  pub crossing : Crosses level prototype
+
+-- 9: "working memory not 2,252 f32, a prototype not 1,792 f32" is not so
+abbrev pub LentFits : Lent → Type 0
+LentFits l = Fits (length (l .modeS)) (length (l .modeAC)) (length (l .memory))
+
+-- refusals 9 and 1 to 4 do not apply: the run has n samples and the distributions d
+pub record Passed (bytes : List ℕ) (l : Lent) (n : ℕ) (d : Distributions) : Type 0 where
+  pub lent : LentFits l
+  pub settings : Settings.Answered four (settingsOf bytes) (Checked.the-variants.Accepted n d)
+
+-- of both filters
+abbrev pub BothTaps : List Float → List Float → Type 0
+BothTaps tapsS tapsAC = GoodTaps (modeSTaps four) tapsS × GoodTaps (modeACTaps four) tapsAC
+
+abbrev pub BothPrototypes : Float → List Float → List Float → Type 0
+BothPrototypes level tapsS tapsAC = GoodPrototype level (modeSPrototype four tapsS) × GoodPrototype level (modeACPrototype four tapsAC)
+
+-- which answer is right: each refusal for its cause, where no earlier one applies, and a run where none does. The level is 0.5 in document 01.
+pub data Answered (level : Float) (tapsS tapsAC : List Float) (bytes : List ℕ) (l : Lent) : Opened → Type 0 where
+  refused-9 : (LentFits l → ⊥) → Answered level tapsS tapsAC bytes l (Refused Cause.Lent)
+  refused-1-to-4 : {q : Refusal} → LentFits l → Settings.Answered four (settingsOf bytes) (Checked.the-variants.Refused q) → Answered level tapsS tapsAC bytes l (Refused q)
+  refused-5 : {n : ℕ} {d : Distributions} → Passed bytes l n d → (BothTaps tapsS tapsAC → ⊥) → Answered level tapsS tapsAC bytes l (Refused Cause.Taps)
+  refused-6 : {n : ℕ} {d : Distributions} → Passed bytes l n d → BothTaps tapsS tapsAC → (BothPrototypes level tapsS tapsAC → ⊥) → Answered level tapsS tapsAC bytes l (Refused Cause.Prototype)
+  accepted : {n : ℕ} {d : Distributions} {a b : Float} → Passed bytes l n d → BothTaps tapsS tapsAC → BothPrototypes level tapsS tapsAC
+      → groupDelay four level (modeSPrototype four tapsS) ≡ At a → modeACGroupDelay four level (modeACPrototype four tapsAC) ≡ At b
+      → Answered level tapsS tapsAC bytes l (Run (firstState (settingsOf bytes .rates) n d a b))
+
+-- ---- the tests decide these facts
+abbrev Decides : Bool → Type 0 → Type 0
+Decides true P = P
+Decides false P = P → ⊥
+
+holds : {P : Type 0} (b : Bool) → Decides b P → P → b ≡ true
+holds true h p = refl
+holds false h p = absurd (h p)
+
+fails : {P : Type 0} (b : Bool) → Decides b P → (P → ⊥) → b ≡ false
+fails true h never = absurd (never h)
+fails false h never = refl
+
+lent-decides : (modeS modeAC memory : ℕ) → Decides (lentFits four modeS modeAC memory) (Fits modeS modeAC memory)
+lent-decides modeS modeAC memory = go (lentFits four modeS modeAC memory) refl
+  where
+    go : (b : Bool) → lentFits four modeS modeAC memory ≡ b → Decides b (Fits modeS modeAC memory)
+    go true e = fits-for modeS modeAC memory e
+    go false e = λ f. false≢true (sym e ∙ sym (fits-if modeS modeAC memory f))
+
+all-decides : (l : List Float) → Decides (allWithin16 l) (AllWithin16 l)
+unfolding allWithin16
+all-decides [] = λ i h. absurd (omega arith)
+all-decides (x ∷ l) = go (within16 x) refl (allWithin16 l) (all-decides l)
+  where
+    go : (a : Bool) → within16 x ≡ a → (b : Bool) → Decides b (AllWithin16 l) → Decides (a && b) (AllWithin16 (x ∷ l))
+    go true e true h = each
+      where
+        each : AllWithin16 (x ∷ l)
+        each zero k = e
+        each (suc i) k = h i (omega arith)
+    go true e false h = λ all. h (λ i k. all (suc i) (omega arith))
+    go false e b h = λ all. false≢true (sym e ∙ all 0 (omega arith))
+
+pub within-16 : (level : Float) (p : List Float) → GoodPrototype level p → allWithin16 p ≡ true
+within-16 level p g = holds _ (all-decides p) (g .within)
+
+taps-decide : (count : ℕ) (taps : List Float) → Decides (eqb (length taps) count && allWithin16 taps) (GoodTaps count taps)
+taps-decide count taps = go (eqb (length taps) count) refl (allWithin16 taps) (all-decides taps)
+  where
+    go : (a : Bool) → eqb (length taps) count ≡ a → (b : Bool) → Decides b (AllWithin16 taps) → Decides (a && b) (GoodTaps count taps)
+    go true e true h = record { count-is = eqb-true (length taps) count e; within = h }
+    go true e false h = λ g. h (g .within)
+    go false e b h = λ g. false≢true (sym e ∙ eq-eqb (length taps) count (g .count-is))
+
+-- a delay is found where the level crosses
+abbrev CrossingSays : Float → List Float → Crossing → Type 0
+CrossingSays level l (At d) = Crosses level l
+CrossingSays level l Nowhere = Crosses level l → ⊥
+
+crossing-says : (sps : ℕ) (level : Float) (j : ℕ) (l : List Float) → CrossingSays level l (delayFrom sps level j l)
+unfolding delayFrom
+crossing-says sps level j [] = λ c. absurd (omega (arith, c .1))
+crossing-says sps level j (a ∷ []) = λ c. absurd (omega (arith, c .1))
+crossing-says sps level j (a ∷ b ∷ l) = go (crosses level a b) refl (delayFrom sps level (j + 1) (b ∷ l)) (crossing-says sps level (j + 1) (b ∷ l))
+  where
+    go : (t : Bool) → crosses level a b ≡ t → (x : Crossing) → CrossingSays level (b ∷ l) x → CrossingSays level (a ∷ b ∷ l) (choose t (At (delayAt sps level j a b)) x)
+    go true e x h = (0, omega arith, e)
+    go false e (At d) h = (suc (h .0), omega (arith, h .1), h .2)
+    go false e Nowhere h = not-here
+      where
+        not-here : Crosses level (a ∷ b ∷ l) → ⊥
+        not-here (zero, k, c) = false≢true (sym e ∙ c)
+        not-here (suc i, k, c) = h (i, omega arith, c)
+
+-- a prototype's delay is found where the prototype is good
+abbrev DelaySays : Float → List Float → Crossing → Crossing → Type 0
+DelaySays level p found (At d) = GoodPrototype level p × (found ≡ At d)
+DelaySays level p found Nowhere = GoodPrototype level p → ⊥
+
+delay-says : (level : Float) (p : List Float) (found : Crossing) → CrossingSays level p found → DelaySays level p found (cond (allWithin16 p) found Nowhere)
+delay-says level p found h = go (allWithin16 p) (all-decides p) found h
+  where
+    go : (b : Bool) → Decides b (AllWithin16 p) → (x : Crossing) → CrossingSays level p x → DelaySays level p x (cond b x Nowhere)
+    go true w (At d) c = (record { within = w; crossing = c }, refl)
+    go true w Nowhere c = λ g. c (g .crossing)
+    go false w x c = λ g. w (g .within)
+
+over-says : (level ratio : Float) (p : List Float) (x : Crossing) → CrossingSays level p x → CrossingSays level p (over ratio x)
+over-says level ratio p (At d) c = c
+over-says level ratio p Nowhere c = c
+
+mode-s-says : (level : Float) (p : List Float) → DelaySays level p (groupDelay four level p) (modeSDelay four level p)
+unfolding modeSDelay groupDelay
+mode-s-says level p = delay-says level p _ (crossing-says four level 0 p)
+
+mode-ac-says : (level : Float) (p : List Float) → DelaySays level p (modeACGroupDelay four level p) (modeACDelay four level p)
+unfolding modeACDelay modeACGroupDelay groupDelay
+mode-ac-says level p = delay-says level p _ (over-says level modeACRatio p (delayFrom four level 0 p) (crossing-says four level 0 p))
+
+module _ (level : Float) (tapsS tapsAC : List Float) (bytes : List ℕ) (l : Lent) where
+  abbrev Right : Opened → Type 0
+  Right = Answered level tapsS tapsAC bytes l
+
+  -- ---- for its cause only
+  by-delays : (n : ℕ) (d : Distributions) → Passed bytes l n d → BothTaps tapsS tapsAC
+      → (x : Crossing) → DelaySays level (modeSPrototype four tapsS) (groupDelay four level (modeSPrototype four tapsS)) x
+      → (y : Crossing) → DelaySays level (modeACPrototype four tapsAC) (modeACGroupDelay four level (modeACPrototype four tapsAC)) y
+      → Right (delaysThen (settingsOf bytes .rates) n d x y)
+  unfolding delaysThen
+  by-delays n d P t (At a) f (At b) g = accepted P t (f .0, g .0) (f .1) (g .1)
+  by-delays n d P t (At a) f Nowhere g = refused-6 P t (λ both. g (both .1))
+  by-delays n d P t Nowhere f y g = refused-6 P t (λ both. f (both .0))
+
+  by-taps : (n : ℕ) (d : Distributions) → Passed bytes l n d
+      → (s : Bool) → Decides s (GoodTaps (modeSTaps four) tapsS) → (ac : Bool) → Decides ac (GoodTaps (modeACTaps four) tapsAC)
+      → Right (cond (s && ac) (delaysOf four level tapsS tapsAC (settingsOf bytes .rates) n d) (Refused Cause.Taps))
+  unfolding delaysOf
+  by-taps n d P true f true g = by-delays n d P (f, g) _ (mode-s-says level (modeSPrototype four tapsS)) _ (mode-ac-says level (modeACPrototype four tapsAC))
+  by-taps n d P true f false g = refused-5 P (λ both. g (both .1))
+  by-taps n d P false f ac g = refused-5 P (λ both. f (both .0))
+
+  by-settings : LentFits l → (c : Checked.Checked) → Settings.Answered four (settingsOf bytes) c → Right (settingsThen four level tapsS tapsAC (settingsOf bytes .rates) c)
+  unfolding settingsThen tapsOf modeSTapsAccepted modeACTapsAccepted
+  by-settings f (Checked.the-variants.Accepted n d) s = by-taps n d (record { lent = f; settings = s }) (modeSTapsAccepted four tapsS) (taps-decide (modeSTaps four) tapsS) (modeACTapsAccepted four tapsAC) (taps-decide (modeACTaps four) tapsAC)
+  by-settings f (Checked.the-variants.Refused q) s = refused-1-to-4 f s
+
+  pub answered : Right (openedOf four level tapsS tapsAC bytes l)
+  unfolding openedOf
+  answered = go (lentFits four (length (l .modeS)) (length (l .modeAC)) (length (l .memory))) (lent-decides (length (l .modeS)) (length (l .modeAC)) (length (l .memory)))
+    where
+      go : (b : Bool) → Decides b (LentFits l)
+          → Right (cond b (settingsThen four level tapsS tapsAC (settingsOf bytes .rates) (acceptedOf four (settingsOf bytes))) (Refused Cause.Lent))
+      go true f = by-settings f (acceptedOf four (settingsOf bytes)) (Settings.answered four (settingsOf bytes))
+      go false f = refused-9 f
+
+  -- ---- and the first
+  fit : LentFits l → lentFits four (length (l .modeS)) (length (l .modeAC)) (length (l .memory)) ≡ true
+  fit = holds _ (lent-decides (length (l .modeS)) (length (l .modeAC)) (length (l .memory)))
+
+  passes : (n : ℕ) (d : Distributions) → Passed bytes l n d → openedOf four level tapsS tapsAC bytes l ≡ tapsOf four level tapsS tapsAC (settingsOf bytes .rates) n d
+  passes n d P = sym (settings-pass level tapsS tapsAC bytes l (settingsOf bytes) _ refl refl (fit (P .lent)) n d (Settings.only four (settingsOf bytes) _ (P .settings)))
+
+  good-taps : BothTaps tapsS tapsAC → (modeSTapsAccepted four tapsS ≡ true) × (modeACTapsAccepted four tapsAC ≡ true)
+  unfolding modeSTapsAccepted modeACTapsAccepted
+  good-taps t = (holds _ (taps-decide (modeSTaps four) tapsS) (t .0), holds _ (taps-decide (modeACTaps four) tapsAC) (t .1))
+
+  module _ (n : ℕ) (d : Distributions) where
+    abbrev tapsGive : Opened
+    tapsGive = tapsOf four level tapsS tapsAC (settingsOf bytes .rates) n d
+
+    taps-refused : (BothTaps tapsS tapsAC → ⊥) → Refused Cause.Taps ≡ tapsGive
+    unfolding modeSTapsAccepted modeACTapsAccepted
+    taps-refused t = go _ refl (taps-decide (modeSTaps four) tapsS)
+      where
+        go : (b : Bool) → modeSTapsAccepted four tapsS ≡ b → Decides b (GoodTaps (modeSTaps four) tapsS) → Refused Cause.Taps ≡ tapsGive
+        go true e g = mode-ac-taps-refused level tapsS tapsAC _ n d e (fails _ (taps-decide (modeACTaps four) tapsAC) (λ h. t (g, h)))
+        go false e g = mode-s-taps-refused level tapsS tapsAC _ n d e
+
+    taps-go-on : BothTaps tapsS tapsAC → delaysOf four level tapsS tapsAC (settingsOf bytes .rates) n d ≡ tapsGive
+    taps-go-on t = taps-pass level tapsS tapsAC _ n d (good-taps t .0) (good-taps t .1)
+
+    prototype-refused : (BothPrototypes level tapsS tapsAC → ⊥) → Refused Cause.Prototype ≡ delaysOf four level tapsS tapsAC (settingsOf bytes .rates) n d
+    unfolding delaysOf
+    prototype-refused p = go _ refl (mode-s-says level (modeSPrototype four tapsS)) _ refl (mode-ac-says level (modeACPrototype four tapsAC))
+      where
+        go : (x : Crossing) → modeSDelay four level (modeSPrototype four tapsS) ≡ x → DelaySays level (modeSPrototype four tapsS) (groupDelay four level (modeSPrototype four tapsS)) x
+            → (y : Crossing) → modeACDelay four level (modeACPrototype four tapsAC) ≡ y → DelaySays level (modeACPrototype four tapsAC) (modeACGroupDelay four level (modeACPrototype four tapsAC)) y
+            → Refused Cause.Prototype ≡ delaysOf four level tapsS tapsAC (settingsOf bytes .rates) n d
+        go (At a) e f (At b) h g = absurd (p (f .0, g .0))
+        go (At a) e f Nowhere h g = no-mode-ac _ n d _ _ a e h
+        go Nowhere e f y h g = no-mode-s _ n d _ _ e
+
+  pub only : (c : Opened) → Right c → openedOf four level tapsS tapsAC bytes l ≡ c
+  unfolding delaysOf
+  only c (refused-9 f) = sym (lent-refused level tapsS tapsAC bytes l (fails _ (lent-decides (length (l .modeS)) (length (l .modeAC)) (length (l .memory))) f))
+  only c (refused-1-to-4 {q} f s) = sym (settings-refused level tapsS tapsAC bytes l (settingsOf bytes) _ refl refl (fit f) q (Settings.only four (settingsOf bytes) _ s))
+  only c (refused-5 {n} {d} P t) = passes n d P ∙ sym (taps-refused n d t)
+  only c (refused-6 {n} {d} P t p) = passes n d P ∙ sym (prototype-refused n d p ∙ taps-go-on n d t)
+  only c (accepted {n} {d} {a} {b} P t p f g) =
+      passes n d P
+      ∙ sym (both-found _ n d _ _ a b (mode-s-delay-of four level _ (within-16 level _ (p .0)) ∙ f) (mode-ac-delay-of four level _ (within-16 level _ (p .1)) ∙ g) ∙ taps-go-on n d t)
+
+  -- a run is opened where no refusal has a cause
+  pub opens : (n : ℕ) (d : Distributions) → Passed bytes l n d → BothTaps tapsS tapsAC → BothPrototypes level tapsS tapsAC → (s : State) × (openedOf four level tapsS tapsAC bytes l ≡ Run s)
+  opens n d P t p = go (modeSDelay four level (modeSPrototype four tapsS)) (mode-s-says level (modeSPrototype four tapsS)) (modeACDelay four level (modeACPrototype four tapsAC)) (mode-ac-says level (modeACPrototype four tapsAC))
+    where
+      go : (x : Crossing) → DelaySays level (modeSPrototype four tapsS) (groupDelay four level (modeSPrototype four tapsS)) x
+          → (y : Crossing) → DelaySays level (modeACPrototype four tapsAC) (modeACGroupDelay four level (modeACPrototype four tapsAC)) y
+          → (s : State) × (openedOf four level tapsS tapsAC bytes l ≡ Run s)
+      go (At a) f (At b) g = (_, only _ (accepted P t p (f .1) (g .1)))
+      go (At a) f Nowhere g = absurd (g (p .1))
+      go Nowhere f y g = absurd (f (p .0))

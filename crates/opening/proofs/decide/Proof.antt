@@ -1,0 +1,46 @@
+-- `decide` meets its contract. Assumes nothing.
+use mathlib.Core.Path.{ap, _∙_}
+use Rattle.opening.specs.declared.Opened.the-variants.{Run}
+use Rattle.opening.proofs.Decided.{no-mode-s, no-mode-ac, both-found}
+use borrow.Author.Needs.{needs}
+use Rattle.opening.proofs.decide.Statement.{statement}
+use Rattle.opening.proofs.decide.Tie as tie
+
+enum-known-mode-s : tie.Need-enum-known-mode-s
+enum-known-mode-s c = search needs
+
+enum-told : tie.Need-enum-told
+enum-told c = search needs
+
+returns : tie.Need-returns
+returns c = no-mode-s _ _ _ _ _ (c .enum-told .given .1)
+
+enum-known-mode-ac : tie.Need-enum-known-mode-ac
+enum-known-mode-ac c = search needs
+
+enum-told-2 : tie.Need-enum-told-2
+enum-told-2 c = search needs
+
+returns-2 : tie.Need-returns-2
+returns-2 c = no-mode-ac _ _ _ _ _ _ (c .before .before .before .mode-s .given .1) (c .enum-told2 .given .1)
+
+first-state-requires : tie.Need-first-state-requires
+first-state-requires c κs = search needs
+
+returns-3 : tie.Need-returns-3
+returns-3 c =
+    ap Run (c .first-state .ensures)
+    ∙ both-found _ _ _ _ _ _ _ (c .before .before .before .before .before .mode-s .given .1) (c .before .before .mode-ac .given .1)
+
+pub decide-spec : {M : Type 1} → statement M
+decide-spec =
+    tie.close
+    (tie.spec
+    enum-known-mode-s
+    enum-told
+    returns
+    enum-known-mode-ac
+    enum-told-2
+    returns-2
+    first-state-requires
+    returns-3)

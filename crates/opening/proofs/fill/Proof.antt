@@ -1,0 +1,58 @@
+-- `fill` meets its contract. Assumes nothing.
+use mathlib.Core.Path.{_≡_, refl, sym, ap, _∙_}
+use mathlib.Core.Bool.{Bool, true, false, cond}
+use mathlib.Core.List.{List}
+use lib.ListN.{length}
+use lib.Ieee.{Float}
+use Rattle.due_samples.specs.Due.{zeros}
+use borrow.Author.Tests.{not-true, not-false}
+use borrow.Author.Needs.{needs}
+use Rattle.opening.proofs.fill.Statement.{statement}
+use Rattle.opening.proofs.fill.Tie as tie
+
+-- what is left, by whether a run is opened
+chosen : (opened b : Bool) (x filled lent : List Float) → opened ≡ b → x ≡ cond b filled lent → x ≡ cond opened filled lent
+chosen opened b x filled lent e h = h ∙ ap (λ (c : Bool). cond c filled lent) (sym e)
+
+returns : tie.Need-returns
+returns c =
+    let a = c .before .before .before .before .before .before .args in
+    let e = not-true (a .opened) (c .if1 .taken) in
+    (chosen (a .opened) false _ (a .proto-s .now) _ e refl, chosen (a .opened) false _ (a .proto-ac .now) _ e refl, chosen (a .opened) false _ (zeros (length (a .memory .now))) _ e refl)
+
+copy-requires : tie.Need-copy-requires
+copy-requires c κs = search needs
+
+copy-requires-2 : tie.Need-copy-requires-2
+copy-requires-2 c κs = search needs
+
+clear-requires : tie.Need-clear-requires
+clear-requires c κs = search needs
+
+same-length : tie.Need-same-length
+same-length c = search needs
+
+same-length-2 : tie.Need-same-length-2
+same-length-2 c = search needs
+
+same-length-3 : tie.Need-same-length-3
+same-length-3 c = search needs
+
+returns-2 : tie.Need-returns-2
+returns-2 c =
+    let a = c .before .before .before .before .before .before .before .before .before .before .before .before .before .before .before .before .before .before .args in
+    let e = not-false (a .opened) (c .before .before .before .before .before .before .before .before .before .before .before .before .if1 .left) in
+    (chosen (a .opened) true _ _ (a .mode-s .now) e (c .before .before .before .before .before .before .before .before .before .before .copy .ensures), chosen (a .opened) true _ _ (a .mode-ac .now) e (c .before .before .before .before .before .before .copy2 .ensures), chosen (a .opened) true _ _ (a .memory .now) e (c .before .before .clear .ensures))
+
+pub fill-spec : {M : Type 1} → statement M
+fill-spec =
+    tie.close
+    (tie.spec
+    returns
+    copy-requires
+    copy-requires-2
+    clear-requires
+    same-length
+    same-length-2
+    same-length-3
+    returns-2)
