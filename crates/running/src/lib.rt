@@ -234,7 +234,7 @@ fn choose(s: State, t: Turn, rest: &[u8], room: usize, noise: usize, bytes: usiz
     let time = draw::time_after(t.time, rest);
     let all = s.distributions;
     let delays = s.delays;
-    let start = draw::start_at(all, delays, time, rest);
+    let start = draw_config::start_at(all, delays, time, rest);
     place(t.written, s.total, time, start, room, noise, bytes)
 }
 
@@ -298,7 +298,7 @@ fn add(
     let d = draw::read(rest);
     let all = s.distributions;
     let delays = s.delays;
-    let c = draw::config(all, time, d);
+    let c = draw_config::config(all, time, d);
     let count = reply_samples::add_reply(
         mode_s,
         mode_ac,
@@ -513,7 +513,7 @@ fn check_draws(s: State, draws: &[u8]) -> Fault
     }
     let rates = s.rates;
     let all = s.distributions;
-    draw::first_fault(draws, rates, all)
+    draw_faults::first_fault(draws, rates, all)
 }
 
 // Refusal 8.

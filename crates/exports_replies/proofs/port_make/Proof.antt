@@ -7,12 +7,16 @@ use Rattle.exports_replies.proofs.port_make.Tie as tie
 make-requires : tie.Need-make-requires
 make-requires c κs = search needs
 
+kind-number-requires : tie.Need-kind-number-requires
+kind-number-requires c κs = search needs
+
 field-number-requires : tie.Need-field-number-requires
 field-number-requires c κs = search needs
 
 returns : tie.Need-returns
 unfolding picksOf
-returns c = (cc, cc)
+returns c = record { fault = cc; kind = cc; bytes = cc }
 
 pub port-make-spec : {M : Type 1} → statement M
-port-make-spec = tie.close (tie.spec make-requires field-number-requires returns)
+port-make-spec =
+    tie.close (tie.spec make-requires kind-number-requires field-number-requires returns)

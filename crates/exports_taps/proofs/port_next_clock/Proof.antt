@@ -1,0 +1,16 @@
+-- `exports_taps::port_next_clock` meets its contract. Assumes nothing.
+use borrow.Author.Needs.{needs}
+use Rattle.exports_taps.proofs.port_next_clock.Statement.{statement}
+use Rattle.exports_taps.proofs.port_next_clock.Tie as tie
+
+clock-step-requires : tie.Need-clock-step-requires
+clock-step-requires c κs = search needs
+
+advance-requires : tie.Need-advance-requires
+advance-requires c κs = search needs
+
+returns : tie.Need-returns
+returns c = (cc, cc)
+
+pub port-next-clock-spec : {M : Type 1} → statement M
+port-next-clock-spec = tie.close (tie.spec clock-step-requires advance-requires returns)
