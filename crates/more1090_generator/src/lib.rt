@@ -3,7 +3,7 @@ ghost use mathlib.Core.Path.{_≡_};
 ghost use mathlib.Core.Bool.{cond};
 ghost use Rattle.constants.specs.Rate.{four};
 ghost use Rattle.opening.specs.Opening.{half, openedOf, leftBy};
-ghost use Rattle.more1090_generator.specs.States.{distributionOf, carrierFlat, phaseFlat, clockFlat, carrierFrom, phaseFrom, clockFrom, ratesFlat, ratesFrom, flatOf, stateFrom, noState};
+ghost use Rattle.more1090_generator.specs.States.{distributionOf, carrierFlat, phaseFlat, clockFlat, carrierFrom, phaseFrom, clockFrom, ratesFlat, ratesFrom, flatOf, stateFrom, noRates, noState};
 ghost use Rattle.more1090_generator.specs.Answers.{valuesFlat, openedFlat, stopNumber, answered, ranFlat, flatRunLeft};
 use distributions::CarrierOffset;
 use distributions::CarrierPhase;
@@ -244,28 +244,37 @@ fn state_in(f: FlatState) -> State
     }
 }
 
+fn no_rates() -> FlatRates
+    ensures { λ r. ⌜ r ≡ noRates ⌝ }
+{
+    FlatRates {
+        extended_squitter: 0.0,
+        acquisition_squitter: 0.0,
+        short_ap: 0.0,
+        all_call_reply: 0.0,
+        long_ap: 0.0,
+        military_extended_squitter: 0.0,
+        mode_ac: 0.0,
+    }
+}
+
+// What a refused opening tells as its state.
 fn no_state() -> FlatState
     ensures { λ r. ⌜ r ≡ noState ⌝ }
 {
+    let rates = no_rates();
+    let none = distribution(0, 0.0, 0.0);
     FlatState {
         written: 0,
         total: 0,
         time: 0.0,
         latest: 0.0,
-        rates: FlatRates {
-            extended_squitter: 0.0,
-            acquisition_squitter: 0.0,
-            short_ap: 0.0,
-            all_call_reply: 0.0,
-            long_ap: 0.0,
-            military_extended_squitter: 0.0,
-            mode_ac: 0.0,
-        },
+        rates: rates,
         mode_s_delay: 0.0,
         mode_ac_delay: 0.0,
-        carrier: distribution(0, 0.0, 0.0),
-        phase: distribution(0, 0.0, 0.0),
-        clock: distribution(0, 0.0, 0.0),
+        carrier: none,
+        phase: none,
+        clock: none,
         ended: 0,
     }
 }
