@@ -38,6 +38,7 @@ pub struct FlatRates {
     pub mode_ac: f64,
 }
 
+// A run between two calls. Each field has 8 bytes, so that there is no padding.
 #[repr(C)]
 pub struct FlatState {
     pub written: u64,
@@ -53,6 +54,7 @@ pub struct FlatState {
     pub ended: u64,
 }
 
+// What opening answers: refusal 0 is none.
 #[repr(C)]
 pub struct FlatOpened {
     pub state: FlatState,
@@ -60,6 +62,7 @@ pub struct FlatOpened {
     pub value: u64,
 }
 
+// What a run call answers: refusal 0 is none, stop 5 is none.
 #[repr(C)]
 pub struct FlatRan {
     pub state: FlatState,
@@ -379,6 +382,7 @@ fn ran_out(ran: Ran) -> FlatRan
     answer_out(state_out(s), n, answer)
 }
 
+// Opens a run; refused, it changes nothing that is lent, and the state is all zero.
 #[no_mangle]
 pub extern "C" fn more1090_open(
     settings: &[u8; 119],
@@ -394,6 +398,7 @@ pub extern "C" fn more1090_open(
     opened_out(o)
 }
 
+// A run call on a state that a call returned, or on any other numbers.
 #[no_mangle]
 pub extern "C" fn more1090_run(
     state: FlatState,
