@@ -23,6 +23,7 @@ use Rattle.more1090_generator.specs.declared.FlatDistribution.{FlatDistr
 use Rattle.more1090_generator.specs.declared.FlatRates.{FlatRates}
 use Rattle.more1090_generator.specs.declared.FlatState.{FlatState}
 use Rattle.more1090_generator.specs.declared.FlatOpened.{FlatOpened}
+use Rattle.more1090_generator.specs.declared.FlatAnswer.{FlatAnswer}
 use Rattle.more1090_generator.specs.declared.FlatRan.{FlatRan}
 use Rattle.more1090_generator.specs.declared.Values.{Values}
 use Rattle.more1090_generator.specs.States.{zero64, distributionOf, carrierFlat, phaseFlat, clockFlat, carrierFrom, phaseFrom, clockFrom, ratesFlat, ratesFrom, flatOf, stateFrom, noRates, noState}
@@ -51,14 +52,18 @@ pub opened-refused : (o : Opened.Opened) (q : Refusal) → o ≡ Opened.the-vari
 unfolding opened openedFlat
 opened-refused o q p f a n b v d = (λ i. opened (a i) (b i) (d i .value)) ∙ sym (ap openedFlat p)
 
-module _ (f : FlatState) (counts : Counts) (answer : Answer.Answer) where
-  pub answered-stopped : (w : Stop) → answer ≡ Answer.the-variants.Stopped w → (n : ℕ) → n ≡ stopNumber w → (r : FlatRan) → r ≡ told f counts n 0 0 0 → r ≡ answered f counts answer
+module _ (counts : Counts) (answer : Answer.Answer) where
+  pub answered-stopped : (w : Stop) → answer ≡ Answer.the-variants.Stopped w → (n : ℕ) → n ≡ stopNumber w → (r : FlatAnswer) → r ≡ told counts n 0 0 0 → r ≡ answered counts answer
   unfolding answered
-  answered-stopped w p n a r e = e ∙ ap (λ x. told f counts x 0 0 0) a ∙ sym (ap (answered f counts) p)
+  answered-stopped w p n a r e = e ∙ ap (λ x. told counts x 0 0 0) a ∙ sym (ap (answered counts) p)
 
-  pub answered-refused : (q : Refusal) → answer ≡ Answer.the-variants.Refused q → (n : ℕ) → n ≡ numberOf q → (v : Values) → v ≡ valuesFlat q → (r : FlatRan) → r ≡ told f counts 5 n (v .value) (v .field) → r ≡ answered f counts answer
+  pub answered-refused : (q : Refusal) → answer ≡ Answer.the-variants.Refused q → (n : ℕ) → n ≡ numberOf q → (v : Values) → v ≡ valuesFlat q → (r : FlatAnswer) → r ≡ told counts 5 n (v .value) (v .field) → r ≡ answered counts answer
   unfolding answered
-  answered-refused q p n a v b r e = e ∙ (λ i. told f counts 5 (a i) (b i .value) (b i .field)) ∙ sym (ap (answered f counts) p)
+  answered-refused q p n a v b r e = e ∙ (λ i. told counts 5 (a i) (b i .value) (b i .field)) ∙ sym (ap (answered counts) p)
+
+pub ran-flat : (r : Ran) (f : FlatState) (a : FlatAnswer) → f ≡ flatOf (r .state) → a ≡ answered (r .counts) (r .answer) → record { state = f; answer = a } ≡ ranFlat r
+unfolding ranFlat
+ran-flat r f a p q = λ i. record { state = p i; answer = q i }
 
 module _ (tapsS tapsAC : List Float) (bytes : List ℕ) (lent : Opening.Lent) where
   pub open-flat : (o : Opened.Opened) (after : Opening.Lent) → (o ≡ Opening.openedOf four Opening.half tapsS tapsAC bytes lent) × (after ≡ Opening.leftBy four tapsS tapsAC o lent) → (r : FlatOpened) → r ≡ openedFlat o → (r ≡ openedFlat (Opening.openedOf four Opening.half tapsS tapsAC bytes lent)) × (after ≡ Opening.leftBy four tapsS tapsAC (Opening.openedOf four Opening.half tapsS tapsAC bytes lent) lent)

@@ -17,7 +17,7 @@ use Rattle.more1090_generator.proofs.StateBack.{state-back}
 
 module _ (s : State) (modeS modeAC memory : List Float) (draws : List ℕ) (noise output : List Float) (records : List ℕ) where
   Kept : FlatLeft → Type 0
-  Kept l = (l .ran .refusal ≡ 0 → ⊥) → (l .ran .state ≡ flatOf s) × (l .memory ≡ memory) × (l .output ≡ output) × (l .records ≡ records)
+  Kept l = (l .ran .answer .refusal ≡ 0 → ⊥) → (l .ran .state ≡ flatOf s) × (l .memory ≡ memory) × (l .output ≡ output) × (l .records ≡ records)
 
   kept : (q : Option Bench.Refusal) → Kept (leftFlat (runBy s memory output records (callLeft s modeS modeAC memory draws noise output records) q))
   unfolding Kept leftFlat ranFlat answered told callLeft leftBy refusedBy
@@ -25,7 +25,7 @@ module _ (s : State) (modeS modeAC memory : List Float) (draws : List ℕ) (nois
   kept (some q) h = (refl, refl, refl, refl)
 
   pub refused-run : let l = flatRunLeft (flatOf s) modeS modeAC memory draws noise output records in
-      (l .ran .refusal ≡ 0 → ⊥) → (l .ran .state ≡ flatOf s) × (l .memory ≡ memory) × (l .output ≡ output) × (l .records ≡ records)
+      (l .ran .answer .refusal ≡ 0 → ⊥) → (l .ran .state ≡ flatOf s) × (l .memory ≡ memory) × (l .output ≡ output) × (l .records ≡ records)
   unfolding Kept flatRunLeft runLeft
   refused-run = rw state-back (kept (callRefusal s modeS modeAC memory draws noise output records))
 

@@ -62,10 +62,9 @@ pub struct FlatOpened {
     pub value: u64,
 }
 
-// What a run call answers: refusal 0 is none, stop 5 is none.
+// What a run call answers beside its state: refusal 0 is none, stop 5 is none.
 #[repr(C)]
-pub struct FlatRan {
-    pub state: FlatState,
+pub struct FlatAnswer {
     pub taken: u64,
     pub samples: u64,
     pub noise: u64,
@@ -74,6 +73,12 @@ pub struct FlatRan {
     pub refusal: u64,
     pub value: u64,
     pub field: u64,
+}
+
+#[repr(C)]
+pub struct FlatRan {
+    pub state: FlatState,
+    pub answer: FlatAnswer,
 }
 
 fn distribution(kind: u64, first: f64, second: f64) -> FlatDistribution
@@ -345,11 +350,10 @@ fn stop_number(w: Stop) -> u64
     }
 }
 
-fn told(state: FlatState, n: Counts, stop: u64, refusal: u64, value: u64, field: u64) -> FlatRan
-    ensures { λ r. ⌜ r ≡ Rattle.more1090_generator.specs.Answers.told state n stop refusal value field ⌝ }
+fn told(n: Counts, stop: u64, refusal: u64, value: u64, field: u64) -> FlatAnswer
+    ensures { λ r. ⌜ r ≡ Rattle.more1090_generator.specs.Answers.told n stop refusal value field ⌝ }
 {
-    FlatRan {
-        state: state,
+    FlatAnswer {
         taken: n.taken as u64,
         samples: n.samples as u64,
         noise: n.noise as u64,
@@ -361,14 +365,14 @@ fn told(state: FlatState, n: Counts, stop: u64, refusal: u64, value: u64, field:
     }
 }
 
-fn answer_out(state: FlatState, n: Counts, answer: Answer) -> FlatRan
-    ensures { λ r. ⌜ r ≡ answered state n answer ⌝ }
+fn answer_out(n: Counts, answer: Answer) -> FlatAnswer
+    ensures { λ r. ⌜ r ≡ answered n answer ⌝ }
 {
     match answer {
-        Answer::Stopped(w) => told(state, n, stop_number(w), 0, 0, 0),
+        Answer::Stopped(w) => told(n, stop_number(w), 0, 0, 0),
         Answer::Refused(q) => {
             let v = values_of(q);
-            told(state, n, 5, refusals::number(q), v.value, v.field)
+            told(n, 5, refusals::number(q), v.value, v.field)
         }
     }
 }
@@ -379,7 +383,10 @@ fn ran_out(ran: Ran) -> FlatRan
     let s = ran.state;
     let n = ran.counts;
     let answer = ran.answer;
-    answer_out(state_out(s), n, answer)
+    FlatRan {
+        state: state_out(s),
+        answer: answer_out(n, answer),
+    }
 }
 
 // Opens a run; refused, it changes nothing that is lent, and the state is all zero.
