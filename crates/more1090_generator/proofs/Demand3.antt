@@ -13,9 +13,6 @@ use Rattle.refusals.specs.Number.{numberOf, valuesOf}
 use Rattle.opening.specs.declared.Opened as Opened
 use Rattle.opening.specs.Opening as Opening
 use Rattle.running.specs.declared.State.{State}
-use Rattle.running.specs.declared.Counts.{Counts}
-use Rattle.running.specs.declared.Answer as Answer
-use Rattle.running.specs.declared.Ran.{Ran}
 use Rattle.running.specs.Turns.{genOf}
 use Rattle.running.specs.Ended.{Left}
 use Rattle.running.specs.Calls.{refusalGiven, runLeft}
@@ -25,7 +22,7 @@ use Rattle.simulation.proofs.Demand3.{OpenedRuns, opened-runs}
 use Rattle.more1090_generator.specs.declared.FlatState.{FlatState}
 use Rattle.more1090_generator.specs.States.{flatOf, stateFrom}
 use Rattle.more1090_generator.specs.Answers.{valuesFlat, openedFlat, told, answered, ranFlat, FlatLeft, leftFlat, flatRunLeft, flatRunsLeft}
-use Rattle.more1090_generator.specs.Seen.{Numbers, FlatSeen, numbersLeft, flatSeen, benchNumbers, benchSeen}
+use Rattle.more1090_generator.specs.Seen.{FlatSeen, flatSeen, benchAnswer, benchSeen}
 use Rattle.more1090_generator.proofs.StateBack.{state-back}
 
 -- f is a state in C's numbers that stands for s, the prototypes and working memory what opening left beside it
@@ -37,58 +34,38 @@ pub record CallsFor (f : FlatState) (s : State) (modeS modeAC memory : List Floa
 abbrev pub OpenedCalls : FlatState → List Float → List Float → List Float → Type 0
 OpenedCalls f modeS modeAC memory = CallsFor f (stateFrom f) modeS modeAC memory
 
--- the state that a call returns is the run's
-state-kept : (f : FlatState) (n : Counts) (a : Answer.Answer) → answered f n a .state ≡ f
-unfolding answered told
-state-kept f n (Answer.the-variants.Stopped w) = refl
-state-kept f n (Answer.the-variants.Refused q) = refl
-
 -- a list of calls in C's numbers is the list of calls, each as C has it
 module _ (modeS modeAC : List Float) where
-  next : Left → FlatState → List Lent → List FlatLeft
-  next r f ls = leftFlat r ∷ flatRunsLeft f modeS modeAC (r .memory) ls
+  next : Left → List Lent → List FlatLeft
+  next r ls = leftFlat r ∷ flatRunsLeft (flatOf (r .ran .state)) modeS modeAC (r .memory) ls
 
   runs-flat : (ls : List Lent) (s : State) (memory : List Float) → flatRunsLeft (flatOf s) modeS modeAC memory ls ≡ map leftFlat (runsLeft s modeS modeAC memory ls)
   unfolding flatRunsLeft runsLeft flatRunLeft leftFlat ranFlat next
   runs-flat [] s memory = refl
   runs-flat (l ∷ ls) s memory =
       let r = runLeft s modeS modeAC memory (l .draws) (l .noise) (l .output) (l .records) in
-      ap
-      (λ (x : State).
-      let q = runLeft x modeS modeAC memory (l .draws) (l .noise) (l .output) (l .records) in
-      next q (leftFlat q .ran .state) ls)
-      (state-back s)
-      ∙ ap (λ (f : FlatState). next r f ls) (state-kept (flatOf (r .ran .state)) (r .ran .counts) (r .ran .answer))
+      ap (λ (x : State). next (runLeft x modeS modeAC memory (l .draws) (l .noise) (l .output) (l .records)) ls) (state-back s)
       ∙ ap (λ (x : List FlatLeft). leftFlat r ∷ x) (runs-flat ls (r .ran .state) (r .memory))
 
--- what is seen of the code's call, in C's numbers; the state that is told with it is not seen
-module _ (f : FlatState) where
-  numbersOf : Counts → Answer.Answer → Numbers
-  numbersOf n a = numbersLeft (answered f n a)
+-- what is seen of the code's call, in C's numbers
+seenFlat : Seen → FlatSeen
+seenFlat v = record { answer = answered (v .counts) (v .answer); output = v .output; records = v .records }
 
-  seenFlat : Seen → FlatSeen
-  seenFlat v = record { numbers = numbersOf (v .counts) (v .answer); output = v .output; records = v .records }
+same-seen : (l : Left) → flatSeen (leftFlat l) ≡ seenFlat (seenLeft l)
+unfolding flatSeen leftFlat ranFlat seenFlat seenLeft
+same-seen l = refl
 
-  same-numbers : (n : Counts) (a : Answer.Answer) (g : FlatState) → numbersLeft (answered g n a) ≡ numbersOf n a
-  unfolding numbersOf numbersLeft answered told
-  same-numbers n (Answer.the-variants.Stopped w) g = refl
-  same-numbers n (Answer.the-variants.Refused q) g = refl
+bench-answer : (a : Bench.Answer) → answered (countsGiven a) (answerGiven a) ≡ benchAnswer a
+unfolding answered told benchAnswer countsGiven answerGiven refusalGiven numberOf valuesOf valuesFlat
+bench-answer (Bench.refused Bench.wrongLength) = refl
+bench-answer (Bench.refused (Bench.wrongDraw d k)) = refl
+bench-answer (Bench.refused (Bench.wrongNoise p)) = refl
+bench-answer (Bench.ran taken samples noise records stop) = refl
 
-  same-seen : (l : Left) → flatSeen (leftFlat l) ≡ seenFlat (seenLeft l)
-  unfolding flatSeen leftFlat ranFlat seenFlat seenLeft
-  same-seen l = λ i. record { numbers = same-numbers (l .ran .counts) (l .ran .answer) (flatOf (l .ran .state)) i; output = l .output; records = l .records }
-
-  bench-numbers : (a : Bench.Answer) → numbersOf (countsGiven a) (answerGiven a) ≡ benchNumbers a
-  unfolding numbersOf numbersLeft answered told benchNumbers countsGiven answerGiven refusalGiven numberOf valuesOf valuesFlat
-  bench-numbers (Bench.refused Bench.wrongLength) = refl
-  bench-numbers (Bench.refused (Bench.wrongDraw d k)) = refl
-  bench-numbers (Bench.refused (Bench.wrongNoise p)) = refl
-  bench-numbers (Bench.ran taken samples noise records stop) = refl
-
-  module _ (s : State) (modeS modeAC : List Float) where
-    bench-seen : (r : Bench.Result (genOf s modeS modeAC)) → seenFlat (seenResult s modeS modeAC r) ≡ benchSeen s modeS modeAC r
-    unfolding seenFlat seenResult benchSeen
-    bench-seen r = λ i. record { numbers = bench-numbers (r .answer) i; output = r .output; records = r .records }
+module _ (s : State) (modeS modeAC : List Float) where
+  bench-seen : (r : Bench.Result (genOf s modeS modeAC)) → seenFlat (seenResult s modeS modeAC r) ≡ benchSeen s modeS modeAC r
+  unfolding seenFlat seenResult benchSeen
+  bench-seen r = λ i. record { answer = bench-answer (r .answer) i; output = r .output; records = r .records }
 
 -- what one function makes of another, place by place
 each : {A B C : Type 0} (f : B → C) (g : A → B) (h : A → C) → ((a : A) → f (g a) ≡ h a) → (l : List A) → map f (map g l) ≡ map h l
@@ -100,10 +77,10 @@ calls-of s modeS modeAC memory o = record {
   results = o .results;
   seen = λ ls.
       ap (map flatSeen) (runs-flat modeS modeAC ls s memory)
-      ∙ each flatSeen leftFlat (λ (l : Left). seenFlat (flatOf s) (seenLeft l)) (same-seen (flatOf s)) (runsLeft s modeS modeAC memory ls)
-      ∙ sym (map-map (seenFlat (flatOf s)) seenLeft (runsLeft s modeS modeAC memory ls))
-      ∙ ap (map (seenFlat (flatOf s))) (o .seen ls)
-      ∙ each (seenFlat (flatOf s)) (seenResult s modeS modeAC) (benchSeen s modeS modeAC) (bench-seen (flatOf s) s modeS modeAC) (o .results (map (callOf s modeS modeAC) ls));
+      ∙ each flatSeen leftFlat (λ (l : Left). seenFlat (seenLeft l)) same-seen (runsLeft s modeS modeAC memory ls)
+      ∙ sym (map-map seenFlat seenLeft (runsLeft s modeS modeAC memory ls))
+      ∙ ap (map seenFlat) (o .seen ls)
+      ∙ each seenFlat (seenResult s modeS modeAC) (benchSeen s modeS modeAC) (bench-seen s modeS modeAC) (o .results (map (callOf s modeS modeAC) ls));
   demand3 = o .demand3;
 }
 

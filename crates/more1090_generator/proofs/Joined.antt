@@ -23,9 +23,10 @@ use Rattle.more1090_generator.specs.declared.FlatDistribution.{FlatDistr
 use Rattle.more1090_generator.specs.declared.FlatRates.{FlatRates}
 use Rattle.more1090_generator.specs.declared.FlatState.{FlatState}
 use Rattle.more1090_generator.specs.declared.FlatOpened.{FlatOpened}
+use Rattle.more1090_generator.specs.declared.FlatAnswer.{FlatAnswer}
 use Rattle.more1090_generator.specs.declared.FlatRan.{FlatRan}
 use Rattle.more1090_generator.specs.declared.Values.{Values}
-use Rattle.more1090_generator.specs.States.{carrierFlat, phaseFlat, clockFlat, carrierFrom, phaseFrom, clockFrom, ratesFlat, ratesFrom, flatOf, stateFrom, noState}
+use Rattle.more1090_generator.specs.States.{zero64, distributionOf, carrierFlat, phaseFlat, clockFlat, carrierFrom, phaseFrom, clockFrom, ratesFlat, ratesFrom, flatOf, stateFrom, noRates, noState}
 use Rattle.more1090_generator.specs.Answers.{valuesFlat, openedFlat, stopNumber, told, answered, ranFlat, FlatLeft, leftFlat, flatRunLeft}
 
 pub state-flat : (s : State) (rates : FlatRates) (carrier phase clock : FlatDistribution) (ended : ℕ) → rates ≡ ratesFlat (s .rates) → carrier ≡ carrierFlat (s .distributions .carrier) → phase ≡ phaseFlat (s .distributions .phase) → clock ≡ clockFlat (s .distributions .clock) → ended ≡ cond (s .ended) 1 0 → record { written = s .written; total = s .total; time = s .time; latest = s .latest; rates = rates; «mode_s_delay» = s .delays .«mode_s»; «mode_ac_delay» = s .delays .«mode_ac»; carrier = carrier; phase = phase; clock = clock; ended = ended } ≡ flatOf s
@@ -35,6 +36,10 @@ state-flat s rates carrier phase clock ended r c p k e = λ i. record { written 
 pub state-read : (f : FlatState) (rates : MessagesPerSecond) (all : Distributions) → rates ≡ ratesFrom (f .rates) → all ≡ record { carrier = carrierFrom (f .carrier); phase = phaseFrom (f .phase); clock = clockFrom (f .clock) } → record { written = f .written; total = f .total; time = f .time; latest = f .latest; ended = not (eqb (f .ended) 0); rates = rates; delays = record { «mode_s» = f .«mode_s_delay»; «mode_ac» = f .«mode_ac_delay» }; distributions = all } ≡ stateFrom f
 unfolding stateFrom
 state-read f rates all r d = λ i. record { written = f .written; total = f .total; time = f .time; latest = f .latest; ended = not (eqb (f .ended) 0); rates = r i; delays = record { «mode_s» = f .«mode_s_delay»; «mode_ac» = f .«mode_ac_delay» }; distributions = d i }
+
+pub no-state : (r : FlatRates) → r ≡ noRates → (d : FlatDistribution) → d ≡ distributionOf 0 zero64 zero64 → record { written = 0; total = 0; time = zero64; latest = zero64; rates = r; «mode_s_delay» = zero64; «mode_ac_delay» = zero64; carrier = d; phase = d; clock = d; ended = 0 } ≡ noState
+unfolding noState
+no-state r a d e = λ i. record { written = 0; total = 0; time = zero64; latest = zero64; rates = a i; «mode_s_delay» = zero64; «mode_ac_delay» = zero64; carrier = e i; phase = e i; clock = e i; ended = 0 }
 
 opened : FlatState → ℕ → ℕ → FlatOpened
 opened f n v = record { state = f; refusal = n; value = v }
@@ -47,23 +52,27 @@ pub opened-refused : (o : Opened.Opened) (q : Refusal) → o ≡ Opened.the-vari
 unfolding opened openedFlat
 opened-refused o q p f a n b v d = (λ i. opened (a i) (b i) (d i .value)) ∙ sym (ap openedFlat p)
 
-module _ (f : FlatState) (counts : Counts) (answer : Answer.Answer) where
-  pub answered-stopped : (w : Stop) → answer ≡ Answer.the-variants.Stopped w → (n : ℕ) → n ≡ stopNumber w → (r : FlatRan) → r ≡ told f counts n 0 0 0 → r ≡ answered f counts answer
+module _ (counts : Counts) (answer : Answer.Answer) where
+  pub answered-stopped : (w : Stop) → answer ≡ Answer.the-variants.Stopped w → (n : ℕ) → n ≡ stopNumber w → (r : FlatAnswer) → r ≡ told counts n 0 0 0 → r ≡ answered counts answer
   unfolding answered
-  answered-stopped w p n a r e = e ∙ ap (λ x. told f counts x 0 0 0) a ∙ sym (ap (answered f counts) p)
+  answered-stopped w p n a r e = e ∙ ap (λ x. told counts x 0 0 0) a ∙ sym (ap (answered counts) p)
 
-  pub answered-refused : (q : Refusal) → answer ≡ Answer.the-variants.Refused q → (n : ℕ) → n ≡ numberOf q → (v : Values) → v ≡ valuesFlat q → (r : FlatRan) → r ≡ told f counts 5 n (v .value) (v .field) → r ≡ answered f counts answer
+  pub answered-refused : (q : Refusal) → answer ≡ Answer.the-variants.Refused q → (n : ℕ) → n ≡ numberOf q → (v : Values) → v ≡ valuesFlat q → (r : FlatAnswer) → r ≡ told counts 5 n (v .value) (v .field) → r ≡ answered counts answer
   unfolding answered
-  answered-refused q p n a v b r e = e ∙ (λ i. told f counts 5 (a i) (b i .value) (b i .field)) ∙ sym (ap (answered f counts) p)
+  answered-refused q p n a v b r e = e ∙ (λ i. told counts 5 (a i) (b i .value) (b i .field)) ∙ sym (ap (answered counts) p)
+
+pub ran-flat : (r : Ran) (f : FlatState) (a : FlatAnswer) → f ≡ flatOf (r .state) → a ≡ answered (r .counts) (r .answer) → record { state = f; answer = a } ≡ ranFlat r
+unfolding ranFlat
+ran-flat r f a p q = λ i. record { state = p i; answer = q i }
 
 module _ (tapsS tapsAC : List Float) (bytes : List ℕ) (lent : Opening.Lent) where
   pub open-flat : (o : Opened.Opened) (after : Opening.Lent) → (o ≡ Opening.openedOf four Opening.half tapsS tapsAC bytes lent) × (after ≡ Opening.leftBy four tapsS tapsAC o lent) → (r : FlatOpened) → r ≡ openedFlat o → (r ≡ openedFlat (Opening.openedOf four Opening.half tapsS tapsAC bytes lent)) × (after ≡ Opening.leftBy four tapsS tapsAC (Opening.openedOf four Opening.half tapsS tapsAC bytes lent) lent)
   open-flat o after e r p = (p ∙ ap openedFlat (e .0), e .1 ∙ ap (λ (x : Opened.Opened). Opening.leftBy four tapsS tapsAC x lent) (e .0))
 
 module _ (f : FlatState) (modeS modeAC memory : List Float) (draws : List ℕ) (noise output : List Float) (records : List ℕ) where
-  left : FlatRan → Left → FlatLeft
-  left r l = record { ran = r; memory = l .memory; output = l .output; records = l .records }
+  left : FlatRan → List Float → List Float → List ℕ → FlatLeft
+  left r memory′ output′ records′ = record { ran = r; memory = memory′; output = output′; records = records′ }
 
-  pub run-flat : (s : State) → s ≡ stateFrom f → (l : Left) → l ≡ runLeft s modeS modeAC memory draws noise output records → (r : FlatRan) → r ≡ ranFlat (l .ran) → record { ran = r; memory = l .memory; output = l .output; records = l .records } ≡ flatRunLeft f modeS modeAC memory draws noise output records
+  pub run-flat : (s : State) → s ≡ stateFrom f → (x : Ran) (memory′ output′ : List Float) (records′ : List ℕ) → record { ran = x; memory = memory′; output = output′; records = records′ } ≡ runLeft s modeS modeAC memory draws noise output records → (r : FlatRan) → r ≡ ranFlat x → record { ran = r; memory = memory′; output = output′; records = records′ } ≡ flatRunLeft f modeS modeAC memory draws noise output records
   unfolding left leftFlat flatRunLeft
-  run-flat s p l q r e = ap (λ (x : FlatRan). left x l) e ∙ ap leftFlat (q ∙ ap (λ (x : State). runLeft x modeS modeAC memory draws noise output records) p)
+  run-flat s p x memory′ output′ records′ q r e = ap (λ (y : FlatRan). left y memory′ output′ records′) e ∙ ap leftFlat (q ∙ ap (λ (y : State). runLeft y modeS modeAC memory draws noise output records) p)

@@ -15,6 +15,7 @@ use Rattle.running.specs.Calls.{runLeft}
 use Rattle.running.specs.Handed.{Lent}
 use Rattle.more1090_generator.specs.declared.FlatState.{FlatState}
 use Rattle.more1090_generator.specs.declared.FlatOpened.{FlatOpened}
+use Rattle.more1090_generator.specs.declared.FlatAnswer.{FlatAnswer}
 use Rattle.more1090_generator.specs.declared.FlatRan.{FlatRan}
 use Rattle.more1090_generator.specs.declared.Values.{Values}
 use Rattle.more1090_generator.specs.States.{flatOf, stateFrom, noState}
@@ -35,17 +36,16 @@ stopNumber Stop.the-variants.WantsNoise = 2
 stopNumber Stop.the-variants.WantsDraws = 3
 stopNumber Stop.the-variants.RecordsFull = 4
 
-unfoldable pub told : FlatState → Counts → ℕ → ℕ → ℕ → ℕ → FlatRan
-told state n stop refusal value field =
-    record { state = state; taken = n .taken; samples = n .samples; noise = n .noise; records = n .records; stop = stop; refusal = refusal; value = value; field = field }
+unfoldable pub told : Counts → ℕ → ℕ → ℕ → ℕ → FlatAnswer
+told n stop refusal value field = record { taken = n .taken; samples = n .samples; noise = n .noise; records = n .records; stop = stop; refusal = refusal; value = value; field = field }
 
 -- refusal 0 is none; stop 5 is none
-unfoldable pub answered : FlatState → Counts → Answer.Answer → FlatRan
-answered state n (Answer.the-variants.Stopped w) = told state n (stopNumber w) 0 0 0
-answered state n (Answer.the-variants.Refused q) = told state n 5 (numberOf q) (valuesFlat q .value) (valuesFlat q .field)
+unfoldable pub answered : Counts → Answer.Answer → FlatAnswer
+answered n (Answer.the-variants.Stopped w) = told n (stopNumber w) 0 0 0
+answered n (Answer.the-variants.Refused q) = told n 5 (numberOf q) (valuesFlat q .value) (valuesFlat q .field)
 
 unfoldable pub ranFlat : Ran → FlatRan
-ranFlat r = answered (flatOf (r .state)) (r .counts) (r .answer)
+ranFlat r = record { state = flatOf (r .state); answer = answered (r .counts) (r .answer) }
 
 -- what a run call answers, and what it leaves in what it was lent
 pub record FlatLeft : Type 0 where

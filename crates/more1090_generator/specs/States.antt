@@ -92,21 +92,24 @@ stateFrom f = record {
 }
 
 -- where opening is refused: all zero
+unfoldable pub noRates : FlatRates
+noRates = record {
+  «extended_squitter» = zero64;
+  «acquisition_squitter» = zero64;
+  «short_ap» = zero64;
+  «all_call_reply» = zero64;
+  «long_ap» = zero64;
+  «military_extended_squitter» = zero64;
+  «mode_ac» = zero64;
+}
+
 unfoldable pub noState : FlatState
 noState = record {
   written = 0;
   total = 0;
   time = zero64;
   latest = zero64;
-  rates = record {
-    «extended_squitter» = zero64;
-    «acquisition_squitter» = zero64;
-    «short_ap» = zero64;
-    «all_call_reply» = zero64;
-    «long_ap» = zero64;
-    «military_extended_squitter» = zero64;
-    «mode_ac» = zero64;
-  };
+  rates = noRates;
   «mode_s_delay» = zero64;
   «mode_ac_delay» = zero64;
   carrier = distributionOf 0 zero64 zero64;

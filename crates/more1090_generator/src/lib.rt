@@ -3,7 +3,7 @@ ghost use mathlib.Core.Path.{_≡_};
 ghost use mathlib.Core.Bool.{cond};
 ghost use Rattle.constants.specs.Rate.{four};
 ghost use Rattle.opening.specs.Opening.{half, openedOf, leftBy};
-ghost use Rattle.more1090_generator.specs.States.{distributionOf, carrierFlat, phaseFlat, clockFlat, carrierFrom, phaseFrom, clockFrom, ratesFlat, ratesFrom, flatOf, stateFrom, noState};
+ghost use Rattle.more1090_generator.specs.States.{distributionOf, carrierFlat, phaseFlat, clockFlat, carrierFrom, phaseFrom, clockFrom, ratesFlat, ratesFrom, flatOf, stateFrom, noRates, noState};
 ghost use Rattle.more1090_generator.specs.Answers.{valuesFlat, openedFlat, stopNumber, answered, ranFlat, flatRunLeft};
 use distributions::CarrierOffset;
 use distributions::CarrierPhase;
@@ -38,6 +38,7 @@ pub struct FlatRates {
     pub mode_ac: f64,
 }
 
+// A run between two calls. Each field has 8 bytes, so that there is no padding.
 #[repr(C)]
 pub struct FlatState {
     pub written: u64,
@@ -53,6 +54,7 @@ pub struct FlatState {
     pub ended: u64,
 }
 
+// What opening answers: refusal 0 is none.
 #[repr(C)]
 pub struct FlatOpened {
     pub state: FlatState,
@@ -60,9 +62,9 @@ pub struct FlatOpened {
     pub value: u64,
 }
 
+// What a run call answers beside its state: refusal 0 is none, stop 5 is none.
 #[repr(C)]
-pub struct FlatRan {
-    pub state: FlatState,
+pub struct FlatAnswer {
     pub taken: u64,
     pub samples: u64,
     pub noise: u64,
@@ -71,6 +73,12 @@ pub struct FlatRan {
     pub refusal: u64,
     pub value: u64,
     pub field: u64,
+}
+
+#[repr(C)]
+pub struct FlatRan {
+    pub state: FlatState,
+    pub answer: FlatAnswer,
 }
 
 fn distribution(kind: u64, first: f64, second: f64) -> FlatDistribution
@@ -244,28 +252,37 @@ fn state_in(f: FlatState) -> State
     }
 }
 
+fn no_rates() -> FlatRates
+    ensures { λ r. ⌜ r ≡ noRates ⌝ }
+{
+    FlatRates {
+        extended_squitter: 0.0,
+        acquisition_squitter: 0.0,
+        short_ap: 0.0,
+        all_call_reply: 0.0,
+        long_ap: 0.0,
+        military_extended_squitter: 0.0,
+        mode_ac: 0.0,
+    }
+}
+
+// What a refused opening tells as its state.
 fn no_state() -> FlatState
     ensures { λ r. ⌜ r ≡ noState ⌝ }
 {
+    let rates = no_rates();
+    let none = distribution(0, 0.0, 0.0);
     FlatState {
         written: 0,
         total: 0,
         time: 0.0,
         latest: 0.0,
-        rates: FlatRates {
-            extended_squitter: 0.0,
-            acquisition_squitter: 0.0,
-            short_ap: 0.0,
-            all_call_reply: 0.0,
-            long_ap: 0.0,
-            military_extended_squitter: 0.0,
-            mode_ac: 0.0,
-        },
+        rates: rates,
         mode_s_delay: 0.0,
         mode_ac_delay: 0.0,
-        carrier: distribution(0, 0.0, 0.0),
-        phase: distribution(0, 0.0, 0.0),
-        clock: distribution(0, 0.0, 0.0),
+        carrier: none,
+        phase: none,
+        clock: none,
         ended: 0,
     }
 }
@@ -333,11 +350,10 @@ fn stop_number(w: Stop) -> u64
     }
 }
 
-fn told(state: FlatState, n: Counts, stop: u64, refusal: u64, value: u64, field: u64) -> FlatRan
-    ensures { λ r. ⌜ r ≡ Rattle.more1090_generator.specs.Answers.told state n stop refusal value field ⌝ }
+fn told(n: Counts, stop: u64, refusal: u64, value: u64, field: u64) -> FlatAnswer
+    ensures { λ r. ⌜ r ≡ Rattle.more1090_generator.specs.Answers.told n stop refusal value field ⌝ }
 {
-    FlatRan {
-        state: state,
+    FlatAnswer {
         taken: n.taken as u64,
         samples: n.samples as u64,
         noise: n.noise as u64,
@@ -349,14 +365,14 @@ fn told(state: FlatState, n: Counts, stop: u64, refusal: u64, value: u64, field:
     }
 }
 
-fn answer_out(state: FlatState, n: Counts, answer: Answer) -> FlatRan
-    ensures { λ r. ⌜ r ≡ answered state n answer ⌝ }
+fn answer_out(n: Counts, answer: Answer) -> FlatAnswer
+    ensures { λ r. ⌜ r ≡ answered n answer ⌝ }
 {
     match answer {
-        Answer::Stopped(w) => told(state, n, stop_number(w), 0, 0, 0),
+        Answer::Stopped(w) => told(n, stop_number(w), 0, 0, 0),
         Answer::Refused(q) => {
             let v = values_of(q);
-            told(state, n, 5, refusals::number(q), v.value, v.field)
+            told(n, 5, refusals::number(q), v.value, v.field)
         }
     }
 }
@@ -367,9 +383,13 @@ fn ran_out(ran: Ran) -> FlatRan
     let s = ran.state;
     let n = ran.counts;
     let answer = ran.answer;
-    answer_out(state_out(s), n, answer)
+    FlatRan {
+        state: state_out(s),
+        answer: answer_out(n, answer),
+    }
 }
 
+// Opens a run; refused, it changes nothing that is lent, and the state is all zero.
 #[no_mangle]
 pub extern "C" fn more1090_open(
     settings: &[u8; 119],
@@ -385,6 +405,7 @@ pub extern "C" fn more1090_open(
     opened_out(o)
 }
 
+// A run call on a state that a call returned, or on any other numbers.
 #[no_mangle]
 pub extern "C" fn more1090_run(
     state: FlatState,

@@ -26,10 +26,10 @@ told-requires-2 : tie.Need-told-requires-2
 told-requires-2 c κs = search needs
 
 returns : tie.Need-returns
-returns c = answered-stopped _ _ _ _ (c .before .before .before .answer .given .1) _ (c .before .stop-number .ensures) _ (c .told .ensures)
+returns c = answered-stopped _ _ _ (c .before .before .before .answer .given .1) _ (c .before .stop-number .ensures) _ (c .told .ensures)
 
 returns-2 : tie.Need-returns-2
-returns-2 c = answered-refused _ _ _ _ (c .before .before .before .before .answer2 .given .1) _ (c .before .number .ensures) _ (c .before .before .values-of .ensures) _ (c .told2 .ensures)
+returns-2 c = answered-refused _ _ _ (c .before .before .before .before .answer2 .given .1) _ (c .before .number .ensures) _ (c .before .before .values-of .ensures) _ (c .told2 .ensures)
 
 pub answer-out-spec : {M : Type 1} → statement M
 answer-out-spec =

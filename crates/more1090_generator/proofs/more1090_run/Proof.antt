@@ -25,7 +25,7 @@ same-length-3 c = search needs
 returns : tie.Need-returns
 returns c =
     let a = c .before .before .before .before .before .before .before .before .before .before .before .before .before .before .before .before .before .before .before .args in
-    run-flat (a .state) (a .mode-s .now) (a .mode-ac .now) (a .memory .now) (a .draws .now) (a .noise .now) (a .output .now) (a .records .now) _ (c .before .before .before .before .before .before .before .before .before .before .before .state-in .ensures) _ (c .before .before .before .before .before .before .before .run .ensures) _ (c .ran-out .ensures)
+    run-flat (a .state) (a .mode-s .now) (a .mode-ac .now) (a .memory .now) (a .draws .now) (a .noise .now) (a .output .now) (a .records .now) _ (c .before .before .before .before .before .before .before .before .before .before .before .state-in .ensures) _ _ _ _ (c .before .before .before .before .before .before .before .run .ensures) _ (c .ran-out .ensures)
 
 pub more1090-run-spec : {M : Type 1} → statement M
 more1090-run-spec =

@@ -1,6 +1,6 @@
 -- `ran_out` meets its contract. Assumes nothing.
 use borrow.Author.Needs.{needs}
-use Rattle.more1090_generator.specs.Answers.{ranFlat}
+use Rattle.more1090_generator.proofs.Joined.{ran-flat}
 use Rattle.more1090_generator.proofs.ran_out.Statement.{statement}
 use Rattle.more1090_generator.proofs.ran_out.Tie as tie
 
@@ -11,8 +11,7 @@ answer-out-requires : tie.Need-answer-out-requires
 answer-out-requires c κs = search needs
 
 returns : tie.Need-returns
-unfolding ranFlat
-returns c = cc
+returns c = ran-flat _ _ _ (c .before .state-out .ensures) (c .answer-out .ensures)
 
 pub ran-out-spec : {M : Type 1} → statement M
 ran-out-spec = tie.close (tie.spec state-out-requires answer-out-requires returns)
