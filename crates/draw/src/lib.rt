@@ -63,7 +63,7 @@ fn picks(s: &[u8]) -> Picks
         capability: byte_at(s, 46),
         overlay: byte_at(s, 47),
         bytes: b,
-        data: le_bytes::u16_at(s, 62),
+        data: le_at::u16_at(s, 62),
         spi: byte_at(s, 64),
     }
 }

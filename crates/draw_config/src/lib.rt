@@ -41,7 +41,7 @@ pub fn start_at(all: Distributions, delays: Delays, time: f64, rest: &[u8]) -> i
 {
     let clock = all.clock;
     let kind = kind_of(type_drawn(draw::byte_at(rest, 8)));
-    let e = distributions::error_of(clock, le_floats::f64_at(rest, 37));
+    let e = drawn_values::error_of(clock, le_floats::f64_at(rest, 37));
     message_config::start(time, message_config::group_delay(delays, kind), e)
 }
 
@@ -53,14 +53,14 @@ pub fn config(all: Distributions, time: f64, d: Draw) -> MessageConfig
     let phase = all.phase;
     let clock = all.clock;
     let p = d.picks;
-    let m = message::make(type_drawn(d.kind), p);
+    let m = message_making::make(type_drawn(d.kind), p);
     let reply = m.reply;
     MessageConfig {
         time: time,
         cn0: d.cn0,
-        offset: distributions::offset_of(carrier, d.carrier),
-        phase: distributions::phase_of(phase, d.phase),
-        error: distributions::error_of(clock, d.clock),
+        offset: drawn_values::offset_of(carrier, d.carrier),
+        phase: drawn_values::phase_of(phase, d.phase),
+        error: drawn_values::error_of(clock, d.clock),
         reply: reply,
     }
 }

@@ -36,7 +36,7 @@ fn within_limit(kind: u8, e: f64) -> bool
     ensures { λ r. ⌜ r ≡ modeACLimit kind e ⌝ }
 {
     if kind == 6 {
-        return float_bits::within(
+        return float_range::within(
             message_config::filter_clock_error(ReplyKind::ModeAc, e),
             0.1,
         );
@@ -48,8 +48,8 @@ fn clock_fits(all: Distributions, kind: u8, draw: f64) -> bool
     ensures { λ r. ⌜ r ≡ clockFits all kind draw ⌝ }
 {
     let clock = all.clock;
-    if distributions::clock_draw_fits(clock, draw) {
-        return within_limit(kind, distributions::error_of(clock, draw));
+    if draw_limits::clock_draw_fits(clock, draw) {
+        return within_limit(kind, drawn_values::error_of(clock, draw));
     }
     false
 }
@@ -70,7 +70,7 @@ fn message_fault(d: Draw) -> Field
 {
     let p = d.picks;
     match message::message_type(d.kind) {
-        TypeFound::Of(t) => message::field_fault(t, p),
+        TypeFound::Of(t) => message_fields::field_fault(t, p),
         TypeFound::Unknown => Field::Fine,
     }
 }
@@ -83,10 +83,10 @@ fn parameter_fault(all: Distributions, d: Draw) -> Field
     let phase = all.phase;
     fault_or(
         4,
-        distributions::offset_draw_fits(carrier, d.carrier),
+        draw_limits::offset_draw_fits(carrier, d.carrier),
         fault_or(
             5,
-            distributions::phase_draw_fits(phase, d.phase),
+            draw_limits::phase_draw_fits(phase, d.phase),
             fault_or(6, clock_fits(all, d.kind, d.clock), message_fault(d)),
         ),
     )
@@ -104,7 +104,7 @@ pub fn field_fault(rates: MessagesPerSecond, all: Distributions, d: Draw) -> Fie
             type_fits(rates, d.kind),
             fault_or(
                 2,
-                float_bits::finite(d.cn0),
+                float_range::finite(d.cn0),
                 fault_or(3, amplitude_fits(d.amplitude), parameter_fault(all, d)),
             ),
         ),

@@ -22,7 +22,7 @@ fn make_found(found: TypeFound, p: Picks) -> Made
     ensures { λ r. ⌜ r ≡ madeFor found p ⌝ }
 {
     match found {
-        TypeFound::Of(t) => message::make(t, p),
+        TypeFound::Of(t) => message_making::make(t, p),
         TypeFound::Unknown => Made {
             fault: Field::Wrong(1),
             reply: Reply {

@@ -37,8 +37,8 @@ pub extern "C" fn port_group_delays(level: f32, prototype: &[f32], out: &mut [f6
     ensures { λ _. ⌜ now (out .exit) ≡ delayNumber (groupDelay four level (now (prototype .entry))) ∷ (delayNumber (modeACGroupDelay four level (now (prototype .entry))) ∷ []) ⌝ }
 {
     let delays = [
-        delay_number(pulse_shape::group_delay(level, prototype)),
-        delay_number(pulse_shape::mode_ac_group_delay(level, prototype)),
+        delay_number(group_delay::group_delay(level, prototype)),
+        delay_number(group_delay::mode_ac_group_delay(level, prototype)),
     ];
     *out = delays;
 }

@@ -73,7 +73,7 @@ fn offset_drawn(answer: OffsetAnswer, draw: f64) -> f64
     ensures { λ r. ⌜ r ≡ offsetDrawn answer draw ⌝ }
 {
     match answer {
-        OffsetAnswer::Accepted(d) => distributions::offset_of(d, draw),
+        OffsetAnswer::Accepted(d) => drawn_values::offset_of(d, draw),
         OffsetAnswer::Refused => 0.0 / 0.0,
     }
 }
@@ -82,7 +82,7 @@ fn phase_drawn(answer: PhaseAnswer, draw: f64) -> f64
     ensures { λ r. ⌜ r ≡ phaseDrawn answer draw ⌝ }
 {
     match answer {
-        PhaseAnswer::Accepted(d) => distributions::phase_of(d, draw),
+        PhaseAnswer::Accepted(d) => drawn_values::phase_of(d, draw),
         PhaseAnswer::Refused => 0.0 / 0.0,
     }
 }
@@ -91,7 +91,7 @@ fn error_drawn(answer: ClockAnswer, draw: f64) -> f64
     ensures { λ r. ⌜ r ≡ errorDrawn answer draw ⌝ }
 {
     match answer {
-        ClockAnswer::Accepted(d) => distributions::error_of(d, draw),
+        ClockAnswer::Accepted(d) => drawn_values::error_of(d, draw),
         ClockAnswer::Refused => 0.0 / 0.0,
     }
 }

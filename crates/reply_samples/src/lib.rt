@@ -119,7 +119,7 @@ fn limit_of(len: usize) -> usize
 fn value_at(prototype: &[f32], laid: &[bool; 252], clock: Clock) -> f32
     ensures { λ r. ⌜ r ≡ lateValue (now (prototype .entry)) (now (laid .entry)) clock ⌝ }
 {
-    filterbank::pulse_sum(
+    pulse_sum::pulse_sum(
         filterbank::filter_taps(prototype, clock.phase),
         laid,
         clock.index,
@@ -141,8 +141,8 @@ fn wave_of(c: MessageConfig, amplitude: f32, delays: Delays, len: usize) -> Wave
     ensures { λ r. ⌜ (r ≡ waveOf c amplitude delays len) × (r .limit ≤ 246) ⌝ }
 {
     Wave {
-        clock: filterbank::start_clock(c.clock_phase(delays)),
-        step: filterbank::clock_step(c.clock_error_for_filterbank()),
+        clock: filter_clock::start_clock(c.clock_phase(delays)),
+        step: filter_clock::clock_step(c.clock_error_for_filterbank()),
         phase: c.first_phase(delays),
         rate: c.carrier_rate(),
         amplitude: amplitude,
@@ -168,7 +168,7 @@ fn add_wave(prototype: &[f32], laid: &[bool; 252], w: Wave, memory: &mut [f32], 
         let z = sample_at(w.amplitude, value_at(prototype, laid, clock), phase);
         add_at(memory, at, z);
         phase = next;
-        clock = filterbank::advance(clock, w.step);
+        clock = filter_clock::advance(clock, w.step);
         at = next_place(at);
         n = n + 1;
     }
@@ -190,7 +190,7 @@ fn add_by(
     let reply = c.reply;
     let p = message_to_pulses(reply);
     let on = p.on;
-    let laid = filterbank::lay_late(on, p.len);
+    let laid = pulse_sum::lay_late(on, p.len);
     let w = wave_of(c, amplitude, delays, p.len);
     add_wave(prototype, &laid, w, memory, place)
 }

@@ -522,7 +522,7 @@ fn check_noise(noise: &[f32]) -> Loud
 {
     let mut k: usize = 0;
     while k < noise.len() {
-        if !float_bits::within_f32(noise[k], 64.0) {
+        if !float_range::within_f32(noise[k], 64.0) {
             return Loud::At(k as u64);
         }
         k = k + 1;
