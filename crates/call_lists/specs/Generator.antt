@@ -4,11 +4,17 @@ use mathlib.Core.Bool.{Bool}
 use mathlib.Core.List.{List}
 use mathlib.Core.Option.{Option}
 use Prim.Native.Nat.{ℕ}
+use lib.IntN.{ℤ, pos, negsuc}
 
 -- Start of a draw, a whole number: negative, or a sample's number.
 pub data Start : Type 0 where
   negative : Start
   from : ℕ → Start
+
+-- of a whole number
+unfoldable pub startFrom : ℤ → Start
+startFrom (pos n) = from n
+startFrom (negsuc n) = negative
 
 -- Two numbers: a sample, or the two noise values of one; the real part is the first.
 pub record Pair (X : Type 0) : Type 0 where

@@ -1,12 +1,12 @@
 -- A generator whose times are f64 and whose samples and noise are f32, with the numbers of the rate; what draws mean is left to whoever has their bytes.
 -- Assumes nothing.
 use mathlib.Core.Bool.{Bool, false}
-use mathlib.Core.List.{List}
-use mathlib.Core.Option.{Option}
+use mathlib.Core.List.{List, []}
+use mathlib.Core.Option.{Option, none}
 use Prim.Native.Nat.{ℕ}
 use lib.Ieee.{Float, binary32, binary64, add, mul, lt, fin}
 use lib.IntN.{pos, negsuc}
-use Rattle.call_lists.specs.Generator.{Generator, Start, Pair}
+use Rattle.call_lists.specs.Generator.{Generator, Start, negative, Pair}
 use Rattle.constants.specs.Rate.{replyLimit, holdBack}
 
 -- 0.0, in both formats
@@ -27,6 +27,10 @@ pub record Draws : Type 1 where
   pub fault : Draw → Option ℕ
   pub loud : Float → Bool
   pub drawAt : List ℕ → Draw
+
+-- no draws, for what does not turn on them
+abbrev pub noDraws : Draws
+noDraws = record { Draw = ℕ; gap = λ d. nought; start = λ t d. negative; adds = λ t d s. []; entry = λ t d s n. []; fault = λ d. none; loud = λ v. false; drawAt = λ bytes. 0 }
 
 -- sps samples per pulse, total samples of the run
 abbrev pub generator : Draws → ℕ → ℕ → Generator

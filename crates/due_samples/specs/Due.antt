@@ -1,23 +1,18 @@
 -- Samples that are due, as numbers, and working memory after them, by the theory of lists of calls. Assumes nothing.
-use mathlib.Core.Bool.{Bool, false, cond, _&&_}
-use mathlib.Core.List.{List, []}
-use mathlib.Core.Option.{none}
+use mathlib.Core.Bool.{Bool, cond, _&&_}
+use mathlib.Core.List.{List}
 use Prim.Native.Nat.{ℕ, _+_, _/_, _%_}
 use lib.Dec.{eqb, leb}
 use lib.ListN.{length, take, drop, replicate}
 use lib.Ieee.{Float, nan}
-use Rattle.call_lists.specs.Generator.{Generator, negative}
+use Rattle.call_lists.specs.Generator.{Generator}
 use Rattle.call_lists.specs.PlainBench.{pairs, flatten}
 use Rattle.call_lists.specs.Buffers.{laid}
-use Rattle.call_lists.specs.Batch.{written, cleared}
-use Rattle.call_lists.specs.Batch.{mixed}
+use Rattle.call_lists.specs.Batch.{written, cleared, mixed}
 use Rattle.constants.specs.Rate.{four, workingMemory}
-use Rattle.draw_times.specs.FloatGenerator.{Draws, nought, generator}
+use Rattle.draw_times.specs.FloatGenerator.{nought, noDraws, generator}
 
--- no draws: samples that are due do not turn on them
-abbrev pub noDraws : Draws
-noDraws = record { Draw = ℕ; gap = λ d. nought; start = λ t d. negative; adds = λ t d s. []; entry = λ t d s n. []; fault = λ d. none; loud = λ v. false; drawAt = λ bytes. 0 }
-
+-- a generator without draws: samples that are due do not turn on them
 abbrev pub gen : Generator
 gen = generator noDraws four 0
 

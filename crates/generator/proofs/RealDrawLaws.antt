@@ -23,12 +23,12 @@ use Rattle.draw.specs.Fault.{drawFault}
 use Rattle.draw.specs.Config.{typeDrawn, kindDrawn, errorDrawn, startAt, configOf}
 use Rattle.draw.proofs.InRange.{InRange, in-range}
 use Rattle.draw.proofs.Message.{start-drawn}
-use Rattle.call_lists.specs.Generator.{from}
+use Rattle.call_lists.specs.Generator.{from, startFrom}
 use Rattle.call_lists.specs.PlainRun.{reply, kind}
 use Rattle.call_lists.proofs.StepFacts.{reply-fits, reply-start}
 use Rattle.draw_times.proofs.Times.{NonNeg, GoodTime}
 use Rattle.draw_times.proofs.FloatLaws.{DrawLaws}
-use Rattle.generator.specs.Real.{startFrom, pairOf, HeldDraw, Filters, draws, real}
+use Rattle.generator.specs.Real.{pairOf, HeldDraw, Filters, draws, real}
 use Rattle.generator.proofs.ReplyBytes.{made-bytes}
 use Rattle.generator.proofs.DrawInRange.{fine-of, gap-of, error-of, message-error}
 use Rattle.generator.proofs.FiltersInRange.{FiltersInRange}

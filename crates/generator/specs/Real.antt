@@ -3,10 +3,9 @@ use Prim.Native.Nat.{ℕ}
 use mathlib.Core.Bool.{Bool, not}
 use mathlib.Core.List.{List, map}
 use mathlib.Core.Option.{Option, none, some}
-use lib.IntN.{ℤ, pos, negsuc}
 use lib.Ieee.{Float, binary32, ofBits}
 use Rattle.constants.specs.Rate.{four}
-use Rattle.call_lists.specs.Generator.{Generator, Start, negative, from, Pair}
+use Rattle.call_lists.specs.Generator.{Generator, startFrom, Pair}
 use Rattle.draw_times.specs.FloatGenerator.{Draws, generator}
 use Rattle.float_bits.specs.Range.{within}
 use Rattle.message.specs.declared.Field.{Field}
@@ -22,11 +21,6 @@ use Rattle.draw.proofs.Bytes.{Held, read-held}
 use Rattle.reply_samples.specs.declared.Sample.{Sample}
 use Rattle.reply_samples.specs.Samples.{replySamples}
 use Rattle.record.specs.Record.{recordBytes}
-
--- a start is negative, or a sample's number
-unfoldable pub startFrom : ℤ → Start
-startFrom (pos n) = from n
-startFrom (negsuc n) = negative
 
 unfoldable pub pairOf : Sample → Pair Float
 pairOf z = record { re = z .re; im = z .im }

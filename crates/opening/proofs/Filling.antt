@@ -1,8 +1,7 @@
 -- Loops that copy a list and that clear one: the first part is as it is to be, one place more each turn. Assumes nothing.
 use Prim.Native.Nat.{ℕ, _+_, _<_, _≤_}
 use mathlib.Core.Path.{_≡_, sym, ap, _∙_}
-use mathlib.Core.List.{List, _∷_, []}
-use mathlib.Core.List.{_++_}
+use mathlib.Core.List.{List, _∷_, [], _++_}
 use native.Mathlib.Numerals.{add-one}
 use native.Mathlib.Omega.{arith}
 use lib.Ieee.{Float}

@@ -1,5 +1,5 @@
 -- A reply added place by place is the theory's `put`, and its record the theory's `entry`. Assumes nothing.
-use mathlib.Core.Path.{_≡_, refl, sym, ap, _∙_, subst}
+use mathlib.Core.Path.{_≡_, refl, ap, _∙_}
 use mathlib.Core.Bool.{Bool, true, cond}
 use mathlib.Core.List.{List, [], _∷_, map, append-assoc}
 use Prim.Native.Nat.{ℕ, _+_, _%_, _≤_, _<_}
@@ -18,6 +18,7 @@ use Rattle.message_config.specs.declared.Delays.{Delays}
 use Rattle.message_config.specs.declared.MessageConfig.{MessageConfig}
 use Rattle.settings.specs.declared.Distributions.{Distributions}
 use Rattle.draw.specs.declared.Draw.{Draw}
+use Rattle.draw.specs.Draw.{drawAt}
 use Rattle.draw.specs.Config.{typeDrawn, configOf}
 use Rattle.record.specs.Record.{recordBytes, recordAt}
 use Rattle.record.proofs.RecordLength.{record-length}
@@ -26,6 +27,7 @@ use Rattle.reply_samples.specs.Samples.{replySamples, replyCount}
 use Rattle.reply_samples.specs.Added.{addedAt, addedFrom, isPlace, addedReply, addedCount}
 use Rattle.reply_samples.proofs.Ring.{next-ring}
 use Rattle.reply_samples.proofs.Counts.{samples-counted}
+use Rattle.recorded_replies.specs.Recorded.{memoryWith, recordsWith}
 use Rattle.generator.specs.Real.{pairOf, Filters, real}
 use Rattle.generator.proofs.ReplyBytes.{made-bytes}
 
@@ -68,23 +70,19 @@ unfolding recordAt LeBytes.laid
 record-is s s′ at line h p =
     p ∙ ap (λ (b : Bool). cond b (LeBytes.laid s at line) s) (le-leb (at + 66) (length s) h) ∙ append-assoc (take at s) line (drop (at + length line) s)
 
--- what `add` leaves, from what its calls give
-module _ (all : Distributions) (delays : Delays) (time : Float) (first place : ℕ) (m : List Float) (d d₀ : Draw) (c : MessageConfig)
-    (l : length m ≡ 2252) (here : place ≡ first % 1126) (read : d ≡ d₀) (config : c ≡ configOf all time d) where
-  in-ring : place < 1126
-  in-ring = subst (λ (n : ℕ). n < 1126) (sym here) (mod-lt first (lit< tt))
+-- what adding and recording a reply leaves, in working memory and where there is room for a record
+module _ (all : Distributions) (delays : Delays) (time : Float) (first : ℕ) (rest : List ℕ) (m : List Float) (l : length m ≡ 2252) where
+  in-ring : first % 1126 < 1126
+  in-ring = mod-lt first (lit< tt)
 
-  config₀ : c ≡ configOf all time d₀
-  config₀ = config ∙ ap (configOf all time) read
+  pub added-by : (modeS modeAC m′ : List Float) → m′ ≡ memoryWith all delays time first rest modeS modeAC m
+      → m′ ≡ addedFrom four m (first % 1126) (replySamples four modeS modeAC delays (drawAt rest .amplitude) (configOf all time (drawAt rest)))
+  unfolding memoryWith
+  added-by modeS modeAC m′ p = memory-is m m′ (first % 1126) _ l in-ring p
 
-  pub added-by : (modeS modeAC m′ : List Float) → m′ ≡ addedReply four m place (replySamples four modeS modeAC delays (d .amplitude) c)
-      → m′ ≡ addedFrom four m (first % 1126) (replySamples four modeS modeAC delays (d₀ .amplitude) (configOf all time d₀))
-  added-by modeS modeAC m′ p =
-      memory-is m m′ place (replySamples four modeS modeAC delays (d .amplitude) c) l in-ring p
-      ∙ (λ i. addedFrom four m (here i) (replySamples four modeS modeAC delays (read i .amplitude) (config₀ i)))
-
-  pub recorded-by : (s s′ : List ℕ) (at n : ℕ) → at + 66 ≤ length s → n ≡ addedCount four m place (replyCount four delays c) → s′ ≡ recordAt s at (recordBytes c first (d .kind) n)
-      → s′ ≡ laid at (recordBytes (configOf all time d₀) first (d₀ .kind) (replyCount four delays (configOf all time d₀))) s
-  recorded-by s s′ at n h e p =
-      record-is s s′ at (recordBytes c first (d .kind) n) h p
-      ∙ (λ i. laid at (recordBytes (config₀ i) first (read i .kind) ((count-is m place (replyCount four delays c) n l in-ring e ∙ ap (replyCount four delays) config₀) i)) s)
+  pub recorded-by : (s s′ : List ℕ) (at : ℕ) → at + 66 ≤ length s → s′ ≡ recordsWith all delays time first rest m at s
+      → s′ ≡ laid at (recordBytes (configOf all time (drawAt rest)) first (drawAt rest .kind) (replyCount four delays (configOf all time (drawAt rest)))) s
+  unfolding recordsWith
+  recorded-by s s′ at h p =
+      record-is s s′ at _ h p
+      ∙ ap (λ (n : ℕ). laid at (recordBytes (configOf all time (drawAt rest)) first (drawAt rest .kind) n) s) (count-is m (first % 1126) (replyCount four delays (configOf all time (drawAt rest))) _ l in-ring refl)

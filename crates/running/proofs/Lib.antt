@@ -1,5 +1,3 @@
-pub mod Signed
-pub mod Tests
 pub mod Adding
 pub mod Writing
 pub mod Said

@@ -12,7 +12,8 @@ use Rattle.call_lists.proofs.Turns.{call-state, call-result}
 use Rattle.running.specs.declared.State.{State}
 use Rattle.running.specs.Turns.{genOf}
 use Rattle.running.specs.Ended.{leftBy, callLeft}
-use Rattle.running.specs.Calls.{wrongMemory, refusedBy, runBy, callRefusal, runLeft}
+use Rattle.run_checks.specs.Checks.{wrongMemory}
+use Rattle.running.specs.Calls.{refusedBy, runBy, callRefusal, runLeft}
 use Rattle.running.specs.Handed.{machineOf, ranGiven, leftGiven}
 
 module _ (s : State) (modeS modeAC memory : List Float) (c : Bench.Call (genOf s modeS modeAC)) where

@@ -1,8 +1,9 @@
 -- What the plan of a turn tells of the buffers, and what doing it leaves of the rest of the call: each arm of `step`. Assumes nothing.
 use mathlib.Core.Path.{_≡_, refl, sym, ap, _∙_, subst}
-use mathlib.Core.Bool.{true}
+use mathlib.Core.Bool.{Bool, true}
 use mathlib.Core.List.{List, map}
 use Prim.Native.Nat.{ℕ, _+_, _-_, _*_, _%_}
+use native.Mathlib.Nat.{add-zero}
 use native.Mathlib.Omega.{arith}
 use lib.Dec.{lit<}
 use lib.ListN.{length, take, drop}
@@ -28,9 +29,9 @@ use Rattle.reply_samples.specs.Added.{addedFrom}
 use Rattle.generator.specs.Real.{pairOf, draws}
 use Rattle.running.specs.declared.State.{State}
 use Rattle.running.specs.declared.Turn.{Turn}
-use Rattle.running.specs.declared.Stop as Stop
-use Rattle.running.specs.declared.Plan as Plan
-use Rattle.running.specs.Plans.{planRead, chosen}
+use Rattle.run_plans.specs.declared.Stop as Stop
+use Rattle.run_plans.specs.declared.Plan as Plan
+use Rattle.run_plans.specs.Plans.{planRead, chosen}
 use Rattle.running.specs.Turns.{filtersOf, genOf, wroteBy, tookBy, haltedBy, Inside, turnRead, restAfter, Went, StepSays}
 use Rattle.running.proofs.Adding.{added-put, counts, line-length}
 
@@ -44,11 +45,11 @@ module _ (s : State) (modeS modeAC noise : List Float) (t : Turn) (memory : List
   abbrev Step : Turn → List Float → List Float → List ℕ → Type 0
   Step r memory′ output′ records′ = StepSays (genOf s modeS modeAC) noise nan (r .next) z (turnRead s modeS modeAC r memory′ (restAfter (r .next) rest) output′ records′)
 
-  chosen-is : chosen s t rest (length output - 2 * t .samples) (length noise - 2 * t .samples) (length records - 66 * t .records) ≡ Theory.planOf G nan noise z
+  chosen-is : chosen (t .ended) (t .written) (s .total) (t .time) (s .distributions) (s .delays) rest (length output - 2 * t .samples) (length noise - 2 * t .samples) (length records - 66 * t .records) ≡ Theory.planOf G nan noise z
   unfolding chosen timeAfter
   chosen-is = refl
 
-  module _ (i : Inside t (length noise) (length output) (length records)) (q : Plan.Plan) (e : planRead q ≡ chosen s t rest (length output - 2 * t .samples) (length noise - 2 * t .samples) (length records - 66 * t .records)) where
+  module _ (i : Inside t (length noise) (length output) (length records)) (q : Plan.Plan) (e : planRead q ≡ chosen (t .ended) (t .written) (s .total) (t .time) (s .distributions) (s .delays) rest (length output - 2 * t .samples) (length noise - 2 * t .samples) (length records - 66 * t .records)) where
     within : Turns.Within G nan noise z
     within = record { output-in = i .output-in; noise-in = i .noise-in; records-in = i .records-in }
 
@@ -126,21 +127,45 @@ module _ (s : State) (modeS modeAC noise : List Float) (t : Turn) (memory : List
     unfolding planRead
     add-says time first h = says (Plan.the-variants.Add time first) h
 
-    pub skipped : (time : Float) → q ≡ Plan.the-variants.Skip time → (r : Turn) → r ≡ tookBy t time (t .ended) (t .records) → Step r memory output records
+    -- a draw that is not recorded
+    abbrev none-more : Float → Bool → Turns.Turn (genOf s modeS modeAC) nan
+    none-more x ended = record {
+      state = record { memory = memory; written = t .written; time = x; over = ended; mark = t .latest };
+      taken = t .taken + 1;
+      samples = t .samples;
+      lines = t .records;
+      rest = drop 65 rest;
+      output = output;
+      records = records;
+    }
+
+    took-none : (x : Float) (ended : Bool) → turnRead s modeS modeAC (tookBy t x ended 0) memory (drop 65 rest) output records ≡ none-more x ended
+    unfolding tookBy
+    took-none x ended = λ j. record {
+      state = record { memory = memory; written = t .written; time = x; over = ended; mark = t .latest };
+      taken = t .taken + 1;
+      samples = t .samples;
+      lines = add-zero (t .records) j;
+      rest = drop 65 rest;
+      output = output;
+      records = records;
+    }
+
+    pub skipped : (time : Float) → q ≡ Plan.the-variants.Skip time → (r : Turn) → r ≡ tookBy t time (t .ended) 0 → Step r memory output records
     unfolding planRead tookBy
     skipped time h r k =
         let f = skip-says time h in
         subst (λ (x : Turn). Step x memory output records) (sym k)
-        (went (Plan.the-variants.Skip time) h (λ w b. let one : _≡_ {A = ℕ} 0 1 = cc in omega arith) refl _ (ap (λ (x : Float). turnRead s modeS modeAC (tookBy t x (t .ended) (t .records)) memory (drop 65 rest) output records) (f .at)), refl, f .bytes)
+        (went (Plan.the-variants.Skip time) h (λ w b. let one : _≡_ {A = ℕ} 0 1 = cc in omega arith) refl _ (took-none time (t .ended) ∙ ap (λ (x : Float). none-more x (t .ended)) (f .at)), refl, f .bytes)
 
-    pub ended-by : (time : Float) → q ≡ Plan.the-variants.End time → (r : Turn) → r ≡ tookBy t time true (t .records) → Step r memory output records
+    pub ended-by : (time : Float) → q ≡ Plan.the-variants.End time → (r : Turn) → r ≡ tookBy t time true 0 → Step r memory output records
     unfolding planRead tookBy
     ended-by time h r k =
         let f = end-says time h in
         subst (λ (x : Turn). Step x memory output records) (sym k)
-        (went (Plan.the-variants.End time) h (λ w b. let one : _≡_ {A = ℕ} 0 1 = cc in omega arith) refl _ (ap (λ (x : Float). turnRead s modeS modeAC (tookBy t x true (t .records)) memory (drop 65 rest) output records) (f .at)), refl, f .bytes)
+        (went (Plan.the-variants.End time) h (λ w b. let one : _≡_ {A = ℕ} 0 1 = cc in omega arith) refl _ (took-none time true ∙ ap (λ (x : Float). none-more x true) (f .at)), refl, f .bytes)
 
-    pub added : (time : Float) (first : ℕ) → q ≡ Plan.the-variants.Add time first → (r : Turn) (memory′ : List Float) (records′ : List ℕ) → r ≡ tookBy t time (t .ended) (t .records + 1)
+    pub added : (time : Float) (first : ℕ) → q ≡ Plan.the-variants.Add time first → (r : Turn) (memory′ : List Float) (records′ : List ℕ) → r ≡ tookBy t time (t .ended) 1
         → memory′ ≡ addedFrom four memory (first % 1126) (replySamples four modeS modeAC (s .delays) (drawAt rest .amplitude) (configOf (s .distributions) time (drawAt rest)))
         → records′ ≡ laid (66 * t .records) (recordBytes (configOf (s .distributions) time (drawAt rest)) first (drawAt rest .kind) (replyCount four (s .delays) (configOf (s .distributions) time (drawAt rest)))) records
         → Step r memory′ output records′
@@ -155,13 +180,13 @@ module _ (s : State) (modeS modeAC noise : List Float) (t : Turn) (memory : List
 
         at-time : Float → Turns.Turn (genOf s modeS modeAC) nan
         at-time x =
-            turnRead s modeS modeAC (tookBy t x (t .ended) (t .records + 1))
+            turnRead s modeS modeAC (tookBy t x (t .ended) 1)
             (put (genOf s modeS modeAC) nan memory first (map pairOf (replySamples four modeS modeAC (s .delays) (drawAt rest .amplitude) (configOf (s .distributions) x (drawAt rest)))))
             (drop 65 rest) output
             (laid (66 * t .records) (line x (length (map pairOf (replySamples four modeS modeAC (s .delays) (drawAt rest .amplitude) (configOf (s .distributions) x (drawAt rest)))))) records)
 
-        filled : turnRead s modeS modeAC (tookBy t time (t .ended) (t .records + 1)) memory′ (drop 65 rest) output records′ ≡ at-time time
-        filled = λ j. turnRead s modeS modeAC (tookBy t time (t .ended) (t .records + 1))
+        filled : turnRead s modeS modeAC (tookBy t time (t .ended) 1) memory′ (drop 65 rest) output records′ ≡ at-time time
+        filled = λ j. turnRead s modeS modeAC (tookBy t time (t .ended) 1)
             ((p ∙ added-put (filtersOf s modeS modeAC) (s .total) (replySamples four modeS modeAC (s .delays) (drawAt rest .amplitude) (configOf (s .distributions) time (drawAt rest))) memory first) j)
             (drop 65 rest) output
             ((o ∙ ap (λ (n : ℕ). laid (66 * t .records) (line time n) records) (sym (counts (filtersOf s modeS modeAC) (s .total) (drawAt rest .amplitude) (configOf (s .distributions) time (drawAt rest))))) j)

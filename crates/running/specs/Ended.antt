@@ -7,7 +7,7 @@ use Rattle.call_lists.specs.Turns as Theory
 use Rattle.running.specs.declared.State.{State}
 use Rattle.running.specs.declared.Turn.{Turn}
 use Rattle.running.specs.declared.Next as Next
-use Rattle.running.specs.declared.Stop as Stop
+use Rattle.run_plans.specs.declared.Stop as Stop
 use Rattle.running.specs.declared.Answer as Answer
 use Rattle.running.specs.declared.Ran.{Ran}
 use Rattle.running.specs.Turns.{genOf}

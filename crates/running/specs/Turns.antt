@@ -7,14 +7,13 @@ use lib.ListN.{length, drop}
 use lib.Ieee.{Float, nan}
 use Rattle.call_lists.specs.Generator.{Generator}
 use Rattle.call_lists.specs.Turns as Theory
-use Rattle.call_lists.specs.Turns.{Within}
-use Rattle.call_lists.specs.Turns.{turnFuel}
+use Rattle.call_lists.specs.Turns.{Within, turnFuel}
 use Rattle.generator.specs.Real.{Filters, real}
 use Rattle.running.specs.declared.State.{State}
 use Rattle.running.specs.declared.Turn.{Turn}
-use Rattle.running.specs.declared.Stop.{Stop}
+use Rattle.run_plans.specs.declared.Stop.{Stop}
 use Rattle.running.specs.declared.Next as Next
-use Rattle.running.specs.Plans.{stopRead}
+use Rattle.run_plans.specs.Plans.{stopRead}
 
 -- what a state and the prototypes fix
 abbrev pub filtersOf : State → List Float → List Float → Filters
@@ -23,14 +22,14 @@ filtersOf s modeS modeAC = record { rates = s .rates; distributions = s .distrib
 abbrev pub genOf : State → List Float → List Float → Generator
 genOf s modeS modeAC = real (filtersOf s modeS modeAC) (s .total)
 
--- the turn after n samples, after a draw, and at a stop
+-- the turn after n samples, after a draw with so many records more, and at a stop
 unfoldable pub wroteBy : Turn → ℕ → Float → Turn
 wroteBy t n latest =
     record { written = t .written + n; time = t .time; latest = latest; ended = t .ended; taken = t .taken; samples = t .samples + n; records = t .records; next = Next.the-variants.Wrote }
 
 unfoldable pub tookBy : Turn → Float → Bool → ℕ → Turn
-tookBy t time ended records =
-    record { written = t .written; time = time; latest = t .latest; ended = ended; taken = t .taken + 1; samples = t .samples; records = records; next = Next.the-variants.Took }
+tookBy t time ended lines =
+    record { written = t .written; time = time; latest = t .latest; ended = ended; taken = t .taken + 1; samples = t .samples; records = t .records + lines; next = Next.the-variants.Took }
 
 unfoldable pub haltedBy : Turn → Stop → Turn
 haltedBy t w =

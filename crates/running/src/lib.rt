@@ -1,31 +1,19 @@
 // Run calls: the checks, and the turns, each a stop, samples that are due, or a draw. Each function is tied to the theory of lists of calls. Assumes nothing.
 ghost use mathlib.Core.Path.{_≡_};
-ghost use mathlib.Core.Bool.{false, cond, _||_};
-ghost use mathlib.Core.List.{[]};
-ghost use mathlib.Core.Option.{some};
-ghost use Prim.Native.Nat.{_+_, _-_, _*_, _%_, _≤_, _<_, _^_, min};
-ghost use lib.IntN.{pos};
+ghost use mathlib.Core.Bool.{cond};
+ghost use Prim.Native.Nat.{_+_, _*_, _≤_, _<_, _^_};
 ghost use lib.ListN.{length, take, drop};
 ghost use lib.Ieee.{lt, nan};
-ghost use Rattle.constants.specs.Rate.{four};
-ghost use Rattle.call_lists.specs.PlainRun.{kindOf};
-ghost use Rattle.call_lists.specs.PlainBench.{drawRefusal, drawsOf};
 ghost use Rattle.call_lists.specs.Buffers.{laid};
-ghost use Rattle.call_lists.specs.Plans.{planEnded, planReply, planDraw, stopFor, someOr, dueMany};
 ghost use Rattle.due_samples.specs.Due.{samplesOf, clearOf};
-ghost use Rattle.draw.specs.Draw.{drawAt};
-ghost use Rattle.draw.specs.Config.{configOf};
-ghost use Rattle.reply_samples.specs.Samples.{replySamples, replyCount};
-ghost use Rattle.reply_samples.specs.Added.{addedFrom};
-ghost use Rattle.record.specs.Record.{recordBytes};
-ghost use Rattle.generator.specs.Real.{startFrom};
-ghost use Rattle.running.specs.Plans.{counted, stopRead, planRead, isNegative, chosen};
 ghost use Rattle.running.specs.Ended.{firstBy, ranBy, callLeft};
-ghost use Rattle.running.specs.Calls.{wrongMemory, wrongBuffers, jumpOf, loudFrom, loudRead, faultRead, refusedBy, runLeft};
+ghost use Rattle.running.specs.Calls.{loudFrom, loudRead, refusedBy, runLeft};
 ghost use Rattle.running.specs.Turns.{Inside, wroteBy, tookBy, haltedBy, turnRead, restAfter, genOf, StepSays};
 use draw::Fault;
 use message_config::Delays;
 use refusals::Refusal;
+use run_plans::Plan;
+pub use run_plans::Stop;
 use settings::Distributions;
 use settings::MessagesPerSecond;
 
@@ -39,147 +27,6 @@ pub struct State {
     pub rates: MessagesPerSecond,
     pub delays: Delays,
     pub distributions: Distributions,
-}
-
-pub enum Stop {
-    Done,
-    OutputFull,
-    WantsNoise,
-    WantsDraws,
-    RecordsFull,
-}
-
-// What comes next: a stop; so many samples after the end draw, or by the start of the next draw, at its time; or a draw at its time, ignored, ending the run, or a reply from its start on.
-pub enum Plan {
-    Halt(Stop),
-    Drain(usize),
-    Due(usize, f64),
-    Skip(f64),
-    End(f64),
-    Add(f64, u64),
-}
-
-fn least(a: usize, b: usize) -> usize
-    ensures { λ r. ⌜ r ≡ min a b ⌝ }
-{
-    if a < b { a } else { b }
-}
-
-// As many of the samples due as there is room.
-fn capped(due: u64, room: usize) -> usize
-    ensures { λ r. ⌜ r ≡ min due room ⌝ }
-{
-    if due < room as u64 {
-        return due as usize;
-    }
-    room
-}
-
-// How many of the samples due can be written; none where a stop comes first.
-fn batch(due: u64, room: usize, noise: usize) -> usize
-    ensures { λ r. ⌜ r ≡ Rattle.call_lists.specs.Plans.batch due room noise ⌝ }
-{
-    capped(due, least(room / 2, noise / 2))
-}
-
-// The stop where none can be written.
-fn stop_for(room: usize) -> Stop
-    ensures { λ r. ⌜ stopRead r ≡ stopFor room ⌝ }
-{
-    if room < 2 {
-        return Stop::OutputFull;
-    }
-    Stop::WantsNoise
-}
-
-// After the end draw: the samples that are left.
-fn drain(written: u64, total: u64, room: usize, noise: usize) -> Plan
-    ensures { λ r. ⌜ planRead r ≡ planEnded (counted total) written room noise ⌝ }
-{
-    if total <= written {
-        return Plan::Halt(Stop::Done);
-    }
-    let n = batch(total - written, room, noise);
-    if n == 0 {
-        let w = stop_for(room);
-        return Plan::Halt(w);
-    }
-    Plan::Drain(n)
-}
-
-// How many samples are due before a start, 32 of them held back.
-fn due_before(first: u64, written: u64) -> u64
-    ensures { λ r. ⌜ r ≡ first - 32 - written ⌝ }
-{
-    if first <= 32 {
-        return 0;
-    }
-    if first - 32 <= written {
-        return 0;
-    }
-    first - 32 - written
-}
-
-// The samples due by the start of a draw at its time.
-fn due(n: u64, time: f64, room: usize, noise: usize) -> Plan
-    ensures { λ r. ⌜ planRead r ≡ someOr (λ k. dueMany k time) (Rattle.call_lists.specs.Plans.batch n room noise) room ⌝ }
-{
-    let k = batch(n, room, noise);
-    if k == 0 {
-        let w = stop_for(room);
-        return Plan::Halt(w);
-    }
-    Plan::Due(k, time)
-}
-
-fn negative(start: i64) -> bool
-    ensures { λ r. ⌜ r ≡ isNegative start ⌝ }
-{
-    start < 0
-}
-
-// The number of the sample at a start that is not negative.
-fn sample_number(start: i64) -> u64
-    requires { ⌜ isNegative start ≡ false ⌝ }
-    ensures { λ r. ⌜ (start ≡ pos r) × (r < 2 ^ 63) ⌝ }
-{
-    start as u64
-}
-
-// A reply that starts at a sample.
-fn reply(written: u64, time: f64, first: u64, room: usize, noise: usize, bytes: usize) -> Plan
-    ensures { λ r. ⌜ planRead r ≡ planReply (counted 0) (first - 32 - written) time first room noise bytes ⌝ }
-{
-    let n = due_before(first, written);
-    if 0 < n {
-        return due(n, time, room, noise);
-    }
-    if bytes < 66 {
-        return Plan::Halt(Stop::RecordsFull);
-    }
-    Plan::Add(time, first)
-}
-
-// What comes of a draw with this time and start.
-fn place(
-    written: u64,
-    total: u64,
-    time: f64,
-    start: i64,
-    room: usize,
-    noise: usize,
-    bytes: usize,
-) -> Plan
-    ensures { λ r. ⌜ planRead r ≡ planDraw (counted total) written time (kindOf (counted total) (startFrom start)) room noise bytes ⌝ }
-{
-    if negative(start) {
-        return Plan::Skip(time);
-    }
-    let first = sample_number(start);
-    if total <= first + 1094 {
-        return Plan::End(time);
-    }
-    reply(written, time, first, room, noise, bytes)
 }
 
 // A call so far: what of the state moves, the counts, and how the call came here.
@@ -221,23 +68,6 @@ pub struct Ran {
     pub answer: Answer,
 }
 
-// What comes next, given how much is left of what is lent.
-fn choose(s: State, t: Turn, rest: &[u8], room: usize, noise: usize, bytes: usize) -> Plan
-    ensures { λ r. ⌜ planRead r ≡ chosen s t (now (rest .entry)) room noise bytes ⌝ }
-{
-    if t.ended {
-        return drain(t.written, s.total, room, noise);
-    }
-    if rest.len() < 65 {
-        return Plan::Halt(Stop::WantsDraws);
-    }
-    let time = draw::time_after(t.time, rest);
-    let all = s.distributions;
-    let delays = s.delays;
-    let start = draw_config::start_at(all, delays, time, rest);
-    place(t.written, s.total, time, start, room, noise, bytes)
-}
-
 // Writes so many samples that are due; with the latest time after them.
 fn write_samples(
     t: Turn,
@@ -273,48 +103,10 @@ fn later(a: f64, b: f64) -> f64
     a
 }
 
-// The place of a sample in working memory.
-fn ring(n: u64) -> usize
-    ensures { λ r. ⌜ r ≡ n % 1126 ⌝ }
-{
-    (n % 1126) as usize
-}
-
-// Adds and records the reply of the draw at the start of the bytes.
-fn add(
-    s: State,
-    time: f64,
-    first: u64,
-    mode_s: &[f32],
-    mode_ac: &[f32],
-    memory: &mut [f32],
-    rest: &[u8],
-    records: &mut [u8],
-    at: usize,
-)
-    requires { ⌜ (length (now memory) ≡ 2252) × (at + 66 ≤ length (now records)) ⌝ }
-    ensures { λ _. ⌜ (now (memory .exit) ≡ addedFrom four (now (memory .entry)) (first % 1126) (replySamples four (now («mode_s» .entry)) (now («mode_ac» .entry)) (s .delays) (drawAt (now (rest .entry)) .amplitude) (configOf (s .distributions) time (drawAt (now (rest .entry)))))) × (now (records .exit) ≡ laid at (recordBytes (configOf (s .distributions) time (drawAt (now (rest .entry)))) first (drawAt (now (rest .entry)) .kind) (replyCount four (s .delays) (configOf (s .distributions) time (drawAt (now (rest .entry)))))) (now (records .entry))) ⌝ }
-{
-    let d = draw::read(rest);
-    let all = s.distributions;
-    let delays = s.delays;
-    let c = draw_config::config(all, time, d);
-    let count = reply_samples::add_reply(
-        mode_s,
-        mode_ac,
-        c,
-        d.amplitude,
-        delays,
-        memory,
-        ring(first),
-    );
-    record::put(records, at, c, first, d.kind, count);
-}
-
-// The turn after a draw was taken at its time, with so many records.
-fn took(t: Turn, time: f64, ended: bool, records: usize) -> Turn
-    requires { ⌜ t .taken + 1 < 2 ^ 64 ⌝ }
-    ensures { λ r. ⌜ r ≡ tookBy t time ended records ⌝ }
+// The turn after a draw was taken at its time, with so many records more.
+fn took(t: Turn, time: f64, ended: bool, lines: usize) -> Turn
+    requires { ⌜ (t .taken + 1 < 2 ^ 64) × (t .records + lines < 2 ^ 64) ⌝ }
+    ensures { λ r. ⌜ r ≡ tookBy t time ended lines ⌝ }
 {
     Turn {
         written: t.written,
@@ -323,7 +115,7 @@ fn took(t: Turn, time: f64, ended: bool, records: usize) -> Turn
         ended: ended,
         taken: t.taken + 1,
         samples: t.samples,
-        records: records,
+        records: t.records + lines,
         next: Next::Took,
     }
 }
@@ -358,9 +150,15 @@ fn step(
     requires { ⌜ (length (now memory) ≡ 2252) × (Inside t (length (now noise)) (length (now output)) (length (now records))) × (65 * t .taken + length (now rest) < 2 ^ 64) × (s .total < 2 ^ 64) ⌝ }
     ensures { λ r. ⌜ StepSays (genOf s (now («mode_s» .entry)) (now («mode_ac» .entry))) (now (noise .entry)) nan (r .next) (turnRead s (now («mode_s» .entry)) (now («mode_ac» .entry)) t (now (memory .entry)) (now (rest .entry)) (now (output .entry)) (now (records .entry))) (turnRead s (now («mode_s» .entry)) (now («mode_ac» .entry)) r (now (memory .exit)) (restAfter (r .next) (now (rest .entry))) (now (output .exit)) (now (records .exit))) ⌝ }
 {
-    let p = choose(
-        s,
-        t,
+    let all = s.distributions;
+    let delays = s.delays;
+    let p = run_plans::choose(
+        t.ended,
+        t.written,
+        s.total,
+        t.time,
+        all,
+        delays,
         rest,
         output.len() - 2 * t.samples,
         noise.len() - 2 * t.samples,
@@ -370,12 +168,13 @@ fn step(
         Plan::Halt(w) => halted(t, w),
         Plan::Drain(n) => write_samples(t, n, t.latest, memory, noise, output),
         Plan::Due(n, time) => { write_samples(t, n, later(t.latest, time), memory, noise, output) }
-        Plan::Skip(time) => took(t, time, t.ended, t.records),
-        Plan::End(time) => took(t, time, true, t.records),
+        Plan::Skip(time) => took(t, time, t.ended, 0),
+        Plan::End(time) => took(t, time, true, 0),
         Plan::Add(time, first) => {
             let lines = t.records;
-            add(
-                s,
+            recorded_replies::add(
+                all,
+                delays,
                 time,
                 first,
                 mode_s,
@@ -385,7 +184,7 @@ fn step(
                 records,
                 66 * lines,
             );
-            took(t, time, t.ended, lines + 1)
+            took(t, time, t.ended, 1)
         }
     }
 }
@@ -472,50 +271,6 @@ pub enum Loud {
     At(u64),
 }
 
-// Refusal 9.
-fn lent_wrong(memory: usize, mode_s: usize, mode_ac: usize, output: usize, draws: usize) -> bool
-    ensures { λ r. ⌜ r ≡ (wrongMemory memory «mode_s» «mode_ac» || wrongBuffers output draws) ⌝ }
-{
-    if memory != 2252 {
-        return true;
-    }
-    if mode_s != 1792 {
-        return true;
-    }
-    if mode_ac != 1792 {
-        return true;
-    }
-    if output == 0 {
-        return true;
-    }
-    if output % 2 != 0 {
-        return true;
-    }
-    draws % 65 != 0
-}
-
-// A first lent draw jumps back.
-fn jumps_back(time: f64, latest: f64, draws: &[u8]) -> bool
-    ensures { λ r. ⌜ r ≡ jumpOf time latest (now (draws .entry)) ⌝ }
-{
-    if draws.len() < 65 {
-        return false;
-    }
-    draw::time_after(time, draws) < latest
-}
-
-// Refusal 7: a first draw that jumps back, or the first draw and field at fault.
-fn check_draws(s: State, draws: &[u8]) -> Fault
-    ensures { λ r. ⌜ faultRead r ≡ drawRefusal (genOf s [] []) (s .time) (some (s .latest)) (drawsOf (genOf s [] []) (now (draws .entry))) ⌝ }
-{
-    if jumps_back(s.time, s.latest, draws) {
-        return Fault::At(0, 0);
-    }
-    let rates = s.rates;
-    let all = s.distributions;
-    draw_faults::first_fault(draws, rates, all)
-}
-
 // Refusal 8.
 fn check_noise(noise: &[f32]) -> Loud
     ensures { λ r. ⌜ loudRead r ≡ loudFrom 0 (now (noise .entry)) ⌝ }
@@ -558,7 +313,7 @@ pub fn run(
 ) -> Ran
     ensures { λ r. ⌜ record { ran = r; memory = now (memory .exit); output = now (output .exit); records = now (records .exit) } ≡ runLeft s (now («mode_s» .entry)) (now («mode_ac» .entry)) (now (memory .entry)) (now (draws .entry)) (now (noise .entry)) (now (output .entry)) (now (records .entry)) ⌝ }
 {
-    if lent_wrong(
+    if run_checks::lengths_wrong(
         memory.len(),
         mode_s.len(),
         mode_ac.len(),
@@ -567,7 +322,9 @@ pub fn run(
     ) {
         return refused(s, Refusal::Lent);
     }
-    let fault = check_draws(s, draws);
+    let rates = s.rates;
+    let all = s.distributions;
+    let fault = run_checks::check_draws(s.time, s.latest, rates, all, draws);
     if let Fault::At(k, n) = fault {
         return refused(s, Refusal::Draw(k, n));
     }

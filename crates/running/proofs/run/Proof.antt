@@ -1,13 +1,14 @@
--- `run` meets its contract: the checks in order, each the theory's, then `steps`. Assumes nothing.
+-- `run` meets its contract: the checks in order, each the plain bench's, then `steps`. Assumes nothing.
 use mathlib.Core.Path.{sym, _∙_}
 use lib.ListN.{length}
-use Rattle.running.proofs.Refusing.{lent-refused, draw-refused, noise-refused, not-refused, right-memory}
+use Rattle.run_checks.proofs.Lengths.{right-memory}
+use Rattle.running.proofs.Refusing.{lent-refused, draw-refused, noise-refused, not-refused}
 use borrow.Author.Needs.{needs}
 use Rattle.running.proofs.run.Statement.{statement}
 use Rattle.running.proofs.run.Tie as tie
 
-lent-wrong-requires : tie.Need-lent-wrong-requires
-lent-wrong-requires c κs = search needs
+lengths-wrong-requires : tie.Need-lengths-wrong-requires
+lengths-wrong-requires c κs = search needs
 
 refused-requires : tie.Need-refused-requires
 refused-requires c κs = search needs
@@ -15,7 +16,7 @@ refused-requires c κs = search needs
 returns : tie.Need-returns
 returns c =
     let a = c .before .before .before .before .before .before .before .before .before .before .args in
-    lent-refused (a .s) (a .mode-s .now) (a .mode-ac .now) (a .memory .now) (a .draws .now) (a .noise .now) (a .output .now) (a .records .now) (sym (c .before .before .lent-wrong .ensures) ∙ c .before .if1 .taken) _ (c .refused .ensures)
+    lent-refused (a .s) (a .mode-s .now) (a .mode-ac .now) (a .memory .now) (a .draws .now) (a .noise .now) (a .output .now) (a .records .now) (sym (c .before .before .lengths-wrong .ensures) ∙ c .before .if1 .taken) _ (c .refused .ensures)
 
 check-draws-requires : tie.Need-check-draws-requires
 check-draws-requires c κs = search needs
@@ -28,8 +29,8 @@ refused-requires-2 c κs = search needs
 
 returns-2 : tie.Need-returns-2
 returns-2 c =
-    let a = c .before .before .before .before .before .before .before .before .before .before .before .before .before .before .args in
-    draw-refused (a .s) (a .mode-s .now) (a .mode-ac .now) (a .memory .now) (a .draws .now) (a .noise .now) (a .output .now) (a .records .now) (sym (c .before .before .before .before .before .before .lent-wrong .ensures) ∙ c .before .before .before .before .before .if1 .left) _ (c .before .before .before .before .check-draws .ensures) _ _ (c .before .before .fault .given .1) _ (c .refused2 .ensures)
+    let a = c .before .before .before .before .before .before .before .before .before .before .before .before .before .before .before .before .args in
+    draw-refused (a .s) (a .mode-s .now) (a .mode-ac .now) (a .memory .now) (a .draws .now) (a .noise .now) (a .output .now) (a .records .now) (sym (c .before .before .before .before .before .before .before .before .lengths-wrong .ensures) ∙ c .before .before .before .before .before .before .before .if1 .left) _ (c .before .before .before .before .check-draws .ensures) _ _ (c .before .before .fault .given .1) _ (c .refused2 .ensures)
 
 enum-told : tie.Need-enum-told
 enum-told c = search needs
@@ -45,16 +46,16 @@ refused-requires-3 c κs = search needs
 
 returns-3 : tie.Need-returns-3
 returns-3 c =
-    let a = c .before .before .before .before .before .before .before .before .before .before .before .before .before .before .before .before .before .args in
-    noise-refused (a .s) (a .mode-s .now) (a .mode-ac .now) (a .memory .now) (a .draws .now) (a .noise .now) (a .output .now) (a .records .now) (sym (c .before .before .before .before .before .before .before .before .before .lent-wrong .ensures) ∙ c .before .before .before .before .before .before .before .before .if1 .left) _ (c .before .before .before .before .before .before .before .check-draws .ensures) (c .before .before .before .before .before .enum-told .given .1) _ (c .before .before .before .before .check-noise .ensures) _ (c .before .before .loud .given .1) _ (c .refused3 .ensures)
+    let a = c .before .before .before .before .before .before .before .before .before .before .before .before .before .before .before .before .before .before .before .args in
+    noise-refused (a .s) (a .mode-s .now) (a .mode-ac .now) (a .memory .now) (a .draws .now) (a .noise .now) (a .output .now) (a .records .now) (sym (c .before .before .before .before .before .before .before .before .before .before .before .lengths-wrong .ensures) ∙ c .before .before .before .before .before .before .before .before .before .before .if1 .left) _ (c .before .before .before .before .before .before .before .check-draws .ensures) (c .before .before .before .before .before .enum-told .given .1) _ (c .before .before .before .before .check-noise .ensures) _ (c .before .before .loud .given .1) _ (c .refused3 .ensures)
 
 enum-told-2 : tie.Need-enum-told-2
 enum-told-2 c = search needs
 
 steps-requires : tie.Need-steps-requires
 steps-requires c κs =
-    let a = c .before .before .before .before .before .before .before .before .before .before .before .before .before .before .before .before .before .before .args in
-    right-memory (length (a .memory .now)) (length (a .mode-s .now)) (length (a .mode-ac .now)) (length (a .output .now)) (length (a .draws .now)) (sym (c .before .before .before .before .before .before .before .before .before .before .lent-wrong .ensures) ∙ c .before .before .before .before .before .before .before .before .before .if1 .left)
+    let a = c .before .before .before .before .before .before .before .before .before .before .before .before .before .before .before .before .before .before .before .before .args in
+    right-memory (length (a .memory .now)) (length (a .mode-s .now)) (length (a .mode-ac .now)) (length (a .output .now)) (length (a .draws .now)) (sym (c .before .before .before .before .before .before .before .before .before .before .before .before .lengths-wrong .ensures) ∙ c .before .before .before .before .before .before .before .before .before .before .before .if1 .left)
 
 same-length : tie.Need-same-length
 same-length c = search needs
@@ -67,14 +68,14 @@ same-length-3 c = search needs
 
 returns-4 : tie.Need-returns-4
 returns-4 c =
-    let a = c .before .before .before .before .before .before .before .before .before .before .before .before .before .before .before .before .before .before .before .before .before .before .before .before .before .args in
-    not-refused (a .s) (a .mode-s .now) (a .mode-ac .now) (a .memory .now) (a .draws .now) (a .noise .now) (a .output .now) (a .records .now) (sym (c .before .before .before .before .before .before .before .before .before .before .before .before .before .before .before .before .before .lent-wrong .ensures) ∙ c .before .before .before .before .before .before .before .before .before .before .before .before .before .before .before .before .if1 .left) _ (c .before .before .before .before .before .before .before .before .before .before .before .before .before .before .before .check-draws .ensures) (c .before .before .before .before .before .before .before .before .before .before .before .before .before .enum-told .given .1) _ (c .before .before .before .before .before .before .before .before .before .before .before .before .check-noise .ensures) (c .before .before .before .before .before .before .before .before .before .before .enum-told2 .given .1) _ (c .before .before .before .before .before .before .steps .ensures)
+    let a = c .before .before .before .before .before .before .before .before .before .before .before .before .before .before .before .before .before .before .before .before .before .before .before .before .before .before .before .args in
+    not-refused (a .s) (a .mode-s .now) (a .mode-ac .now) (a .memory .now) (a .draws .now) (a .noise .now) (a .output .now) (a .records .now) (sym (c .before .before .before .before .before .before .before .before .before .before .before .before .before .before .before .before .before .before .before .lengths-wrong .ensures) ∙ c .before .before .before .before .before .before .before .before .before .before .before .before .before .before .before .before .before .before .if1 .left) _ (c .before .before .before .before .before .before .before .before .before .before .before .before .before .before .before .check-draws .ensures) (c .before .before .before .before .before .before .before .before .before .before .before .before .before .enum-told .given .1) _ (c .before .before .before .before .before .before .before .before .before .before .before .before .check-noise .ensures) (c .before .before .before .before .before .before .before .before .before .before .enum-told2 .given .1) _ (c .before .before .before .before .before .before .steps .ensures)
 
 pub run-spec : {M : Type 1} → statement M
 run-spec =
     tie.close
     (tie.spec
-    lent-wrong-requires
+    lengths-wrong-requires
     refused-requires
     returns
     check-draws-requires

@@ -1,4 +1,5 @@
 -- `step` meets its contract: each arm by what its plan tells. Assumes nothing.
+use Rattle.running.proofs.Adding.{added-by, recorded-by}
 use Rattle.running.proofs.Said.{halt-says, drain-says, due-says, add-says, drained, dued, skipped, ended-by, added}
 use borrow.Author.Needs.{needs}
 use native.Mathlib.Omega.{arith}
@@ -18,7 +19,7 @@ sub-choose-2 : tie.Need-sub-choose-2
 sub-choose-2 c = search needs
 
 mul-choose-3 : tie.Need-mul-choose-3
-mul-choose-3 c = omega (arith, c .before .before .before .before .before .before .before .before .before .before)
+mul-choose-3 c = omega (arith, c .before .before .before .before .before .before .before .before .before .before .before .before)
 
 sub-choose-3 : tie.Need-sub-choose-3
 sub-choose-3 c = search needs
@@ -37,9 +38,9 @@ enum-known-p-2 c = search needs
 
 write-samples-requires : tie.Need-write-samples-requires
 write-samples-requires c κs =
-    let a = c .before .before .before .before .before .before .before .before .before .before .before .before .before .before .before .before .args in
-    let f = drain-says (a .s) (a .mode-s .now) (a .mode-ac .now) (a .noise .now) (a .t) (a .memory .now) (a .rest .now) (a .output .now) (a .records .now) (c .before .before .before .before .before .before .before .before .before .before .before .before .before .before .before .before .pre .1) _ (c .before .before .before .before .before .choose .ensures) _ (c .before .before .before .p2 .given .1) in
-    (c .before .before .before .before .before .before .before .before .before .before .before .before .before .before .before .before .pre .0, f .noise-fits, f .output-fits, omega (arith, f .below, c .before .before .before .before .before .before .before .before .before .before .before .before .before .before .before .before .pre .3))
+    let a = c .before .before .before .before .before .before .before .before .before .before .before .before .before .before .before .before .before .before .args in
+    let f = drain-says (a .s) (a .mode-s .now) (a .mode-ac .now) (a .noise .now) (a .t) (a .memory .now) (a .rest .now) (a .output .now) (a .records .now) (c .before .before .before .before .before .before .before .before .before .before .before .before .before .before .before .before .before .before .pre .1) _ (c .before .before .before .before .before .choose .ensures) _ (c .before .before .before .p2 .given .1) in
+    (c .before .before .before .before .before .before .before .before .before .before .before .before .before .before .before .before .before .before .pre .0, f .noise-fits, f .output-fits, omega (arith, f .below, c .before .before .before .before .before .before .before .before .before .before .before .before .before .before .before .before .before .before .pre .3))
 
 enum-known-p-3 : tie.Need-enum-known-p-3
 enum-known-p-3 c = search needs
@@ -49,9 +50,9 @@ later-requires c κs = search needs
 
 write-samples-requires-2 : tie.Need-write-samples-requires-2
 write-samples-requires-2 c κs =
-    let a = c .before .before .before .before .before .before .before .before .before .before .before .before .before .before .before .before .before .args in
-    let f = due-says (a .s) (a .mode-s .now) (a .mode-ac .now) (a .noise .now) (a .t) (a .memory .now) (a .rest .now) (a .output .now) (a .records .now) (c .before .before .before .before .before .before .before .before .before .before .before .before .before .before .before .before .before .pre .1) _ (c .before .before .before .before .before .before .choose .ensures) _ _ (c .before .before .before .before .p3 .given .1) in
-    (c .before .before .before .before .before .before .before .before .before .before .before .before .before .before .before .before .before .pre .0, f .noise-fits, f .output-fits, omega (arith, f .below, c .before .before .before .before .before .before .before .before .before .before .before .before .before .before .before .before .before .pre .3))
+    let a = c .before .before .before .before .before .before .before .before .before .before .before .before .before .before .before .before .before .before .before .args in
+    let f = due-says (a .s) (a .mode-s .now) (a .mode-ac .now) (a .noise .now) (a .t) (a .memory .now) (a .rest .now) (a .output .now) (a .records .now) (c .before .before .before .before .before .before .before .before .before .before .before .before .before .before .before .before .before .before .before .pre .1) _ (c .before .before .before .before .before .before .choose .ensures) _ _ (c .before .before .before .before .p3 .given .1) in
+    (c .before .before .before .before .before .before .before .before .before .before .before .before .before .before .before .before .before .before .before .pre .0, f .noise-fits, f .output-fits, omega (arith, f .below, c .before .before .before .before .before .before .before .before .before .before .before .before .before .before .before .before .before .before .before .pre .3))
 
 enum-known-p-4 : tie.Need-enum-known-p-4
 enum-known-p-4 c = search needs
@@ -63,33 +64,27 @@ enum-known-p-5 : tie.Need-enum-known-p-5
 enum-known-p-5 c = search needs
 
 took-requires-2 : tie.Need-took-requires-2
-took-requires-2 c κs = search needs
+took-requires-2 c κs = (omega (arith, c .before .before .before .before .before .before .before .before .before .before .before .before .before .before .before .before .pre .2), omega (arith, c .before .before .before .before .before .before .before .before .before .before .before .before .before .before .before .before .pre .1 .records-in, c .before .before .before .before .before .before .before .before .before .before .before .before .before .before .before .before))
 
 enum-known-p-6 : tie.Need-enum-known-p-6
 enum-known-p-6 c = search needs
 
 mul-add : tie.Need-mul-add
-mul-add c = omega (arith, c .before .before .before .before .before .before .before .before .before .before .before .before .before .before .before .before)
+mul-add c = omega (arith, c .before .before .before .before .before .before .before .before .before .before .before .before .before .before .before .before .before .before)
 
 add-requires : tie.Need-add-requires
-add-requires c κs =
-    let a = c .before .before .before .before .before .before .before .before .before .before .before .before .before .before .before .before .args in
-    let f = add-says (a .s) (a .mode-s .now) (a .mode-ac .now) (a .noise .now) (a .t) (a .memory .now) (a .rest .now) (a .output .now) (a .records .now) (c .before .before .before .before .before .before .before .before .before .before .before .before .before .before .before .before .pre .1) _ (c .before .before .before .before .before .choose .ensures) _ _ (c .before .before .before .p6 .given .1) in
-    (c .before .before .before .before .before .before .before .before .before .before .before .before .before .before .before .before .pre .0, omega (arith, f .fits))
-
-add-took : tie.Need-add-took
-add-took c =
-    let a = c .before .before .before .before .before .before .before .before .before .before .before .before .before .before .before .before .before .before .before .before .before .args in
-    let f = add-says (a .s) (a .mode-s .now) (a .mode-ac .now) (a .noise .now) (a .t) (a .memory .now) (a .rest .now) (a .output .now) (a .records .now) (c .before .before .before .before .before .before .before .before .before .before .before .before .before .before .before .before .before .before .before .before .before .pre .1) _ (c .before .before .before .before .before .before .before .before .before .before .choose .ensures) _ _ (c .before .before .before .before .before .before .before .before .p6 .given .1) in
-    omega (arith, f .fits, c .before .before .before .before .before .before .before .before .before .before .before .before .before .before .before .before .before .before .before .before .before)
+add-requires c κs = search needs
 
 took-requires-3 : tie.Need-took-requires-3
-took-requires-3 c κs = search needs
+took-requires-3 c κs =
+    let a = c .before .before .before .before .before .before .before .before .before .before .before .before .before .before .before .before .before .before .before .before .before .before .before .args in
+    let f = add-says (a .s) (a .mode-s .now) (a .mode-ac .now) (a .noise .now) (a .t) (a .memory .now) (a .rest .now) (a .output .now) (a .records .now) (c .before .before .before .before .before .before .before .before .before .before .before .before .before .before .before .before .before .before .before .before .before .before .before .pre .1) _ (c .before .before .before .before .before .before .before .before .before .before .choose .ensures) _ _ (c .before .before .before .before .before .before .before .before .p6 .given .1) in
+    (omega (arith, c .before .before .before .before .before .before .before .before .before .before .before .before .before .before .before .before .before .before .before .before .before .before .before .pre .2), omega (arith, f .fits, c .before .before .before .before .before .before .before .before .before .before .before .before .before .before .before .before .before .before .before .before .before .before .before))
 
 returns : tie.Need-returns
 returns c =
-    let a = c .before .before .before .before .before .before .before .before .before .before .before .before .before .before .before .args in
-    halt-says (a .s) (a .mode-s .now) (a .mode-ac .now) (a .noise .now) (a .t) (a .memory .now) (a .rest .now) (a .output .now) (a .records .now) (c .before .before .before .before .before .before .before .before .before .before .before .before .before .before .before .pre .1) _ (c .before .before .before .before .choose .ensures) _ (c .before .before .p .given .1) _ (c .halted .ensures)
+    let a = c .before .before .before .before .before .before .before .before .before .before .before .before .before .before .before .before .before .args in
+    halt-says (a .s) (a .mode-s .now) (a .mode-ac .now) (a .noise .now) (a .t) (a .memory .now) (a .rest .now) (a .output .now) (a .records .now) (c .before .before .before .before .before .before .before .before .before .before .before .before .before .before .before .before .before .pre .1) _ (c .before .before .before .before .choose .ensures) _ (c .before .before .p .given .1) _ (c .halted .ensures)
 
 same-length : tie.Need-same-length
 same-length c = search needs
@@ -99,9 +94,9 @@ same-length-2 c = search needs
 
 returns-2 : tie.Need-returns-2
 returns-2 c =
-    let a = c .before .before .before .before .before .before .before .before .before .before .before .before .before .before .before .before .before .before .before .before .before .args in
+    let a = c .before .before .before .before .before .before .before .before .before .before .before .before .before .before .before .before .before .before .before .before .before .before .before .args in
     let w = c .before .before .before .before .write-samples .ensures in
-    drained (a .s) (a .mode-s .now) (a .mode-ac .now) (a .noise .now) (a .t) (a .memory .now) (a .rest .now) (a .output .now) (a .records .now) (c .before .before .before .before .before .before .before .before .before .before .before .before .before .before .before .before .before .before .before .before .before .pre .1) _ (c .before .before .before .before .before .before .before .before .before .before .choose .ensures) _ (c .before .before .before .before .before .before .before .before .p2 .given .1) _ _ _ (w .0) (w .1) (w .2)
+    drained (a .s) (a .mode-s .now) (a .mode-ac .now) (a .noise .now) (a .t) (a .memory .now) (a .rest .now) (a .output .now) (a .records .now) (c .before .before .before .before .before .before .before .before .before .before .before .before .before .before .before .before .before .before .before .before .before .before .before .pre .1) _ (c .before .before .before .before .before .before .before .before .before .before .choose .ensures) _ (c .before .before .before .before .before .before .before .before .p2 .given .1) _ _ _ (w .0) (w .1) (w .2)
 
 same-length-3 : tie.Need-same-length-3
 same-length-3 c = search needs
@@ -111,19 +106,19 @@ same-length-4 c = search needs
 
 returns-3 : tie.Need-returns-3
 returns-3 c =
-    let a = c .before .before .before .before .before .before .before .before .before .before .before .before .before .before .before .before .before .before .before .before .before .before .args in
+    let a = c .before .before .before .before .before .before .before .before .before .before .before .before .before .before .before .before .before .before .before .before .before .before .before .before .args in
     let w = c .before .before .before .before .write-samples2 .ensures in
-    dued (a .s) (a .mode-s .now) (a .mode-ac .now) (a .noise .now) (a .t) (a .memory .now) (a .rest .now) (a .output .now) (a .records .now) (c .before .before .before .before .before .before .before .before .before .before .before .before .before .before .before .before .before .before .before .before .before .before .pre .1) _ (c .before .before .before .before .before .before .before .before .before .before .before .choose .ensures) _ _ _ (c .before .before .before .before .before .before .before .before .before .p3 .given .1) _ _ _ (w .0) (c .before .before .before .before .before .before .before .later .ensures) (w .1) (w .2)
+    dued (a .s) (a .mode-s .now) (a .mode-ac .now) (a .noise .now) (a .t) (a .memory .now) (a .rest .now) (a .output .now) (a .records .now) (c .before .before .before .before .before .before .before .before .before .before .before .before .before .before .before .before .before .before .before .before .before .before .before .before .pre .1) _ (c .before .before .before .before .before .before .before .before .before .before .before .choose .ensures) _ _ _ (c .before .before .before .before .before .before .before .before .before .p3 .given .1) _ _ _ (w .0) (c .before .before .before .before .before .before .before .later .ensures) (w .1) (w .2)
 
 returns-4 : tie.Need-returns-4
 returns-4 c =
-    let a = c .before .before .before .before .before .before .before .before .before .before .before .before .before .before .before .args in
-    skipped (a .s) (a .mode-s .now) (a .mode-ac .now) (a .noise .now) (a .t) (a .memory .now) (a .rest .now) (a .output .now) (a .records .now) (c .before .before .before .before .before .before .before .before .before .before .before .before .before .before .before .pre .1) _ (c .before .before .before .before .choose .ensures) _ (c .before .before .p4 .given .1) _ (c .took .ensures)
+    let a = c .before .before .before .before .before .before .before .before .before .before .before .before .before .before .before .before .before .args in
+    skipped (a .s) (a .mode-s .now) (a .mode-ac .now) (a .noise .now) (a .t) (a .memory .now) (a .rest .now) (a .output .now) (a .records .now) (c .before .before .before .before .before .before .before .before .before .before .before .before .before .before .before .before .before .pre .1) _ (c .before .before .before .before .choose .ensures) _ (c .before .before .p4 .given .1) _ (c .took .ensures)
 
 returns-5 : tie.Need-returns-5
 returns-5 c =
-    let a = c .before .before .before .before .before .before .before .before .before .before .before .before .before .before .before .args in
-    ended-by (a .s) (a .mode-s .now) (a .mode-ac .now) (a .noise .now) (a .t) (a .memory .now) (a .rest .now) (a .output .now) (a .records .now) (c .before .before .before .before .before .before .before .before .before .before .before .before .before .before .before .pre .1) _ (c .before .before .before .before .choose .ensures) _ (c .before .before .p5 .given .1) _ (c .took2 .ensures)
+    let a = c .before .before .before .before .before .before .before .before .before .before .before .before .before .before .before .before .before .args in
+    ended-by (a .s) (a .mode-s .now) (a .mode-ac .now) (a .noise .now) (a .t) (a .memory .now) (a .rest .now) (a .output .now) (a .records .now) (c .before .before .before .before .before .before .before .before .before .before .before .before .before .before .before .before .before .pre .1) _ (c .before .before .before .before .choose .ensures) _ (c .before .before .p5 .given .1) _ (c .took2 .ensures)
 
 same-length-5 : tie.Need-same-length-5
 same-length-5 c = search needs
@@ -133,8 +128,11 @@ same-length-6 c = search needs
 
 returns-6 : tie.Need-returns-6
 returns-6 c =
-    let a = c .before .before .before .before .before .before .before .before .before .before .before .before .before .before .before .before .before .before .before .before .before .before .args in
-    added (a .s) (a .mode-s .now) (a .mode-ac .now) (a .noise .now) (a .t) (a .memory .now) (a .rest .now) (a .output .now) (a .records .now) (c .before .before .before .before .before .before .before .before .before .before .before .before .before .before .before .before .before .before .before .before .before .before .pre .1) _ (c .before .before .before .before .before .before .before .before .before .before .before .choose .ensures) _ _ (c .before .before .before .before .before .before .before .before .before .p6 .given .1) _ _ _ (c .took3 .ensures) (c .before .before .before .before .before .add .ensures .0) (c .before .before .before .before .before .add .ensures .1)
+    let a = c .before .before .before .before .before .before .before .before .before .before .before .before .before .before .before .before .before .before .before .before .before .before .before .before .args in
+    let l = c .before .before .before .before .before .before .before .before .before .before .before .before .before .before .before .before .before .before .before .before .before .before .before .before .pre .0 in
+    let r = c .before .before .before .before .before .add .ensures in
+    let f = add-says (a .s) (a .mode-s .now) (a .mode-ac .now) (a .noise .now) (a .t) (a .memory .now) (a .rest .now) (a .output .now) (a .records .now) (c .before .before .before .before .before .before .before .before .before .before .before .before .before .before .before .before .before .before .before .before .before .before .before .before .pre .1) _ (c .before .before .before .before .before .before .before .before .before .before .before .choose .ensures) _ _ (c .before .before .before .before .before .before .before .before .before .p6 .given .1) in
+    added (a .s) (a .mode-s .now) (a .mode-ac .now) (a .noise .now) (a .t) (a .memory .now) (a .rest .now) (a .output .now) (a .records .now) (c .before .before .before .before .before .before .before .before .before .before .before .before .before .before .before .before .before .before .before .before .before .before .before .before .pre .1) _ (c .before .before .before .before .before .before .before .before .before .before .before .choose .ensures) _ _ (c .before .before .before .before .before .before .before .before .before .p6 .given .1) _ _ _ (c .took3 .ensures) (added-by (a .s .distributions) (a .s .delays) _ _ (a .rest .now) (a .memory .now) l (a .mode-s .now) (a .mode-ac .now) _ (r .0)) (recorded-by (a .s .distributions) (a .s .delays) _ _ (a .rest .now) (a .memory .now) l (a .records .now) _ _ (omega (arith, f .fits)) (r .1))
 
 pub step-spec : {M : Type 1} → statement M
 step-spec =
@@ -161,7 +159,6 @@ step-spec =
     enum-known-p-6
     mul-add
     add-requires
-    add-took
     took-requires-3
     returns
     same-length

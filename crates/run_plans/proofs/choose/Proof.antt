@@ -1,0 +1,47 @@
+-- `choose` meets its contract, test by test. Assumes nothing.
+use mathlib.Core.Path.{_∙_}
+use mir.Facts.{toZ-ofZ}
+use Rattle.run_plans.proofs.Tests.{chose-ended, chose-none, chose-draw}
+use borrow.Author.Needs.{needs}
+use Rattle.run_plans.proofs.choose.Statement.{statement}
+use Rattle.run_plans.proofs.choose.Tie as tie
+
+drain-requires : tie.Need-drain-requires
+drain-requires c κs = search needs
+
+returns : tie.Need-returns
+returns c =
+    let a = c .before .before .before .args in
+    c .drain .ensures ∙ chose-ended (a .written) (a .total) (a .last) (a .all) (a .delays) (a .rest .now) (a .room) (a .noise) (a .bytes) (a .ended) (c .before .if1 .taken)
+
+returns-2 : tie.Need-returns-2
+returns-2 c =
+    let a = c .before .before .before .args in
+    chose-none (a .written) (a .total) (a .last) (a .all) (a .delays) (a .rest .now) (a .room) (a .noise) (a .bytes) (a .ended) (c .before .if1 .left) (c .if2 .taken)
+
+time-after-requires : tie.Need-time-after-requires
+time-after-requires c κs = search needs
+
+start-at-requires : tie.Need-start-at-requires
+start-at-requires c κs = search needs
+
+place-requires : tie.Need-place-requires
+place-requires c κs = search needs
+
+returns-3 : tie.Need-returns-3
+returns-3 c =
+    let a = c .before .before .before .before .before .before .args in
+    c .place .ensures
+    ∙ chose-draw (a .written) (a .total) (a .last) (a .all) (a .delays) (a .rest .now) (a .room) (a .noise) (a .bytes) (a .ended) (c .before .before .before .before .if1 .left) (c .before .before .before .if2 .left) _ _ (c .before .before .time-after .ensures) (toZ-ofZ (record { sfits = c .before .start-at .ok }) ∙ c .before .start-at .ensures)
+
+pub choose-spec : {M : Type 1} → statement M
+choose-spec =
+    tie.close
+    (tie.spec
+    drain-requires
+    returns
+    returns-2
+    time-after-requires
+    start-at-requires
+    place-requires
+    returns-3)

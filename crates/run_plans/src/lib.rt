@@ -1,0 +1,178 @@
+// What comes next in a run call, from counts and the next draw alone: a stop, samples that are due, or a draw. Assumes nothing.
+ghost use mathlib.Core.Bool.{false};
+ghost use mathlib.Core.Path.{_≡_};
+ghost use Prim.Native.Nat.{_-_, _<_, _^_, min};
+ghost use lib.IntN.{pos};
+ghost use Rattle.call_lists.specs.Generator.{startFrom};
+ghost use Rattle.call_lists.specs.PlainRun.{kindOf};
+ghost use Rattle.call_lists.specs.Plans.{planEnded, planReply, planDraw, stopFor, someOr, dueMany};
+ghost use Rattle.run_plans.specs.Plans.{counted, stopRead, planRead, isNegative, chosen};
+use message_config::Delays;
+use settings::Distributions;
+
+pub enum Stop {
+    Done,
+    OutputFull,
+    WantsNoise,
+    WantsDraws,
+    RecordsFull,
+}
+
+// What comes next: a stop; so many samples after the end draw, or by the start of the next draw, at its time; or a draw at its time, ignored, ending the run, or a reply from its start on.
+pub enum Plan {
+    Halt(Stop),
+    Drain(usize),
+    Due(usize, f64),
+    Skip(f64),
+    End(f64),
+    Add(f64, u64),
+}
+
+fn least(a: usize, b: usize) -> usize
+    ensures { λ r. ⌜ r ≡ min a b ⌝ }
+{
+    if a < b { a } else { b }
+}
+
+// As many of the samples due as there is room.
+fn capped(due: u64, room: usize) -> usize
+    ensures { λ r. ⌜ r ≡ min due room ⌝ }
+{
+    if due < room as u64 {
+        return due as usize;
+    }
+    room
+}
+
+// How many of the samples due can be written; none where a stop comes first.
+fn batch(due: u64, room: usize, noise: usize) -> usize
+    ensures { λ r. ⌜ r ≡ Rattle.call_lists.specs.Plans.batch due room noise ⌝ }
+{
+    capped(due, least(room / 2, noise / 2))
+}
+
+// The stop where none can be written.
+fn stop_for(room: usize) -> Stop
+    ensures { λ r. ⌜ stopRead r ≡ stopFor room ⌝ }
+{
+    if room < 2 {
+        return Stop::OutputFull;
+    }
+    Stop::WantsNoise
+}
+
+// After the end draw: the samples that are left.
+fn drain(written: u64, total: u64, room: usize, noise: usize) -> Plan
+    ensures { λ r. ⌜ planRead r ≡ planEnded (counted total) written room noise ⌝ }
+{
+    if total <= written {
+        return Plan::Halt(Stop::Done);
+    }
+    let n = batch(total - written, room, noise);
+    if n == 0 {
+        let w = stop_for(room);
+        return Plan::Halt(w);
+    }
+    Plan::Drain(n)
+}
+
+// How many samples are due before a start, 32 of them held back.
+fn due_before(first: u64, written: u64) -> u64
+    ensures { λ r. ⌜ r ≡ first - 32 - written ⌝ }
+{
+    if first <= 32 {
+        return 0;
+    }
+    if first - 32 <= written {
+        return 0;
+    }
+    first - 32 - written
+}
+
+// The samples due by the start of a draw at its time.
+fn due(n: u64, time: f64, room: usize, noise: usize) -> Plan
+    ensures { λ r. ⌜ planRead r ≡ someOr (λ k. dueMany k time) (Rattle.call_lists.specs.Plans.batch n room noise) room ⌝ }
+{
+    let k = batch(n, room, noise);
+    if k == 0 {
+        let w = stop_for(room);
+        return Plan::Halt(w);
+    }
+    Plan::Due(k, time)
+}
+
+fn negative(start: i64) -> bool
+    ensures { λ r. ⌜ r ≡ isNegative start ⌝ }
+{
+    start < 0
+}
+
+// The number of the sample at a start that is not negative.
+fn sample_number(start: i64) -> u64
+    requires { ⌜ isNegative start ≡ false ⌝ }
+    ensures { λ r. ⌜ (start ≡ pos r) × (r < 2 ^ 63) ⌝ }
+{
+    start as u64
+}
+
+// A reply that starts at a sample.
+fn reply(written: u64, time: f64, first: u64, room: usize, noise: usize, bytes: usize) -> Plan
+    ensures { λ r. ⌜ planRead r ≡ planReply (counted 0) (first - 32 - written) time first room noise bytes ⌝ }
+{
+    let n = due_before(first, written);
+    if 0 < n {
+        return due(n, time, room, noise);
+    }
+    if bytes < 66 {
+        return Plan::Halt(Stop::RecordsFull);
+    }
+    Plan::Add(time, first)
+}
+
+// What comes of a draw with this time and start.
+fn place(
+    written: u64,
+    total: u64,
+    time: f64,
+    start: i64,
+    room: usize,
+    noise: usize,
+    bytes: usize,
+) -> Plan
+    ensures { λ r. ⌜ planRead r ≡ planDraw (counted total) written time (kindOf (counted total) (startFrom start)) room noise bytes ⌝ }
+{
+    if negative(start) {
+        return Plan::Skip(time);
+    }
+    let first = sample_number(start);
+    if total <= first + 1094 {
+        return Plan::End(time);
+    }
+    reply(written, time, first, room, noise, bytes)
+}
+
+// What comes next, given how much is left of what is lent: the numbers of output and noise, and the bytes for records.
+pub fn choose(
+    ended: bool,
+    written: u64,
+    total: u64,
+    last: f64,
+    all: Distributions,
+    delays: Delays,
+    rest: &[u8],
+    room: usize,
+    noise: usize,
+    bytes: usize,
+) -> Plan
+    ensures { λ r. ⌜ planRead r ≡ chosen ended written total last all delays (now (rest .entry)) room noise bytes ⌝ }
+{
+    if ended {
+        return drain(written, total, room, noise);
+    }
+    if rest.len() < 65 {
+        return Plan::Halt(Stop::WantsDraws);
+    }
+    let time = draw::time_after(last, rest);
+    let start = draw_config::start_at(all, delays, time, rest);
+    place(written, total, time, start, room, noise, bytes)
+}
