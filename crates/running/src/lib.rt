@@ -2,7 +2,7 @@
 ghost use mathlib.Core.Path.{_≡_};
 ghost use mathlib.Core.Bool.{false, cond, _||_};
 ghost use mathlib.Core.List.{[]};
-ghost use mathlib.Core.Option.{some};
+ghost use mathlib.Core.Option.{none, some};
 ghost use Prim.Native.Nat.{_+_, _-_, _*_, _%_, _≤_, _<_, _^_, min};
 ghost use lib.IntN.{pos};
 ghost use lib.ListN.{length, take, drop};
@@ -18,7 +18,7 @@ ghost use Rattle.draw.specs.Config.{configOf};
 ghost use Rattle.reply_samples.specs.Samples.{replySamples, replyCount};
 ghost use Rattle.reply_samples.specs.Added.{addedFrom};
 ghost use Rattle.record.specs.Record.{recordBytes};
-ghost use Rattle.generator.specs.Real.{startFrom};
+ghost use Rattle.generator.specs.Real.{loud, startFrom};
 ghost use Rattle.running.specs.Plans.{counted, stopRead, planRead, isNegative, chosen};
 ghost use Rattle.running.specs.Ended.{firstBy, ranBy, callLeft};
 ghost use Rattle.running.specs.Calls.{wrongMemory, wrongBuffers, jumpOf, loudFrom, loudRead, faultRead, refusedBy, runLeft};
@@ -516,18 +516,53 @@ fn check_draws(s: State, draws: &[u8]) -> Fault
     draw::first_fault(draws, rates, all)
 }
 
-// Refusal 8.
-fn check_noise(noise: &[f32]) -> Loud
+// The size that noise may have.
+const LOUDEST: f32 = 64.0;
+
+// The first noise value at fault.
+fn first_loud(noise: &[f32]) -> Loud
     ensures { λ r. ⌜ loudRead r ≡ loudFrom 0 (now (noise .entry)) ⌝ }
 {
     let mut k: usize = 0;
     while k < noise.len() {
-        if !float_bits::within_f32(noise[k], 64.0) {
+        if !float_bits::within_f32(noise[k], LOUDEST) {
             return Loud::At(k as u64);
         }
         k = k + 1;
     }
     Loud::Quiet
+}
+
+fn still_quiet(quiet: bool, x: f32) -> bool
+    ensures { λ r. ⌜ r ≡ cond (loud x) false quiet ⌝ }
+{
+    if float_bits::within_f32(x, LOUDEST) {
+        return quiet;
+    }
+    false
+}
+
+// No noise value is at fault. Without an early exit the compiler can test several at once.
+fn all_quiet(noise: &[f32]) -> bool
+    ensures { λ r. ⌜ cond r (loudFrom 0 (now (noise .entry))) none ≡ none ⌝ }
+{
+    let mut quiet = true;
+    let mut k: usize = 0;
+    while k < noise.len() {
+        quiet = still_quiet(quiet, noise[k]);
+        k = k + 1;
+    }
+    quiet
+}
+
+// Refusal 8.
+fn check_noise(noise: &[f32]) -> Loud
+    ensures { λ r. ⌜ loudRead r ≡ loudFrom 0 (now (noise .entry)) ⌝ }
+{
+    if all_quiet(noise) {
+        return Loud::Quiet;
+    }
+    first_loud(noise)
 }
 
 fn refused(s: State, q: Refusal) -> Ran
