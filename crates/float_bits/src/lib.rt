@@ -2,7 +2,7 @@
 ghost use mathlib.Core.Path.{_≡_};
 ghost use mathlib.Core.Bool.{false};
 ghost use lib.IntN.{pos};
-ghost use Prim.Native.Nat.{_*_, _<_, _≤_};
+ghost use Prim.Native.Nat.{_*_, _%_, _<_, _≤_};
 ghost use lib.Dec.{T};
 ghost use lib.Ieee.{binary32, binary64, lt, fin, ofBits, toUnsigned};
 ghost use lib.Ieee.Nearest.{closest};
@@ -44,8 +44,17 @@ fn magnitude(n: u64) -> u64
     if m > 0x7f80_0000 { 0x7f80_0000 } else { m }
 }
 
-// Rust's `x as f32`.
-pub fn narrow(x: f64) -> f32
+// The `f32` of an `f64` pattern in the normal range: rounded as a whole to its upper 35 bits it is a value that `f32` holds, so that the cast loses nothing.
+fn narrow_normal(bits: u64) -> f32
+    requires { ⌜ (0x3810_0000_0000_0000 ≤ bits % 0x8000_0000_0000_0000) × (bits % 0x8000_0000_0000_0000 < 0x47e0_0000_0000_0000) ⌝ }
+    ensures { λ r. ⌜ r ≡ narrowed (ofBits binary64 bits) ⌝ }
+{
+    let upper = (bits + 0xfff_ffff + bits / 0x2000_0000 % 2) / 0x2000_0000;
+    f64::from_bits(upper * 0x2000_0000) as f32
+}
+
+// Rust's `x as f32`, by its bits: for every value.
+fn narrow_any(x: f64) -> f32
     ensures { λ r. ⌜ r ≡ narrowed x ⌝ }
 {
     if x != x {
@@ -54,6 +63,24 @@ pub fn narrow(x: f64) -> f32
     let bits = f64::to_bits(x);
     let m = magnitude(bits % 0x8000_0000_0000_0000);
     f32::from_bits((bits / 0x8000_0000_0000_0000 * 0x8000_0000 + m) as u32)
+}
+
+// Rust's `x as f32`. The normal range apart, since nearly all values lie there.
+pub fn narrow(x: f64) -> f32
+    ensures { λ r. ⌜ r ≡ narrowed x ⌝ }
+{
+    if x != x {
+        return narrow_any(x);
+    }
+    let bits = f64::to_bits(x);
+    let size = bits % 0x8000_0000_0000_0000;
+    if size < 0x3810_0000_0000_0000 {
+        return narrow_any(x);
+    }
+    if size >= 0x47e0_0000_0000_0000 {
+        return narrow_any(x);
+    }
+    narrow_normal(bits)
 }
 
 // The least whole number that is no less than x, for an x above 0 and below 2^53.
