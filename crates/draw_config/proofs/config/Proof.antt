@@ -21,7 +21,8 @@ error-of-requires c κs = search needs
 
 returns : tie.Need-returns
 unfolding configOf errorDrawn
-returns c = cc
+returns c =
+    rw (c .error-of .ensures, c .before .phase-of .ensures, c .before .before .offset-of .ensures, c .before .before .before .before .make .ensures, c .before .before .before .before .before .type-drawn .ensures)
 
 pub config-spec : {M : Type 1} → statement M
 config-spec =

@@ -30,7 +30,8 @@ start-requires c κs = search needs
 
 returns : tie.Need-returns
 unfolding drawAt kindDrawn errorDrawn startAt
-returns c = toZ-ofZ (record { sfits = c .start .ok }) ∙ c .start .ensures ∙ cc
+returns c = toZ-ofZ (record { sfits = c .start .ok }) ∙ c .start .ensures
+    ∙ rw (c .before .group-delay .ensures, c .before .before .error-of .ensures, c .before .before .before .f64-at .ensures, c .before .before .before .before .kind-of .ensures, c .before .before .before .before .before .type-drawn .ensures, c .before .before .before .before .before .before .byte-at .ensures)
 
 pub start-at-spec : {M : Type 1} → statement M
 start-at-spec =

@@ -1,6 +1,7 @@
 -- `draw_fields::clock_fits` meets its contract. Assumes nothing.
 use borrow.Author.Needs.{needs}
-use mathlib.Core.Path.{sym, _∙_}
+use mathlib.Core.Path.{sym, ap, _∙_}
+use Rattle.draw.specs.Fault.{modeACLimit}
 use Rattle.draw.proofs.Decided.{draw-fits, draw-wide}
 use Rattle.draw_fields.proofs.clock_fits.Statement.{statement}
 use Rattle.draw_fields.proofs.clock_fits.Tie as tie
@@ -17,7 +18,9 @@ within-limit-requires c κs = search needs
 returns : tie.Need-returns
 returns c =
     let a = c .before .before .before .before .args in
-    cc (draw-fits (a .all) (a .kind) (a .draw) (sym (c .before .before .before .clock-draw-fits .ensures) ∙ c .before .before .if1 .taken))
+    c .within-limit .ensures
+    ∙ ap (modeACLimit (a .kind)) (c .before .error-of .ensures)
+    ∙ sym (draw-fits (a .all) (a .kind) (a .draw) (sym (c .before .before .before .clock-draw-fits .ensures) ∙ c .before .before .if1 .taken))
 
 returns-2 : tie.Need-returns-2
 returns-2 c =

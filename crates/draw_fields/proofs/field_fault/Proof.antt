@@ -33,7 +33,8 @@ fault-or-requires-4 c κs = search needs
 
 returns : tie.Need-returns
 unfolding drawFault
-returns c = cc
+returns c =
+    rw (c .fault-or4 .ensures, c .before .fault-or3 .ensures, c .before .before .fault-or2 .ensures, c .before .before .before .fault-or .ensures, c .before .before .before .before .parameter-fault .ensures, c .before .before .before .before .before .amplitude-fits .ensures, c .before .before .before .before .before .before .finite .ensures, c .before .before .before .before .before .before .before .type-fits .ensures, c .before .before .before .before .before .before .before .before .finite-not-negative .ensures)
 
 pub field-fault-spec : {M : Type 1} → statement M
 field-fault-spec =

@@ -27,7 +27,8 @@ fault-or-requires-3 c κs = search needs
 
 returns : tie.Need-returns
 unfolding parameterFault
-returns c = cc
+returns c =
+    rw (c .fault-or3 .ensures, c .before .fault-or2 .ensures, c .before .before .fault-or .ensures, c .before .before .before .message-fault .ensures, c .before .before .before .before .clock-fits .ensures, c .before .before .before .before .before .phase-draw-fits .ensures, c .before .before .before .before .before .before .offset-draw-fits .ensures)
 
 pub parameter-fault-spec : {M : Type 1} → statement M
 parameter-fault-spec =

@@ -1,7 +1,7 @@
 -- `draw_fields::within_limit` meets its contract. Assumes nothing.
 use native.Mathlib.Omega.{arith}
 use borrow.Author.Needs.{needs}
-use mathlib.Core.Path.{_≡_, sym}
+use mathlib.Core.Path.{_≡_, sym, _∙_}
 use Rattle.distributions.proofs.Literals.{tenth-is}
 use Rattle.draw.proofs.Decided.{limited, unlimited}
 use Rattle.draw_fields.proofs.within_limit.Statement.{statement}
@@ -17,7 +17,7 @@ returns : tie.Need-returns
 returns c =
     let a = c .before .before .before .args in
     let h : a .kind ≡ 6 = omega arith in
-    cc (limited (a .kind) (a .e) h, tenth-is)
+    c .within .ensures ∙ rw (c .before .filter-clock-error .ensures, limited (a .kind) (a .e) h, tenth-is)
 
 returns-2 : tie.Need-returns-2
 returns-2 c =
