@@ -19,6 +19,7 @@ use Rattle.running.specs.Calls.{refusalGiven, runLeft}
 use Rattle.running.specs.Handed.{Lent, runsLeft, callOf}
 use Rattle.simulation.specs.Seen.{Seen, seenLeft, countsGiven, answerGiven, seenResult}
 use Rattle.simulation.proofs.Demand3.{OpenedRuns, opened-runs}
+use Rattle.simulation.proofs.SameNumbers.{same-stops}
 use Rattle.more1090_generator.specs.declared.FlatState.{FlatState}
 use Rattle.more1090_generator.specs.States.{flatOf, stateFrom}
 use Rattle.more1090_generator.specs.Answers.{valuesFlat, openedFlat, told, answered, ranFlat, FlatLeft, leftFlat, flatRunLeft, flatRunsLeft}
@@ -60,7 +61,7 @@ unfolding answered told benchAnswer countsGiven answerGiven refusalGiven numberO
 bench-answer (Bench.refused Bench.wrongLength) = refl
 bench-answer (Bench.refused (Bench.wrongDraw d k)) = refl
 bench-answer (Bench.refused (Bench.wrongNoise p)) = refl
-bench-answer (Bench.ran taken samples noise records stop) = refl
+bench-answer (Bench.ran taken samples noise records stop) = ap (λ n. told (record { taken = taken; samples = samples; noise = noise; records = records }) n 0 0 0) (same-stops stop)
 
 module _ (s : State) (modeS modeAC : List Float) where
   bench-seen : (r : Bench.Result (genOf s modeS modeAC)) → seenFlat (seenResult s modeS modeAC r) ≡ benchSeen s modeS modeAC r

@@ -27,7 +27,8 @@ use Rattle.more1090_generator.specs.declared.FlatAnswer.{FlatAnswer}
 use Rattle.more1090_generator.specs.declared.FlatRan.{FlatRan}
 use Rattle.more1090_generator.specs.declared.Values.{Values}
 use Rattle.more1090_generator.specs.States.{zero64, distributionOf, carrierFlat, phaseFlat, clockFlat, carrierFrom, phaseFrom, clockFrom, ratesFlat, ratesFrom, flatOf, stateFrom, noRates, noState}
-use Rattle.more1090_generator.specs.Answers.{valuesFlat, openedFlat, stopNumber, told, answered, ranFlat, FlatLeft, leftFlat, flatRunLeft}
+use Rattle.running.specs.Ended.{stopNumber}
+use Rattle.more1090_generator.specs.Answers.{valuesFlat, openedFlat, told, answered, ranFlat, FlatLeft, leftFlat, flatRunLeft}
 
 pub state-flat : (s : State) (rates : FlatRates) (carrier phase clock : FlatDistribution) (ended : ℕ) → rates ≡ ratesFlat (s .rates) → carrier ≡ carrierFlat (s .distributions .carrier) → phase ≡ phaseFlat (s .distributions .phase) → clock ≡ clockFlat (s .distributions .clock) → ended ≡ cond (s .ended) 1 0 → record { written = s .written; total = s .total; time = s .time; latest = s .latest; rates = rates; «mode_s_delay» = s .delays .«mode_s»; «mode_ac_delay» = s .delays .«mode_ac»; carrier = carrier; phase = phase; clock = clock; ended = ended } ≡ flatOf s
 unfolding flatOf

@@ -6,11 +6,10 @@ use lib.ListN.{getD}
 use Rattle.refusals.specs.declared.Refusal.{Refusal}
 use Rattle.refusals.specs.Number.{numberOf, valuesOf}
 use Rattle.opening.specs.declared.Opened as Opened
-use Rattle.running.specs.declared.Stop as Stop
 use Rattle.running.specs.declared.Counts.{Counts}
 use Rattle.running.specs.declared.Answer as Answer
 use Rattle.running.specs.declared.Ran.{Ran}
-use Rattle.running.specs.Ended.{Left}
+use Rattle.running.specs.Ended.{stopNumber, Left}
 use Rattle.running.specs.Calls.{runLeft}
 use Rattle.running.specs.Handed.{Lent}
 use Rattle.more1090_generator.specs.declared.FlatState.{FlatState}
@@ -28,13 +27,6 @@ valuesFlat q = record { value = getD (valuesOf q) 0 0; field = getD (valuesOf q)
 unfoldable pub openedFlat : Opened.Opened → FlatOpened
 openedFlat (Opened.the-variants.Run s) = record { state = flatOf s; refusal = 0; value = 0 }
 openedFlat (Opened.the-variants.Refused q) = record { state = noState; refusal = numberOf q; value = valuesFlat q .value }
-
-unfoldable pub stopNumber : Stop.Stop → ℕ
-stopNumber Stop.the-variants.Done = 0
-stopNumber Stop.the-variants.OutputFull = 1
-stopNumber Stop.the-variants.WantsNoise = 2
-stopNumber Stop.the-variants.WantsDraws = 3
-stopNumber Stop.the-variants.RecordsFull = 4
 
 unfoldable pub told : Counts → ℕ → ℕ → ℕ → ℕ → FlatAnswer
 told n stop refusal value field = record { taken = n .taken; samples = n .samples; noise = n .noise; records = n .records; stop = stop; refusal = refusal; value = value; field = field }

@@ -6,9 +6,8 @@ use lib.ListN.{getD}
 use Rattle.call_lists.specs.PlainBench as Bench
 use Rattle.running.specs.declared.State.{State}
 use Rattle.running.specs.Turns.{genOf}
-use Rattle.running.specs.Ended.{stopGiven}
 use Rattle.more1090_generator.specs.declared.FlatAnswer.{FlatAnswer}
-use Rattle.more1090_generator.specs.Answers.{stopNumber, FlatLeft}
+use Rattle.more1090_generator.specs.Answers.{FlatLeft}
 
 pub record FlatSeen : Type 0 where
   pub answer : FlatAnswer
@@ -21,7 +20,7 @@ flatSeen l = record { answer = l .ran .answer; output = l .output; records = l .
 -- the plain bench's answer: counts and stop, or document 01's number and values
 unfoldable pub benchAnswer : Bench.Answer → FlatAnswer
 benchAnswer (Bench.refused q) = record { taken = 0; samples = 0; noise = 0; records = 0; stop = 5; refusal = getD (Bench.numbers q) 0 0; value = getD (Bench.numbers q) 1 0; field = getD (Bench.numbers q) 2 0 }
-benchAnswer (Bench.ran taken samples noise records stop) = record { taken = taken; samples = samples; noise = noise; records = records; stop = stopNumber (stopGiven stop); refusal = 0; value = 0; field = 0 }
+benchAnswer (Bench.ran taken samples noise records stop) = record { taken = taken; samples = samples; noise = noise; records = records; stop = Bench.stopNumber stop; refusal = 0; value = 0; field = 0 }
 
 module _ (s : State) (modeS modeAC : List Float) where
   unfoldable pub benchSeen : Bench.Result (genOf s modeS modeAC) → FlatSeen

@@ -1,6 +1,6 @@
 -- `stop_number` meets its contract. Assumes nothing.
 use borrow.Author.Needs.{needs}
-use Rattle.more1090_generator.specs.Answers.{stopNumber}
+use Rattle.running.specs.Ended.{stopNumber}
 use Rattle.more1090_generator.proofs.stop_number.Statement.{statement}
 use Rattle.more1090_generator.proofs.stop_number.Tie as tie
 
