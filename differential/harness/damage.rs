@@ -5,10 +5,11 @@ use crate::make::MODE_AC_LIMIT;
 use crate::tape::*;
 use std::f64::consts::PI;
 
-/// A changed tape and what was changed.
+/// A changed tape and what was changed; its parts, where only values changed and not the layout.
 pub struct Damaged {
     pub what: String,
     pub bytes: Vec<u8>,
+    pub tape: Option<Tape>,
 }
 
 /// Goes through all damages of a tape in a fixed order and makes those whose numbers are wanted.
@@ -25,7 +26,8 @@ impl Maker<'_> {
             let mut t = self.base.clone();
             f(&mut t);
             let bytes = t.to_bytes();
-            self.made.push(Damaged { what, bytes });
+            let tape = Some(t);
+            self.made.push(Damaged { what, bytes, tape });
         }
     }
 
@@ -33,7 +35,8 @@ impl Maker<'_> {
         if self.next_is_wanted() {
             let mut bytes = self.base.to_bytes();
             f(&mut bytes);
-            self.made.push(Damaged { what, bytes });
+            let tape = None;
+            self.made.push(Damaged { what, bytes, tape });
         }
     }
 

@@ -3,6 +3,9 @@
 // What is shared with the other program is used in part.
 #![allow(dead_code)]
 
+mod bench;
+mod calls;
+mod damage;
 mod judge;
 mod make;
 mod random;
@@ -12,7 +15,9 @@ mod tape;
 mod parts {
     pub mod carrier;
     pub mod floats;
+    pub mod port;
     pub mod replies;
+    pub mod runs;
     pub mod shape;
     pub mod starts;
 }
@@ -21,8 +26,10 @@ use random::Random;
 use std::path::PathBuf;
 use tally::Tally;
 
-/// `parts [COUNT] [SEED] [FOLDER]`: COUNT arguments for each function.
+/// `parts [COUNT] [SEED] [FOLDER] [TAPES]`: COUNT arguments for each function, TAPES whole runs and lists of calls.
 fn main() {
+    // The reference's panics are answers here.
+    std::panic::set_hook(Box::new(|_| {}));
     let words: Vec<String> = std::env::args().skip(1).collect();
     let number = |k: usize, other: u64| words.get(k).map_or(other, |w| w.parse().expect("a number"));
     let (count, seed) = (number(0, 100_000), number(1, 1));
@@ -34,6 +41,7 @@ fn main() {
     parts::replies::compare(&mut tally, &mut r, count);
     parts::shape::compare(&mut tally, &mut r, count);
     parts::starts::compare(&mut tally, &mut r, count);
+    parts::runs::compare(&mut tally, &mut Random::new(seed), number(3, 1000));
     tally.print();
     let (n, wrong) = tally.totals();
     println!("parts: {n} comparisons, {wrong} differences");

@@ -24,14 +24,14 @@ fn digits(n: u64, width: usize) {
 // A float is shown by the bytes that it is written as.
 fn show_f32(x: f32) {
     let mut b = [0u8; 4];
-    le_floats::put_f32(&mut b, 0, x);
-    digits(le_bytes::u32_at(&b, 0) as u64, 8);
+    le_floats_put::put_f32(&mut b, 0, x);
+    digits(le_at::u32_at(&b, 0) as u64, 8);
 }
 
 fn show_f64(x: f64) {
     let mut b = [0u8; 8];
-    le_floats::put_f64(&mut b, 0, x);
-    digits(le_bytes::u64_at(&b, 0), 16);
+    le_floats_put::put_f64(&mut b, 0, x);
+    digits(le_at::u64_at(&b, 0), 16);
 }
 
 fn read_u16(r: ReadU16) {
@@ -80,9 +80,9 @@ fn reads(s: &[u8], at: usize) {
     read_u64(le_bytes::le_u64(s, at));
     read_f32(le_floats::le_f32(s, at));
     read_f64(le_floats::le_f64(s, at));
-    digits(le_bytes::u16_at(s, at) as u64, 4);
-    digits(le_bytes::u32_at(s, at) as u64, 8);
-    digits(le_bytes::u64_at(s, at), 16);
+    digits(le_at::u16_at(s, at) as u64, 4);
+    digits(le_at::u32_at(s, at) as u64, 8);
+    digits(le_at::u64_at(s, at), 16);
     show_f32(le_floats::f32_at(s, at));
     show_f64(le_floats::f64_at(s, at));
     text(b"\n");
@@ -95,37 +95,37 @@ fn wrote(fits: bool, d: &[u8; 12]) {
     } else {
         text(b" past");
     }
-    digits(le_bytes::u64_at(d, 0), 16);
-    digits(le_bytes::u32_at(d, 8) as u64, 8);
+    digits(le_at::u64_at(d, 0), 16);
+    digits(le_at::u32_at(d, 8) as u64, 8);
 }
 
 fn write_u16(at: usize, v: u16) {
     let mut d = [0xa5u8; 12];
-    let fits = le_bytes::put_u16(&mut d, at, v);
+    let fits = le_put::put_u16(&mut d, at, v);
     wrote(fits, &d);
 }
 
 fn write_u32(at: usize, v: u32) {
     let mut d = [0xa5u8; 12];
-    let fits = le_bytes::put_u32(&mut d, at, v);
+    let fits = le_put::put_u32(&mut d, at, v);
     wrote(fits, &d);
 }
 
 fn write_u64(at: usize, v: u64) {
     let mut d = [0xa5u8; 12];
-    let fits = le_bytes::put_u64(&mut d, at, v);
+    let fits = le_put::put_u64(&mut d, at, v);
     wrote(fits, &d);
 }
 
 fn write_f32(at: usize, v: f32) {
     let mut d = [0xa5u8; 12];
-    let fits = le_floats::put_f32(&mut d, at, v);
+    let fits = le_floats_put::put_f32(&mut d, at, v);
     wrote(fits, &d);
 }
 
 fn write_f64(at: usize, v: f64) {
     let mut d = [0xa5u8; 12];
-    let fits = le_floats::put_f64(&mut d, at, v);
+    let fits = le_floats_put::put_f64(&mut d, at, v);
     wrote(fits, &d);
 }
 
@@ -134,9 +134,9 @@ fn writes(s: &[u8], from: usize, at: usize) {
     text(b"write");
     digits(from as u64, 16);
     digits(at as u64, 16);
-    write_u16(at, le_bytes::u16_at(s, from));
-    write_u32(at, le_bytes::u32_at(s, from));
-    write_u64(at, le_bytes::u64_at(s, from));
+    write_u16(at, le_at::u16_at(s, from));
+    write_u32(at, le_at::u32_at(s, from));
+    write_u64(at, le_at::u64_at(s, from));
     write_f32(at, le_floats::f32_at(s, from));
     write_f64(at, le_floats::f64_at(s, from));
     text(b"\n");

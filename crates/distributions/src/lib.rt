@@ -1,8 +1,7 @@
-// Distributions of a message's parameters, after distributions.rs: carrier offset, carrier phase and symbol clock error. What each asks of its numbers, and what a draw becomes. Assumes nothing.
+// Distributions of a message's parameters, after distributions.rs: carrier offset, carrier phase and symbol clock error, and what each asks of its numbers. Assumes nothing.
 ghost use mathlib.Core.Path.{_≡_};
 ghost use Rattle.constants.specs.Rate.{four};
 ghost use Rattle.distributions.specs.Asked.{upTo, finiteNotNegative, carrierOffset, clampedNormal, carrierPhase, clockError};
-ghost use Rattle.distributions.specs.Drawn.{clamped, offsetOf, phaseOf, errorOf, offsetDrawFits, phaseDrawFits, clockDrawFits};
 
 pub enum CarrierOffset {
     Constant(f64),
@@ -56,7 +55,7 @@ pub fn finite_not_negative(x: f64) -> bool
     ensures { λ r. ⌜ r ≡ finiteNotNegative x ⌝ }
 {
     if 0.0 <= x {
-        return float_bits::finite(x);
+        return float_range::finite(x);
     }
     false
 }
@@ -79,7 +78,7 @@ pub fn carrier_offset(d: Asked) -> OffsetAnswer
 {
     let kind = d.kind;
     if kind == 0 {
-        if float_bits::within(d.first, 4000000.0) {
+        if float_range::within(d.first, 4000000.0) {
             return OffsetAnswer::Accepted(CarrierOffset::Constant(d.first));
         }
         return OffsetAnswer::Refused;
@@ -96,7 +95,7 @@ pub fn carrier_phase(d: Asked) -> PhaseAnswer
 {
     let kind = d.kind;
     if kind == 0 {
-        if float_bits::finite(d.first) {
+        if float_range::finite(d.first) {
             return PhaseAnswer::Accepted(CarrierPhase::Constant(math::phase_wrap_f64(d.first)));
         }
         return PhaseAnswer::Refused;
@@ -113,7 +112,7 @@ pub fn clock_error(d: Asked) -> ClockAnswer
 {
     let kind = d.kind;
     if kind == 0 {
-        if float_bits::within(d.first, 0.1) {
+        if float_range::within(d.first, 0.1) {
             return ClockAnswer::Accepted(ClockError::Constant(d.first));
         }
         return ClockAnswer::Refused;
@@ -125,86 +124,4 @@ pub fn clock_error(d: Asked) -> ClockAnswer
         return ClockAnswer::Refused;
     }
     ClockAnswer::Refused
-}
-
-// Rust's `x.clamp(-max, max)`.
-fn clamp(x: f64, max: f64) -> f64
-    ensures { λ r. ⌜ r ≡ clamped x max ⌝ }
-{
-    if x < -max {
-        return -max;
-    }
-    if x > max {
-        return max;
-    }
-    x
-}
-
-// The carrier offset that a draw gives.
-pub fn offset_of(d: CarrierOffset, draw: f64) -> f64
-    ensures { λ r. ⌜ r ≡ offsetOf d draw ⌝ }
-{
-    match d {
-        CarrierOffset::Constant(x) => x,
-        CarrierOffset::ClampedNormal(sigma, max) => clamp(draw * sigma, max),
-    }
-}
-
-// The carrier phase that a draw gives.
-pub fn phase_of(d: CarrierPhase, draw: f64) -> f64
-    ensures { λ r. ⌜ r ≡ phaseOf d draw ⌝ }
-{
-    match d {
-        CarrierPhase::Constant(x) => x,
-        CarrierPhase::Uniform => draw,
-    }
-}
-
-// The clock error that a draw gives.
-pub fn error_of(d: ClockError, draw: f64) -> f64
-    ensures { λ r. ⌜ r ≡ errorOf d draw ⌝ }
-{
-    match d {
-        ClockError::Constant(x) => x,
-        ClockError::Uniform(_) => draw,
-    }
-}
-
-// Whether a carrier draw is in range.
-pub fn offset_draw_fits(d: CarrierOffset, draw: f64) -> bool
-    ensures { λ r. ⌜ r ≡ offsetDrawFits d draw ⌝ }
-{
-    match d {
-        CarrierOffset::Constant(_) => true,
-        CarrierOffset::ClampedNormal(_, _) => float_bits::finite(draw),
-    }
-}
-
-fn from_minus_pi_below_pi(x: f64) -> bool
-    ensures { λ r. ⌜ r ≡ Rattle.distributions.specs.Drawn.fromMinusPiBelowPi x ⌝ }
-{
-    if x >= -3.141592653589793 {
-        return x < 3.141592653589793;
-    }
-    false
-}
-
-// Whether a phase draw is in range.
-pub fn phase_draw_fits(d: CarrierPhase, draw: f64) -> bool
-    ensures { λ r. ⌜ r ≡ phaseDrawFits d draw ⌝ }
-{
-    match d {
-        CarrierPhase::Constant(_) => true,
-        CarrierPhase::Uniform => from_minus_pi_below_pi(draw),
-    }
-}
-
-// Whether a clock draw is in range.
-pub fn clock_draw_fits(d: ClockError, draw: f64) -> bool
-    ensures { λ r. ⌜ r ≡ clockDrawFits d draw ⌝ }
-{
-    match d {
-        ClockError::Constant(_) => true,
-        ClockError::Uniform(max) => float_bits::within(draw, max),
-    }
 }

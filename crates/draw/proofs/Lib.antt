@@ -1,5 +1,4 @@
-mod Decided
-mod Scan
+pub mod Decided
 pub mod InRange
 pub mod NotNegative
 pub mod FirstDraw

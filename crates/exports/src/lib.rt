@@ -1,5 +1,6 @@
-// Functions of the port under C names, for the differential harness to call: each only calls, and promises what it calls promises. What is called has must-fail edits of its own, so that one for each function is enough here. Assumes nothing.
+// Floats and phases under C names, for the differential harness to call: each function only calls, and promises what it calls promises. Assumes nothing.
 ghost use mathlib.Core.Path.{_≡_};
+ghost use mathlib.Core.List.{[], _∷_};
 ghost use lib.Ieee.{toUnsigned};
 ghost use Rattle.float_bits.specs.Narrow.{narrow as narrowed};
 ghost use Rattle.float_bits.specs.Ceil.{ceilSigned};
@@ -30,32 +31,17 @@ pub extern "C" fn port_to_u64(x: f64) -> u64
     float_bits::to_u64(x)
 }
 
+// The phase wrapped, wrapped once, its sine and its cosine.
 #[no_mangle]
-pub extern "C" fn port_phase_wrap_f64(phase: f64) -> f64
-    ensures { λ r. ⌜ r ≡ phaseWrap phase ⌝ }
-{
-    math::phase_wrap_f64(phase)
-}
-
-#[no_mangle]
-pub extern "C" fn port_phase_wrap_once_f64(phase: f64) -> f64
-    ensures { λ r. ⌜ r ≡ phaseWrapOnce phase ⌝ }
-{
-    math::phase_wrap_once_f64(phase)
-}
-
-#[no_mangle]
-pub extern "C" fn port_sine(p: f64) -> f64
-    ensures { λ r. ⌜ r ≡ (sinCos p) .sin ⌝ }
+pub extern "C" fn port_phase(p: f64, out: &mut [f64; 4])
+    ensures { λ _. ⌜ now (out .exit) ≡ phaseWrap p ∷ (phaseWrapOnce p ∷ ((sinCos p) .sin ∷ ((sinCos p) .cos ∷ []))) ⌝ }
 {
     let y = math::sin_cos(p);
-    y.sin
-}
-
-#[no_mangle]
-pub extern "C" fn port_cosine(p: f64) -> f64
-    ensures { λ r. ⌜ r ≡ (sinCos p) .cos ⌝ }
-{
-    let y = math::sin_cos(p);
-    y.cos
+    let all = [
+        math::phase_wrap_f64(p),
+        math::phase_wrap_once_f64(p),
+        y.sin,
+        y.cos,
+    ];
+    *out = all;
 }

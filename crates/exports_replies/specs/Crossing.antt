@@ -1,6 +1,6 @@
--- How replies, classes and refusals cross to the Rust, as numbers. Definitions only.
+-- How replies and classes cross to the Rust, as numbers. Definitions only.
 use Prim.Native.Nat.{ℕ, zero, suc}
-use mathlib.Core.Bool.{Bool}
+use mathlib.Core.Path.{_≡_}
 use mathlib.Core.List.{List}
 use lib.ListN.{replicate}
 use Rattle.message.specs.declared.ReplyKind.{ReplyKind}
@@ -14,7 +14,6 @@ use Rattle.message.specs.declared.TypeFound.{TypeFound}
 use Rattle.message.specs.declared.TypeFound.the-variants.{Of, Unknown}
 use Rattle.message.specs.Types.{typeNumber}
 use Rattle.message.specs.Making.{made}
-use Rattle.duration.specs.Duration.{Answer, samples, refusal}
 
 -- the kinds: 0 short, 1 long, and Mode A/C
 unfoldable pub kindNumber : ReplyKind → ℕ
@@ -41,6 +40,12 @@ unfoldable pub madeFor : TypeFound → Picks → Made
 madeFor (Of t) p = made t p
 madeFor Unknown p = record { fault = Wrong 1; reply = record { kind = Short; bytes = replicate 14 0 } }
 
+-- what was made, as three numbers: the field at fault, the kind and the bytes
+pub record MadeNumbers (m : Made) (f k : ℕ) (b : List ℕ) : Type 0 where
+  pub fault : f ≡ fieldNumber (m .fault)
+  pub kind : k ≡ kindNumber (m .reply .kind)
+  pub bytes : b ≡ m .reply .bytes
+
 -- a type by its number, none as 7
 unfoldable pub classNumber : TypeFound → ℕ
 classNumber (Of t) = typeNumber t
@@ -48,8 +53,3 @@ classNumber Unknown = 7
 
 unfoldable pub replyWith : ℕ → List ℕ → Reply
 replyWith k b = record { kind = kindNumbered k; bytes = b }
-
--- samples as they are, a refusal as a number that none of them is
-unfoldable pub samplesNumber : Answer → ℕ
-samplesNumber (samples n) = n
-samplesNumber (refusal n) = 0xffff_ffff_ffff_ffff

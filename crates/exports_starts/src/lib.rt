@@ -1,63 +1,79 @@
-// Functions of the port on a message's configuration under C names, for the differential harness to call: each only calls, turns an answer into numbers, and promises what it calls promises. What is called has must-fail edits of its own, so that one for each function is enough here. Assumes nothing.
+// Messages and distributions under C names, for the differential harness to call: each function only calls, turns an answer into numbers, and promises what it calls promises. Assumes nothing.
 use distributions::Asked;
 use distributions::ClockAnswer;
 use distributions::OffsetAnswer;
 use distributions::PhaseAnswer;
+use message::Reply;
 use message::ReplyKind;
+use message_config::Delays;
+use message_config::MessageConfig;
 ghost use mathlib.Core.Path.{_≡_};
+ghost use mathlib.Core.List.{[], _∷_};
 ghost use Rattle.constants.specs.Rate.{four};
 ghost use Rattle.distributions.specs.Asked.{carrierOffset, carrierPhase, clockError};
-ghost use Rattle.message_config.specs.Timing.{startOf, filterClockError, clockPhase};
-ghost use Rattle.message_config.specs.Carrier.{carrierRate, firstPhase};
+ghost use Rattle.message_config.specs.Config.{configStart, configClockPhase, configClockError, configRate, configPhase};
 ghost use Rattle.exports_starts.specs.Drawn.{askedOf, offsetDrawn, phaseDrawn, errorDrawn};
+ghost use Rattle.exports_starts.specs.Message.{kindOf, messageAt, delaysAt};
 
-#[no_mangle]
-pub extern "C" fn port_start(time: f64, delay: f64, e: f64) -> i64
-    ensures { λ r. ⌜ r ≡ startOf time delay e ⌝ }
+fn kind_of(mode_ac: bool) -> ReplyKind
+    ensures { λ r. ⌜ r ≡ kindOf «mode_ac» ⌝ }
 {
-    message_config::start(time, delay, e)
+    if mode_ac {
+        return ReplyKind::ModeAc;
+    }
+    ReplyKind::Long
 }
 
-#[no_mangle]
-pub extern "C" fn port_mode_s_filter_clock_error(e: f64) -> f64
-    ensures { λ r. ⌜ r ≡ filterClockError ReplyKind.Long e ⌝ }
+fn message_at(time: f64, offset: f64, phase: f64, error: f64, kind: ReplyKind) -> MessageConfig
+    ensures { λ r. ⌜ r ≡ messageAt time offset phase error kind ⌝ }
 {
-    message_config::filter_clock_error(ReplyKind::Long, e)
+    MessageConfig {
+        time: time,
+        cn0: time,
+        offset: offset,
+        phase: phase,
+        error: error,
+        reply: Reply {
+            kind: kind,
+            bytes: [0; 14],
+        },
+    }
 }
 
+// The first sample of a message; in `out` the clock error and the clock phase of its filter, and its carrier's rate and first phase.
 #[no_mangle]
-pub extern "C" fn port_mode_ac_filter_clock_error(e: f64) -> f64
-    ensures { λ r. ⌜ r ≡ filterClockError ReplyKind.ModeAc e ⌝ }
+pub extern "C" fn port_message(
+    time: f64,
+    offset: f64,
+    phase: f64,
+    error: f64,
+    mode_ac: bool,
+    delay_s: f64,
+    delay_ac: f64,
+    out: &mut [f64; 4],
+) -> i64
+    ensures { λ r. ⌜ (r ≡ configStart (delaysAt «delay_s» «delay_ac») (messageAt time offset phase error (kindOf «mode_ac»))) × (now (out .exit) ≡ configClockError (messageAt time offset phase error (kindOf «mode_ac»)) ∷ (configClockPhase (delaysAt «delay_s» «delay_ac») (messageAt time offset phase error (kindOf «mode_ac»)) ∷ (configRate four (messageAt time offset phase error (kindOf «mode_ac»)) ∷ (configPhase four (delaysAt «delay_s» «delay_ac») (messageAt time offset phase error (kindOf «mode_ac»)) ∷ [])))) ⌝ }
 {
-    message_config::filter_clock_error(ReplyKind::ModeAc, e)
-}
-
-#[no_mangle]
-pub extern "C" fn port_clock_phase(time: f64, delay: f64, e: f64, filter_error: f64) -> f64
-    ensures { λ r. ⌜ r ≡ clockPhase time delay e «filter_error» ⌝ }
-{
-    message_config::clock_phase(time, delay, e, filter_error)
-}
-
-#[no_mangle]
-pub extern "C" fn port_carrier_rate(offset: f64) -> f64
-    ensures { λ r. ⌜ r ≡ carrierRate four offset ⌝ }
-{
-    message_config::carrier_rate(offset)
-}
-
-#[no_mangle]
-pub extern "C" fn port_first_phase(phase: f64, time: f64, first: i64, rate: f64) -> f64
-    ensures { λ r. ⌜ r ≡ firstPhase phase time first rate ⌝ }
-{
-    message_config::first_phase(phase, time, first, rate)
+    let c = message_at(time, offset, phase, error, kind_of(mode_ac));
+    let delays = Delays {
+        mode_s: delay_s,
+        mode_ac: delay_ac,
+    };
+    let all = [
+        c.clock_error_for_filterbank(),
+        c.clock_phase(delays),
+        c.carrier_rate(),
+        c.first_phase(delays),
+    ];
+    *out = all;
+    c.first_sample_index(delays)
 }
 
 fn offset_drawn(answer: OffsetAnswer, draw: f64) -> f64
     ensures { λ r. ⌜ r ≡ offsetDrawn answer draw ⌝ }
 {
     match answer {
-        OffsetAnswer::Accepted(d) => distributions::offset_of(d, draw),
+        OffsetAnswer::Accepted(d) => drawn_values::offset_of(d, draw),
         OffsetAnswer::Refused => 0.0 / 0.0,
     }
 }
@@ -66,7 +82,7 @@ fn phase_drawn(answer: PhaseAnswer, draw: f64) -> f64
     ensures { λ r. ⌜ r ≡ phaseDrawn answer draw ⌝ }
 {
     match answer {
-        PhaseAnswer::Accepted(d) => distributions::phase_of(d, draw),
+        PhaseAnswer::Accepted(d) => drawn_values::phase_of(d, draw),
         PhaseAnswer::Refused => 0.0 / 0.0,
     }
 }
@@ -75,44 +91,33 @@ fn error_drawn(answer: ClockAnswer, draw: f64) -> f64
     ensures { λ r. ⌜ r ≡ errorDrawn answer draw ⌝ }
 {
     match answer {
-        ClockAnswer::Accepted(d) => distributions::error_of(d, draw),
+        ClockAnswer::Accepted(d) => drawn_values::error_of(d, draw),
         ClockAnswer::Refused => 0.0 / 0.0,
     }
 }
 
-// What a draw becomes, or a NaN where the distribution is refused.
+// What three draws become by a distribution of each kind, a NaN where it is refused.
 #[no_mangle]
-pub extern "C" fn port_carrier_offset(kind: u8, first: f64, second: f64, draw: f64) -> f64
-    ensures { λ r. ⌜ r ≡ offsetDrawn (carrierOffset four (askedOf kind first second)) draw ⌝ }
+pub extern "C" fn port_drawn(
+    kind: u8,
+    first: f64,
+    second: f64,
+    carrier: f64,
+    phase: f64,
+    clock: f64,
+    out: &mut [f64; 3],
+)
+    ensures { λ _. ⌜ now (out .exit) ≡ offsetDrawn (carrierOffset four (askedOf kind first second)) carrier ∷ (phaseDrawn (carrierPhase (askedOf kind first second)) phase ∷ (errorDrawn (clockError (askedOf kind first second)) clock ∷ [])) ⌝ }
 {
-    let answer = distributions::carrier_offset(Asked {
+    let asked = Asked {
         kind: kind,
         first: first,
         second: second,
-    });
-    offset_drawn(answer, draw)
-}
-
-#[no_mangle]
-pub extern "C" fn port_carrier_phase(kind: u8, first: f64, second: f64, draw: f64) -> f64
-    ensures { λ r. ⌜ r ≡ phaseDrawn (carrierPhase (askedOf kind first second)) draw ⌝ }
-{
-    let answer = distributions::carrier_phase(Asked {
-        kind: kind,
-        first: first,
-        second: second,
-    });
-    phase_drawn(answer, draw)
-}
-
-#[no_mangle]
-pub extern "C" fn port_clock_error(kind: u8, first: f64, second: f64, draw: f64) -> f64
-    ensures { λ r. ⌜ r ≡ errorDrawn (clockError (askedOf kind first second)) draw ⌝ }
-{
-    let answer = distributions::clock_error(Asked {
-        kind: kind,
-        first: first,
-        second: second,
-    });
-    error_drawn(answer, draw)
+    };
+    let all = [
+        offset_drawn(distributions::carrier_offset(asked), carrier),
+        phase_drawn(distributions::carrier_phase(asked), phase),
+        error_drawn(distributions::clock_error(asked), clock),
+    ];
+    *out = all;
 }

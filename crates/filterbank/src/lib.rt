@@ -1,14 +1,11 @@
-// The filterbank, after pulse_shape.rs: the taps at a clock phase, the sum of those that meet pulses, and the clock.
+// The filterbank, after pulse_shape.rs: the taps at a clock phase. The clock and the sums of taps are in crates above.
 // Each function is equal to a definition of specs/ on every input. Assumes nothing.
 ghost use mathlib.Core.Path.{_≡_};
-ghost use mathlib.Core.Bool.{cond};
-ghost use Prim.Native.Nat.{_≤_, _<_, _+_, _*_, min};
-ghost use lib.ListN.{length, take, drop, getD};
-ghost use lib.Ieee.{binary32, ofBits, nan, add, mul, sub};
+ghost use Prim.Native.Nat.{_<_, _+_};
+ghost use lib.ListN.{length, drop, getD};
+ghost use lib.Ieee.{binary32, nan, add, mul, sub};
 ghost use Rattle.constants.specs.Rate.{four};
-ghost use Rattle.filterbank.specs.Taps.{one, scaled, branchOf, tauOf, branch, between, filterTaps};
-ghost use Rattle.filterbank.specs.PulseSum.{late, lateSum};
-ghost use Rattle.filterbank.specs.Clocked.{stepOf, startClock, advance as advanced, in64};
+ghost use Rattle.filterbank.specs.Taps.{one, branchOf, tauOf, branch, between, filterTaps};
 
 // The branch at a phase, from the phase times 256.
 fn branch_of(phase: f64) -> usize
@@ -85,83 +82,7 @@ pub fn filter_taps(prototype: &[f32], phase: f64) -> [f32; 7]
     at_bank_end(prototype, tau)
 }
 
-fn least(a: usize, b: usize) -> usize
-    ensures { λ r. ⌜ r ≡ min a b ⌝ }
-{
-    if a < b { a } else { b }
-}
-
-// The first `len` pulses laid six places late, so that a sum over them needs no tests of their places.
-pub fn lay_late(on: [bool; 240], len: usize) -> [bool; 252]
-    ensures { λ r. ⌜ r ≡ late (take len on) ⌝ }
-{
-    let n = least(len, 240);
-    let mut out = [false; 252];
-    let mut j: usize = 0;
-    while j < n {
-        out[j + 6] = on[j];
-        j = j + 1;
-    }
-    out
-}
-
-fn added(sum: f32, tap: f32, on: bool) -> f32
-    ensures { λ r. ⌜ r ≡ cond on (add binary32 sum tap) sum ⌝ }
-{
-    if on { sum + tap } else { sum }
-}
-
-// The sum of the taps at whose place there is a pulse.
-pub fn pulse_sum(taps: [f32; 7], laid: &[bool; 252], index: usize) -> f32
-    ensures { λ r. ⌜ r ≡ lateSum taps (now (laid .entry)) index ⌝ }
-{
-    if index >= 246 {
-        return 0.0;
-    }
-    let s0 = added(0.0, taps[0], laid[index + 6]);
-    let s1 = added(s0, taps[1], laid[index + 5]);
-    let s2 = added(s1, taps[2], laid[index + 4]);
-    let s3 = added(s2, taps[3], laid[index + 3]);
-    let s4 = added(s3, taps[4], laid[index + 2]);
-    let s5 = added(s4, taps[5], laid[index + 1]);
-    added(s5, taps[6], laid[index])
-}
-
 pub struct Clock {
     pub phase: f64,
     pub index: usize,
-}
-
-// What a sample adds to the phase.
-pub fn clock_step(e: f64) -> f64
-    ensures { λ r. ⌜ r ≡ stepOf four e ⌝ }
-{
-    1.0 / 4.0 * (1.0 + e)
-}
-
-// The clock before the first sample, from a phase in samples.
-pub fn start_clock(phase: f64) -> Clock
-    ensures { λ r. ⌜ r ≡ startClock four phase ⌝ }
-{
-    Clock {
-        phase: phase / 4.0,
-        index: 0,
-    }
-}
-
-// The clock after one sample more.
-pub fn advance(clock: Clock, step: f64) -> Clock
-    ensures { λ r. ⌜ r ≡ in64 (advanced step clock) ⌝ }
-{
-    let next = clock.phase + step;
-    if next >= 1.0 {
-        return Clock {
-            phase: next - 1.0,
-            index: std::num::wrapping_add_usize(clock.index, 1),
-        };
-    }
-    Clock {
-        phase: next,
-        index: clock.index,
-    }
 }

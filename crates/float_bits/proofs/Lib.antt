@@ -5,4 +5,5 @@ pub mod NarrowOrder
 pub mod Ceiling
 pub mod CeilAsFloat
 pub mod Truncation
+pub mod Widening
 pub mod Ranges

@@ -1,15 +1,13 @@
-// What the language lacks, worked out from bits: `as f32`, `as u64` and the ceiling of an `f64` as Rust has them, bit patterns with a defined answer at a NaN, and tests of range. Assumes nothing.
+// What the language lacks, worked out from bits: `as f32`, `as u64` and the ceiling of an `f64` as Rust has them. Assumes nothing.
 ghost use mathlib.Core.Path.{_≡_};
 ghost use mathlib.Core.Bool.{false};
 ghost use lib.IntN.{pos};
-ghost use Prim.Native.Nat.{_*_, _<_, _≤_};
+ghost use Prim.Native.Nat.{_*_, _%_, _<_, _≤_};
 ghost use lib.Dec.{T};
-ghost use lib.Ieee.{binary32, binary64, lt, fin, ofBits, toBits, toUnsigned};
+ghost use lib.Ieee.{binary32, binary64, lt, fin, ofBits, toUnsigned};
 ghost use lib.Ieee.Nearest.{closest};
-ghost use lib.Ieee.Scale.{finite as isFinite};
 ghost use Rattle.float_bits.specs.Narrow.{narrow as narrowed};
 ghost use Rattle.float_bits.specs.Ceil.{ceilSigned};
-ghost use Rattle.float_bits.specs.Range.{within as isWithin};
 
 // a / (2 * half) to the nearest whole number, a tie to the even one.
 fn nearest(a: u64, half: u64) -> u64
@@ -46,8 +44,17 @@ fn magnitude(n: u64) -> u64
     if m > 0x7f80_0000 { 0x7f80_0000 } else { m }
 }
 
-// Rust's `x as f32`.
-pub fn narrow(x: f64) -> f32
+// The `f32` of an `f64` pattern in the normal range: rounded as a whole to its upper 35 bits it is a value that `f32` holds, so that the cast loses nothing.
+fn narrow_normal(bits: u64) -> f32
+    requires { ⌜ (0x3810_0000_0000_0000 ≤ bits % 0x8000_0000_0000_0000) × (bits % 0x8000_0000_0000_0000 < 0x47e0_0000_0000_0000) ⌝ }
+    ensures { λ r. ⌜ r ≡ narrowed (ofBits binary64 bits) ⌝ }
+{
+    let upper = (bits + 0xfff_ffff + bits / 0x2000_0000 % 2) / 0x2000_0000;
+    f64::from_bits(upper * 0x2000_0000) as f32
+}
+
+// Rust's `x as f32`, by its bits: for every value.
+fn narrow_any(x: f64) -> f32
     ensures { λ r. ⌜ r ≡ narrowed x ⌝ }
 {
     if x != x {
@@ -56,6 +63,24 @@ pub fn narrow(x: f64) -> f32
     let bits = f64::to_bits(x);
     let m = magnitude(bits % 0x8000_0000_0000_0000);
     f32::from_bits((bits / 0x8000_0000_0000_0000 * 0x8000_0000 + m) as u32)
+}
+
+// Rust's `x as f32`. The normal range apart, since nearly all values lie there.
+pub fn narrow(x: f64) -> f32
+    ensures { λ r. ⌜ r ≡ narrowed x ⌝ }
+{
+    if x != x {
+        return narrow_any(x);
+    }
+    let bits = f64::to_bits(x);
+    let size = bits % 0x8000_0000_0000_0000;
+    if size < 0x3810_0000_0000_0000 {
+        return narrow_any(x);
+    }
+    if size >= 0x47e0_0000_0000_0000 {
+        return narrow_any(x);
+    }
+    narrow_normal(bits)
 }
 
 // The least whole number that is no less than x, for an x above 0 and below 2^53.
@@ -112,74 +137,4 @@ pub fn to_usize(x: f64) -> usize
     ensures { λ r. ⌜ r ≡ toUnsigned 64 x ⌝ }
 {
     to_u64(x) as usize
-}
-
-// The `f64` of a pattern. The pattern of any NaN gives the NaN.
-pub fn f64_of(n: u64) -> f64
-    ensures { λ r. ⌜ r ≡ ofBits binary64 n ⌝ }
-{
-    if n % 0x8000_0000_0000_0000 > 0x7ff0_0000_0000_0000 {
-        return 0.0 / 0.0;
-    }
-    f64::from_bits(n)
-}
-
-// The `f32` of a pattern. The pattern of any NaN gives the NaN.
-pub fn f32_of(n: u32) -> f32
-    ensures { λ r. ⌜ r ≡ ofBits binary32 n ⌝ }
-{
-    if n % 0x8000_0000 > 0x7f80_0000 {
-        return 0.0 / 0.0;
-    }
-    f32::from_bits(n)
-}
-
-// The pattern of an `f64`. A NaN gives that of the quiet one with no payload, 0x7ff8_0000_0000_0000.
-pub fn bits_of(x: f64) -> u64
-    ensures { λ r. ⌜ r ≡ toBits binary64 x ⌝ }
-{
-    if x != x {
-        return 0x7ff8_0000_0000_0000;
-    }
-    f64::to_bits(x)
-}
-
-// The pattern of an `f32`. A NaN gives that of the quiet one with no payload, 0x7fc0_0000.
-pub fn bits_of_f32(x: f32) -> u32
-    ensures { λ r. ⌜ r ≡ toBits binary32 x ⌝ }
-{
-    if x != x {
-        return 0x7fc0_0000;
-    }
-    f32::to_bits(x)
-}
-
-// x is neither a NaN nor an infinity.
-pub fn finite(x: f64) -> bool
-    ensures { λ r. ⌜ r ≡ isFinite x ⌝ }
-{
-    if x < 1.0 / 0.0 {
-        return x > -1.0 / 0.0;
-    }
-    false
-}
-
-// The size of x is at most limit. A NaN is within no limit.
-pub fn within(x: f64, limit: f64) -> bool
-    ensures { λ r. ⌜ r ≡ isWithin x limit ⌝ }
-{
-    if x <= limit {
-        return x >= -limit;
-    }
-    false
-}
-
-// The size of x is at most limit. A NaN is within no limit.
-pub fn within_f32(x: f32, limit: f32) -> bool
-    ensures { λ r. ⌜ r ≡ isWithin x limit ⌝ }
-{
-    if limit >= x {
-        return -limit <= x;
-    }
-    false
 }

@@ -16,7 +16,7 @@ fn narrow_agrees(i: usize) -> bool {
     }
     let points = table::NARROW_POINTS;
     let answers = table::NARROWED;
-    float_bits::bits_of_f32(float_bits::narrow(float_bits::f64_of(points[i]))) == answers[i]
+    float_patterns::bits_of_f32(float_bits::narrow(float_patterns::f64_of(points[i]))) == answers[i]
 }
 
 fn ceil_agrees(i: usize) -> bool {
@@ -25,7 +25,7 @@ fn ceil_agrees(i: usize) -> bool {
     }
     let points = table::WHOLE_POINTS;
     let answers = table::CEILINGS;
-    float_bits::ceil_to_i64(float_bits::f64_of(points[i])) == answers[i]
+    float_bits::ceil_to_i64(float_patterns::f64_of(points[i])) == answers[i]
 }
 
 fn truncate_agrees(i: usize) -> bool {
@@ -34,7 +34,7 @@ fn truncate_agrees(i: usize) -> bool {
     }
     let points = table::WHOLE_POINTS;
     let answers = table::TRUNCATED;
-    float_bits::to_u64(float_bits::f64_of(points[i])) == answers[i]
+    float_bits::to_u64(float_patterns::f64_of(points[i])) == answers[i]
 }
 
 fn agrees(cast: u64, i: usize) -> bool {

@@ -1,9 +1,9 @@
-// Little-endian numbers at a place in a byte slice, read and written. Assumes nothing.
+// Little-endian numbers at a place in a byte slice, and whether they lie within it. Assumes nothing.
 ghost use mathlib.Core.Path.{_≡_};
 ghost use Prim.Native.Nat.{_+_, _≤_, _<_};
 ghost use lib.Dec.{leb};
 ghost use lib.ListN.{length};
-ghost use Rattle.le_bytes.specs.LeBytes.{inside, leAt, numberAt, laid, bytesOf, put};
+ghost use Rattle.le_bytes.specs.LeBytes.{leAt};
 ghost use Rattle.le_bytes.specs.Reads.{readU16, readU32, readU64};
 
 // What a read at a place finds: the number, or that its bytes run past the end.
@@ -23,7 +23,7 @@ pub enum ReadU64 {
 }
 
 // Whether n bytes from a place lie within a length; no sum, so that no place can overflow.
-fn holds(len: usize, at: usize, n: usize) -> bool
+pub fn holds(len: usize, at: usize, n: usize) -> bool
     ensures { λ r. ⌜ r ≡ leb (at + n) len ⌝ }
 {
     if len < n {
@@ -88,88 +88,4 @@ pub fn le_u64(s: &[u8], at: usize) -> ReadU64
         return ReadU64::Value(eight(s, at));
     }
     ReadU64::Past
-}
-
-// The number at a place, 0 where its bytes run past the end.
-pub fn u16_at(s: &[u8], at: usize) -> u16
-    ensures { λ r. ⌜ r ≡ numberAt 2 (now (s .entry)) at ⌝ }
-{
-    match le_u16(s, at) {
-        ReadU16::Value(n) => n,
-        ReadU16::Past => 0,
-    }
-}
-
-pub fn u32_at(s: &[u8], at: usize) -> u32
-    ensures { λ r. ⌜ r ≡ numberAt 4 (now (s .entry)) at ⌝ }
-{
-    match le_u32(s, at) {
-        ReadU32::Value(n) => n,
-        ReadU32::Past => 0,
-    }
-}
-
-pub fn u64_at(s: &[u8], at: usize) -> u64
-    ensures { λ r. ⌜ r ≡ numberAt 8 (now (s .entry)) at ⌝ }
-{
-    match le_u64(s, at) {
-        ReadU64::Value(n) => n,
-        ReadU64::Past => 0,
-    }
-}
-
-// The low two, four and eight bytes of v, each written as two halves: LLVM turns that into one store.
-fn put_two(d: &mut [u8], at: usize, v: u64)
-    requires { ⌜ at + 2 ≤ length (now d) ⌝ }
-    ensures { λ _. ⌜ now (d .exit) ≡ laid (now (d .entry)) at (bytesOf 2 v) ⌝ }
-{
-    d[at] = (v % 256) as u8;
-    d[at + 1] = (v / 256 % 256) as u8;
-}
-
-fn put_four(d: &mut [u8], at: usize, v: u64)
-    requires { ⌜ at + 4 ≤ length (now d) ⌝ }
-    ensures { λ _. ⌜ now (d .exit) ≡ laid (now (d .entry)) at (bytesOf 4 v) ⌝ }
-{
-    put_two(d, at, v);
-    put_two(d, at + 2, v / 0x1_0000);
-}
-
-fn put_eight(d: &mut [u8], at: usize, v: u64)
-    requires { ⌜ at + 8 ≤ length (now d) ⌝ }
-    ensures { λ _. ⌜ now (d .exit) ≡ laid (now (d .entry)) at (bytesOf 8 v) ⌝ }
-{
-    put_four(d, at, v);
-    put_four(d, at + 4, v / 0x1_0000_0000);
-}
-
-// A number written at a place. False where its bytes would run past the end: then nothing is written.
-pub fn put_u16(d: &mut [u8], at: usize, v: u16) -> bool
-    ensures { λ r. ⌜ (r ≡ inside 2 (now (d .entry)) at) × (now (d .exit) ≡ put 2 (now (d .entry)) at v) ⌝ }
-{
-    if holds(d.len(), at, 2) {
-        put_two(d, at, v as u64);
-        return true;
-    }
-    false
-}
-
-pub fn put_u32(d: &mut [u8], at: usize, v: u32) -> bool
-    ensures { λ r. ⌜ (r ≡ inside 4 (now (d .entry)) at) × (now (d .exit) ≡ put 4 (now (d .entry)) at v) ⌝ }
-{
-    if holds(d.len(), at, 4) {
-        put_four(d, at, v as u64);
-        return true;
-    }
-    false
-}
-
-pub fn put_u64(d: &mut [u8], at: usize, v: u64) -> bool
-    ensures { λ r. ⌜ (r ≡ inside 8 (now (d .entry)) at) × (now (d .exit) ≡ put 8 (now (d .entry)) at v) ⌝ }
-{
-    if holds(d.len(), at, 8) {
-        put_eight(d, at, v);
-        return true;
-    }
-    false
 }

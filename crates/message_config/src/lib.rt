@@ -37,7 +37,7 @@ pub fn group_delay(delays: Delays, kind: ReplyKind) -> f64
 }
 
 // The start before it is rounded up.
-pub fn unrounded_start(time: f64, delay: f64, e: f64) -> f64
+fn unrounded_start(time: f64, delay: f64, e: f64) -> f64
     ensures { λ r. ⌜ r ≡ unroundedStart time delay e ⌝ }
 {
     time - delay / (1.0 + e)
@@ -61,7 +61,7 @@ pub fn filter_clock_error(kind: ReplyKind, e: f64) -> f64
 }
 
 // The clock's phase at the first sample, in samples.
-pub fn clock_phase(time: f64, delay: f64, e: f64, filter_error: f64) -> f64
+fn clock_phase(time: f64, delay: f64, e: f64, filter_error: f64) -> f64
     ensures { λ r. ⌜ r ≡ clockPhase time delay e «filter_error» ⌝ }
 {
     let first = std::num::nearest_i64_to_f64(start(time, delay, e));
@@ -69,14 +69,14 @@ pub fn clock_phase(time: f64, delay: f64, e: f64, filter_error: f64) -> f64
 }
 
 // What the carrier turns by in a sample.
-pub fn carrier_rate(offset: f64) -> f64
+fn carrier_rate(offset: f64) -> f64
     ensures { λ r. ⌜ r ≡ carrierRate four offset ⌝ }
 {
     6.283185307179586 * offset / 8000000.0
 }
 
 // The carrier's phase at the first sample.
-pub fn first_phase(phase: f64, time: f64, first: i64, rate: f64) -> f64
+fn first_phase(phase: f64, time: f64, first: i64, rate: f64) -> f64
     ensures { λ r. ⌜ r ≡ firstPhase phase time first rate ⌝ }
 {
     math::phase_wrap_f64(phase - (time - std::num::nearest_i64_to_f64(first)) * rate)

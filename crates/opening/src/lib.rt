@@ -59,8 +59,8 @@ fn clear(memory: &mut [f32])
 fn mode_s_delay(level: f32, prototype: &[f32]) -> Crossing
     ensures { λ r. ⌜ r ≡ modeSDelay four level (now (prototype .entry)) ⌝ }
 {
-    if pulse_shape::all_within_16(prototype) {
-        return pulse_shape::group_delay(level, prototype);
+    if taps_check::all_within_16(prototype) {
+        return group_delay::group_delay(level, prototype);
     }
     Crossing::Nowhere
 }
@@ -69,8 +69,8 @@ fn mode_s_delay(level: f32, prototype: &[f32]) -> Crossing
 fn mode_ac_delay(level: f32, prototype: &[f32]) -> Crossing
     ensures { λ r. ⌜ r ≡ modeACDelay four level (now (prototype .entry)) ⌝ }
 {
-    if pulse_shape::all_within_16(prototype) {
-        return pulse_shape::mode_ac_group_delay(level, prototype);
+    if taps_check::all_within_16(prototype) {
+        return group_delay::mode_ac_group_delay(level, prototype);
     }
     Crossing::Nowhere
 }
@@ -189,10 +189,10 @@ fn check_taps(
     requires { ⌜ (length (now «mode_s») ≡ 1792) × (length (now «mode_ac») ≡ 1792) × (length (now memory) ≡ 2252) ⌝ }
     ensures { λ r. ⌜ (r ≡ tapsOf four level (now («taps_s» .entry)) (now («taps_ac» .entry)) rates total all) × (record { modeS = now («mode_s» .exit); modeAC = now («mode_ac» .exit); memory = now (memory .exit) } ≡ leftBy four (now («taps_s» .entry)) (now («taps_ac» .entry)) r (record { modeS = now («mode_s» .entry); modeAC = now («mode_ac» .entry); memory = now (memory .entry) })) ⌝ }
 {
-    if !pulse_shape::mode_s_taps_accepted(taps_s) {
+    if !taps_check::mode_s_taps_accepted(taps_s) {
         return Opened::Refused(Refusal::Taps);
     }
-    if !pulse_shape::mode_ac_taps_accepted(taps_ac) {
+    if !taps_check::mode_ac_taps_accepted(taps_ac) {
         return Opened::Refused(Refusal::Taps);
     }
     build(
@@ -225,7 +225,7 @@ fn open_at(
     }
     let s = settings::read(settings);
     let rates = s.rates;
-    let checked = settings::check(s);
+    let checked = settings_check::check(s);
     match checked {
         Checked::Refused(refusal) => Opened::Refused(refusal),
         Checked::Accepted(total, all) => {

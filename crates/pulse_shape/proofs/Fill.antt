@@ -37,3 +37,12 @@ filled f (suc n) t k e =
 
 pub fill-all : (f : ℕ → Float) (n : ℕ) (z : Float) → fillFrom f n (replicate n z) 0 ≡ values f n
 fill-all f n z = filled f n (replicate n z) 0 (length-replicate n z ∙ omega arith)
+
+-- a turn of the loop, from what the loop comes to before it
+pub fill-on : (f : ℕ → Float) (e : ℕ) (t : List Float) (k : ℕ) (x : Float) (w : List Float) → k < e → x ≡ f k → fillFrom f (e - k) t k ≡ w
+    → fillFrom f (e - (k + 1)) (set t k x) (k + 1) ≡ w
+fill-on f e t k x w h p q = ap (λ (y : Float). fillFrom f (e - (k + 1)) (set t k y) (k + 1)) p ∙ sym (fill-turn f e t k h) ∙ q
+
+-- the end of the loop
+pub fill-done : (f : ℕ → Float) (e : ℕ) (t : List Float) (k : ℕ) (z : Float) → e ≤ k → fillFrom f (e - k) t k ≡ fillFrom f e (replicate e z) 0 → t ≡ values f e
+fill-done f e t k z h q = sym (fill-end f e t k h) ∙ q ∙ fill-all f e z

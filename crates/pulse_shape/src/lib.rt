@@ -1,4 +1,4 @@
-// The shape of a pulse, after pulse_shape.rs: trapezoids, prototypes, the checks of taps and prototypes, and the group delay.
+// The shape of a pulse, after pulse_shape.rs: trapezoids and prototypes.
 // Each function is equal to a definition of specs/ on every input. Assumes nothing.
 ghost use mathlib.Core.Path.{_≡_};
 ghost use Prim.Native.Nat.{_≤_, _<_, _+_, _-_, min};
@@ -8,8 +8,6 @@ ghost use Rattle.constants.specs.Rate.{four};
 ghost use Rattle.pulse_shape.specs.Trapezoid.{trapezoidAt, modeSTrapezoid, modeACTrapezoid};
 ghost use Rattle.pulse_shape.specs.Convolve.{productsFrom, firstTerm, convolveAt};
 ghost use Rattle.pulse_shape.specs.Prototype.{prototypeOf, modeSPrototype, modeACPrototype};
-ghost use Rattle.pulse_shape.specs.Accepted.{within16, allWithin16, modeSTapsAccepted, modeACTapsAccepted};
-ghost use Rattle.pulse_shape.specs.GroupDelay.{crosses, delayAt, groupDelay, modeACGroupDelay};
 
 // m / n, each taken as an f32.
 fn ratio(m: u32, n: u32) -> f32
@@ -120,93 +118,8 @@ pub fn mode_ac_prototype(lowpass: &[f32]) -> [f32; 1792]
     prototype(&pulse, lowpass)
 }
 
-fn within_16(x: f32) -> bool
-    ensures { λ r. ⌜ r ≡ within16 x ⌝ }
-{
-    if x >= -16.0 {
-        return x <= 16.0;
-    }
-    false
-}
-
-// Whether each value of a prototype is finite and at most 16 in size.
-pub fn all_within_16(values: &[f32]) -> bool
-    ensures { λ r. ⌜ r ≡ allWithin16 (now (values .entry)) ⌝ }
-{
-    let mut j: usize = 0;
-    while j < values.len() {
-        if !within_16(values[j]) {
-            return false;
-        }
-        j = j + 1;
-    }
-    true
-}
-
-pub fn mode_s_taps_accepted(taps: &[f32]) -> bool
-    ensures { λ r. ⌜ r ≡ modeSTapsAccepted four (now (taps .entry)) ⌝ }
-{
-    if taps.len() == 1486 {
-        return all_within_16(taps);
-    }
-    false
-}
-
-pub fn mode_ac_taps_accepted(taps: &[f32]) -> bool
-    ensures { λ r. ⌜ r ≡ modeACTapsAccepted four (now (taps .entry)) ⌝ }
-{
-    if taps.len() == 1515 {
-        return all_within_16(taps);
-    }
-    false
-}
-
 // A crossing of the level, at its delay in samples, or none.
 pub enum Crossing {
     At(f64),
     Nowhere,
-}
-
-fn crosses_level(level: f32, a: f32, b: f32) -> bool
-    ensures { λ r. ⌜ r ≡ crosses level a b ⌝ }
-{
-    if a <= level {
-        return level < b;
-    }
-    false
-}
-
-fn delay_at(level: f32, j: usize, a: f32, b: f32) -> f64
-    ensures { λ r. ⌜ r ≡ delayAt four level j a b ⌝ }
-{
-    let from = std::num::f32_to_f64_with_nan(a);
-    let to = std::num::f32_to_f64_with_nan(b);
-    let tau = (std::num::f32_to_f64_with_nan(level) - from) / (to - from);
-    (std::num::nearest_u64_to_f64(j as u64) + tau) / 64.0
-}
-
-pub fn group_delay(level: f32, prototype: &[f32]) -> Crossing
-    ensures { λ r. ⌜ r ≡ groupDelay four level (now (prototype .entry)) ⌝ }
-{
-    let mut j: usize = 0;
-    while j + 1 < prototype.len() {
-        let a = prototype[j];
-        let b = prototype[j + 1];
-        if crosses_level(level, a, b) {
-            return Crossing::At(delay_at(level, j, a, b));
-        }
-        j = j + 1;
-    }
-    Crossing::Nowhere
-}
-
-// The delay of a Mode A/C prototype, whose filterbank runs faster than the Mode S one.
-pub fn mode_ac_group_delay(level: f32, prototype: &[f32]) -> Crossing
-    ensures { λ r. ⌜ r ≡ modeACGroupDelay four level (now (prototype .entry)) ⌝ }
-{
-    let crossing = group_delay(level, prototype);
-    match crossing {
-        Crossing::At(delay) => Crossing::At(delay / (1500.0 / 1450.0)),
-        Crossing::Nowhere => Crossing::Nowhere,
-    }
 }

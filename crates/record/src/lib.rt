@@ -2,23 +2,12 @@
 ghost use mathlib.Core.Path.{_≡_};
 ghost use mathlib.Core.List.{[], _∷_};
 ghost use Prim.Native.Nat.{_+_, _≤_, _<_};
-ghost use lib.Dec.{leb};
 ghost use lib.ListN.{length};
 ghost use Rattle.le_bytes.specs.LeBytes.{inside, laid};
 ghost use Rattle.record.specs.Record.{recordLength, messageLength, floatBytes, otherBytes, recordBytes, recordAt};
 use message::Reply;
 use message::ReplyKind;
 use message_config::MessageConfig;
-
-// Whether a record from a place lies within a length; no sum, so that no place can overflow.
-fn holds(len: usize, at: usize) -> bool
-    ensures { λ r. ⌜ r ≡ leb (at + recordLength) len ⌝ }
-{
-    if len < 66 {
-        return false;
-    }
-    at <= len - 66
-}
 
 fn message_length(kind: ReplyKind) -> u8
     ensures { λ r. ⌜ r ≡ messageLength kind ⌝ }
@@ -52,11 +41,11 @@ fn put_floats(d: &mut [u8], at: usize, c: MessageConfig)
     requires { ⌜ at + 40 ≤ length (now d) ⌝ }
     ensures { λ _. ⌜ now (d .exit) ≡ laid (now (d .entry)) at (floatBytes c) ⌝ }
 {
-    le_floats::put_f64(d, at, c.time);
-    le_floats::put_f64(d, at + 8, c.cn0);
-    le_floats::put_f64(d, at + 16, c.offset);
-    le_floats::put_f64(d, at + 24, c.phase);
-    le_floats::put_f64(d, at + 32, c.error);
+    le_floats_put::put_f64(d, at, c.time);
+    le_floats_put::put_f64(d, at + 8, c.cn0);
+    le_floats_put::put_f64(d, at + 16, c.offset);
+    le_floats_put::put_f64(d, at + 24, c.phase);
+    le_floats_put::put_f64(d, at + 32, c.error);
 }
 
 fn put_others(d: &mut [u8], at: usize, reply: Reply, first: u64, kind: u8, count: u16)
@@ -66,9 +55,9 @@ fn put_others(d: &mut [u8], at: usize, reply: Reply, first: u64, kind: u8, count
     let sent = reply.kind;
     let bytes = reply.bytes;
     let n = message_length(sent);
-    le_bytes::put_u64(d, at, first);
+    le_put::put_u64(d, at, first);
     put_u8(d, at + 8, kind);
-    le_bytes::put_u16(d, at + 9, count);
+    le_put::put_u16(d, at + 9, count);
     put_u8(d, at + 11, n);
     put_bytes(d, at + 12, bytes);
 }
@@ -77,7 +66,7 @@ fn put_others(d: &mut [u8], at: usize, reply: Reply, first: u64, kind: u8, count
 pub fn put(d: &mut [u8], at: usize, c: MessageConfig, first: u64, kind: u8, count: u16) -> bool
     ensures { λ r. ⌜ (r ≡ inside recordLength (now (d .entry)) at) × (now (d .exit) ≡ recordAt (now (d .entry)) at (recordBytes c first kind count)) ⌝ }
 {
-    if holds(d.len(), at) {
+    if le_bytes::holds(d.len(), at, 66) {
         let reply = c.reply;
         put_floats(d, at, c);
         put_others(d, at + 40, reply, first, kind, count);

@@ -1,13 +1,14 @@
--- One turn of the loop that adds a wave's samples, its beginning and its two ends; and what the functions that it calls give. Assumes nothing.
+-- One turn of the loops that write a wave's values and add its samples, their beginnings and ends; and what the functions that they call give. Assumes nothing.
 use Prim.Native.Nat.{ℕ, zero, suc, _+_, _-_, _*_, _^_, _<_, _≤_}
 use native.Mathlib.Nat.{mod-eq-of-lt, sub-zero, zero-add}
+use native.Mathlib.Numerals.{add-one}
 use native.Mathlib.Omega.{arith}
 use mathlib.Core.Path.{_≡_, refl, sym, ap, _∙_}
 use mathlib.Core.Bool.{Bool, true, false, cond}
-use mathlib.Core.List.{List, [], _∷_}
+use mathlib.Core.List.{List, [], _∷_, _++_, append-assoc, append-nil}
 use borrow.Author.Tests.{lt-ltb, le-ltb}
-use lib.ListN.{length, getD, set, length-set}
-use lib.Seq.{getD-set-other}
+use lib.ListN.{length, getD, set, take, drop, length-set, length-drop}
+use lib.Seq.{getD-set-other, take-suc-set, drop-cons}
 use lib.Ieee.{Float, nan, binary32, binary64, add, mul, le}
 use Rattle.constants.specs.Rate.{four}
 use Rattle.float_bits.specs.Narrow.{narrow}
@@ -21,7 +22,7 @@ use Rattle.reply_samples.specs.declared.Sample.{Sample}
 use Rattle.reply_samples.specs.declared.Wave.{Wave}
 use Rattle.reply_samples.specs.Samples.{sampleAt, turned}
 use Rattle.reply_samples.specs.Added.{addedAt, nextPlace, addedFrom}
-use Rattle.reply_samples.specs.Mirror.{lateValue, waveSamples, waveCount}
+use Rattle.reply_samples.specs.Mirror.{lateValue, waveValues, waveCount}
 
 -- ---- the functions that the loop calls
 pub next-on : (p : ℕ) → p < 1125 → p + 1 ≡ nextPlace four p
@@ -84,27 +85,40 @@ one-less e n h = omega arith
 none-left : (e n : ℕ) → e ≤ n → e - n ≡ 0
 none-left e n h = omega arith
 
-module _ (value : Clock → Float) (limit : ℕ) (step amplitude rate : Float) where
-  -- memory after the samples from a clock and a phase on
-  abbrev pub addedRest : ℕ → List Float → ℕ → Clock → Float → List Float
-  addedRest fuel memory at s phase = addedFrom four memory at (turned amplitude rate phase (clockValues fuel limit step value s))
+module _ (value : Clock → Float) (limit : ℕ) (step : Float) where
+  -- past the last index there is no value, whatever the fuel
+  no-value : (fuel : ℕ) (s : Clock) → limit ≤ s .index → clockValues fuel limit step value s ≡ []
+  unfolding clockValues
+  no-value zero s h = refl
+  no-value (suc fuel) s h = ap (λ (t : Bool). cond t (value s ∷ clockValues fuel limit step value (advance step s)) []) (le-ltb (s .index) limit h)
 
-  added-turn : (fuel : ℕ) (m : List Float) (at : ℕ) (s : Clock) (phase : Float) → s .index < limit
-      → addedRest (suc fuel) m at s phase ≡ addedRest fuel (addedAt m at (sampleAt amplitude (value s) phase)) (nextPlace four at) (advance step s) (phaseWrapOnce (add binary64 phase rate))
-  unfolding addedFrom turned clockValues
-  added-turn fuel m at s phase h =
-      ap (λ (t : Bool). addedFrom four m at (turned amplitude rate phase (cond t (value s ∷ clockValues fuel limit step value (advance step s)) []))) (lt-ltb (s .index) limit h)
+  one-value : (fuel : ℕ) (s : Clock) → s .index < limit → clockValues (suc fuel) limit step value s ≡ value s ∷ clockValues fuel limit step value (advance step s)
+  unfolding clockValues
+  one-value fuel s h = ap (λ (t : Bool). cond t (value s ∷ clockValues fuel limit step value (advance step s)) []) (lt-ltb (s .index) limit h)
 
-  -- the state after a turn, from what each call gives
-  pub again : (e n : ℕ) (m m′ : List Float) (at at′ : ℕ) (s s′ : Clock) (phase phase′ v : Float) (z : Sample) (whole : List Float) → n < e → s .index < limit → limit ≤ 246
-      → v ≡ value s → z ≡ sampleAt amplitude v phase → m′ ≡ addedAt m at z → phase′ ≡ phaseWrapOnce (add binary64 phase rate) → s′ ≡ in64 (advance step s) → at′ ≡ nextPlace four at
-      → addedRest (e - n) m at s phase ≡ whole → addedRest (e - (n + 1)) m′ at′ s′ phase′ ≡ whole
-  again e n m m′ at at′ s s′ phase phase′ v z whole h i l ev ez em ep es ea inv =
+  below : (i l : ℕ) → i < l → l ≤ 246 → i < 246
+  below i l h k = omega arith
+
+  -- what is written and what is left to write come to all values
+  pub fill-next : (e n : ℕ) (vs : List Float) (s s′ : Clock) (v : Float) (whole : List Float) → n < e → n < length vs → s .index < limit → limit ≤ 246 → v ≡ value s → s′ ≡ in64 (advance step s)
+      → take n vs ++ clockValues (e - n) limit step value s ≡ whole → take (n + 1) (set vs n v) ++ clockValues (e - (n + 1)) limit step value s′ ≡ whole
+  fill-next e n vs s s′ v whole h g i l ev es inv =
       let es′ : s′ ≡ advance step s = es ∙ in64-idle step s (below (s .index) limit i l) in
-      rw (em, ez, ev, ep, es′, ea) (sym (added-turn (e - (n + 1)) m at s phase i) ∙ ap (λ (f : ℕ). addedRest f m at s phase) (sym (one-less e n h)) ∙ inv)
-    where
-      below : (i l : ℕ) → i < l → l ≤ 246 → i < 246
-      below i l h k = omega arith
+      let rest = clockValues (e - (n + 1)) limit step value (advance step s) in
+      ap (λ (k : Clock). take (n + 1) (set vs n v) ++ clockValues (e - (n + 1)) limit step value k) es′
+      ∙ ap (λ (k : ℕ). take k (set vs n v) ++ rest) (add-one n)
+      ∙ ap (λ (k : List Float). k ++ rest) (take-suc-set vs n v g)
+      ∙ append-assoc (take n vs) (v ∷ []) rest
+      ∙ ap (λ (x : Float). take n vs ++ (x ∷ rest)) ev
+      ∙ ap (λ (k : List Float). take n vs ++ k) (sym (one-value (e - (n + 1)) s i) ∙ ap (λ (f : ℕ). clockValues f limit step value s) (sym (one-less e n h)))
+      ∙ inv
+
+  pub fill-stop : (fuel n : ℕ) (vs : List Float) (s : Clock) (whole : List Float) → limit ≤ s .index → take n vs ++ clockValues fuel limit step value s ≡ whole → take n vs ≡ whole
+  fill-stop fuel n vs s whole h inv = sym (append-nil (take n vs)) ∙ ap (λ (k : List Float). take n vs ++ k) (sym (no-value fuel s h)) ∙ inv
+
+  pub fill-full : (e n : ℕ) (vs : List Float) (s : Clock) (whole : List Float) → e ≤ n → take n vs ++ clockValues (e - n) limit step value s ≡ whole → take n vs ≡ whole
+  unfolding clockValues
+  fill-full e n vs s whole h inv = sym (append-nil (take n vs)) ∙ ap (λ (f : ℕ). take n vs ++ clockValues f limit step value s) (sym (none-left e n h)) ∙ inv
 
   pub again-count : (e n : ℕ) (s s′ : Clock) (whole : ℕ) → n < e → s .index < limit → limit ≤ 246 → s′ ≡ in64 (advance step s)
       → n + clockCount (e - n) limit step s ≡ whole → n + 1 + clockCount (e - (n + 1)) limit step s′ ≡ whole
@@ -114,42 +128,50 @@ module _ (value : Clock → Float) (limit : ℕ) (step amplitude rate : Float) w
       shift n (clockCount (e - (n + 1)) limit step (advance step s)) (clockCount (e - (n + 1)) limit step s′) whole (ap (clockCount (e - (n + 1)) limit step) es′)
       (ap (λ (t : Bool). n + cond t (suc (clockCount (e - (n + 1)) limit step (advance step s))) 0) (sym (lt-ltb (s .index) limit i)) ∙ ap (λ (f : ℕ). n + clockCount f limit step s) (sym (one-less e n h)) ∙ inv)
     where
-      below : (i l : ℕ) → i < l → l ≤ 246 → i < 246
-      below i l h k = omega arith
-
       shift : (n c c′ w : ℕ) → c′ ≡ c → n + suc c ≡ w → n + 1 + c′ ≡ w
       shift n c c′ w e h = omega arith
-
-  -- past the last index nothing more is added, whatever the fuel
-  pub stop : (fuel : ℕ) (m : List Float) (at : ℕ) (s : Clock) (phase : Float) → limit ≤ s .index → addedRest fuel m at s phase ≡ m
-  unfolding addedFrom turned clockValues
-  stop zero m at s phase h = refl
-  stop (suc fuel) m at s phase h =
-      ap (λ (t : Bool). addedFrom four m at (turned amplitude rate phase (cond t (value s ∷ clockValues fuel limit step value (advance step s)) []))) (le-ltb (s .index) limit h)
 
   pub stop-count : (fuel : ℕ) (s : Clock) → limit ≤ s .index → clockCount fuel limit step s ≡ 0
   unfolding clockCount
   stop-count zero s h = refl
   stop-count (suc fuel) s h = ap (λ (t : Bool). cond t (suc (clockCount fuel limit step (advance step s))) 0) (le-ltb (s .index) limit h)
 
-  -- and nothing without fuel
-  pub full : (e n : ℕ) (m : List Float) (at : ℕ) (s : Clock) (phase : Float) → e ≤ n → addedRest (e - n) m at s phase ≡ m
-  unfolding addedFrom turned clockValues
-  full e n m at s phase h = ap (λ (f : ℕ). addedRest f m at s phase) (none-left e n h)
-
   pub full-count : (e n : ℕ) (s : Clock) → e ≤ n → clockCount (e - n) limit step s ≡ 0
   unfolding clockCount
   full-count e n s h = ap (λ (f : ℕ). clockCount f limit step s) (none-left e n h)
+
+-- ---- the loop over the values
+module _ (amplitude rate : Float) where
+  -- memory after the samples of the values from one on
+  abbrev pub addedRest : List Float → ℕ → List Float → ℕ → Float → List Float
+  addedRest values i memory at phase = addedFrom four memory at (turned amplitude rate phase (drop i values))
+
+  pub turn-next : (l : List Float) (i : ℕ) (m m′ : List Float) (at at′ : ℕ) (phase phase′ x : Float) (z : Sample) (whole : List Float) → i < length l
+      → x ≡ getD l i nan → z ≡ sampleAt amplitude x phase → m′ ≡ addedAt m at z → phase′ ≡ phaseWrapOnce (add binary64 phase rate) → at′ ≡ nextPlace four at
+      → addedRest l i m at phase ≡ whole → addedRest l (i + 1) m′ at′ phase′ ≡ whole
+  unfolding addedFrom turned
+  turn-next l i m m′ at at′ phase phase′ x z whole h ex ez em ep ea inv =
+      rw (em, ez, ex, ep, ea) (ap (λ (k : ℕ). addedRest l k (addedAt m at (sampleAt amplitude (getD l i nan) phase)) (nextPlace four at) (phaseWrapOnce (add binary64 phase rate))) (add-one i)
+      ∙ ap (λ (k : List Float). addedFrom four m at (turned amplitude rate phase k)) (sym (drop-cons l i nan h)) ∙ inv)
+
+  pub turn-end : (l : List Float) (i : ℕ) (m : List Float) (at : ℕ) (phase : Float) (whole : List Float) → length l ≤ i → addedRest l i m at phase ≡ whole → m ≡ whole
+  unfolding addedFrom turned
+  turn-end l i m at phase whole h inv = ap (λ (k : List Float). addedFrom four m at (turned amplitude rate phase k)) (sym (drop-past l i h)) ∙ inv
+    where
+      drop-past : (l : List Float) (i : ℕ) → length l ≤ i → drop i l ≡ []
+      drop-past l i h = gone (drop i l) (omega (arith, length-drop i l))
+        where
+          gone : (k : List Float) → length k ≤ 0 → k ≡ []
+          gone [] h = refl
+          gone (x ∷ k) h = absurd (omega arith)
 
 -- a count that has nothing left to come
 pub counted : (n c whole : ℕ) → c ≡ 0 → n + c ≡ whole → n ≡ whole
 counted n c whole e h = omega arith
 
 -- at the beginning
-pub start : (prototype : List Float) (laid : List Bool) (w : Wave) (m : List Float) (place : ℕ)
-    → addedRest (lateValue prototype laid) (w .limit) (w .step) (w .amplitude) (w .rate) (8 * w .limit - 0) m place (w .clock) (w .phase) ≡ addedFrom four m place (waveSamples prototype laid w)
-unfolding waveSamples
-start prototype laid w m place = ap (λ (f : ℕ). addedRest (lateValue prototype laid) (w .limit) (w .step) (w .amplitude) (w .rate) f m place (w .clock) (w .phase)) (sub-zero (8 * w .limit))
+pub start-values : (prototype : List Float) (laid : List Bool) (w : Wave) (vs : List Float) → take 0 vs ++ clockValues (8 * w .limit - 0) (w .limit) (w .step) (lateValue prototype laid) (w .clock) ≡ waveValues prototype laid w
+start-values prototype laid w vs = ap (λ (f : ℕ). clockValues f (w .limit) (w .step) (lateValue prototype laid) (w .clock)) (sub-zero (8 * w .limit))
 
 pub start-count : (w : Wave) → 0 + clockCount (8 * w .limit - 0) (w .limit) (w .step) (w .clock) ≡ waveCount w
 unfolding waveCount

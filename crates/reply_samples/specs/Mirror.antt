@@ -39,8 +39,12 @@ waveOf c amplitude delays len =
       limit = limitOf len;
     }
 
+-- the filterbank's values of a wave
+abbrev pub waveValues : List Float → List Bool → Wave → List Float
+waveValues prototype laid w = clockValues (fuelOf four (w .limit)) (w .limit) (w .step) (lateValue prototype laid) (w .clock)
+
 unfoldable pub waveSamples : List Float → List Bool → Wave → List Sample
-waveSamples prototype laid w = turned (w .amplitude) (w .rate) (w .phase) (clockValues (fuelOf four (w .limit)) (w .limit) (w .step) (lateValue prototype laid) (w .clock))
+waveSamples prototype laid w = turned (w .amplitude) (w .rate) (w .phase) (waveValues prototype laid w)
 
 unfoldable pub waveCount : Wave → ℕ
 waveCount w = clockCount (fuelOf four (w .limit)) (w .limit) (w .step) (w .clock)

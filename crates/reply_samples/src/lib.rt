@@ -2,14 +2,14 @@
 // Each function is equal to a definition of specs/ on every input. Assumes nothing.
 ghost use mathlib.Core.Path.{_≡_};
 ghost use Prim.Native.Nat.{_≤_, _<_};
-ghost use lib.ListN.{length, getD, set};
+ghost use lib.ListN.{length, getD, set, take};
 ghost use lib.Ieee.{binary32, nan, add};
 ghost use Rattle.constants.specs.Rate.{four};
 ghost use Rattle.filterbank.specs.Apply.{limitOf};
 ghost use Rattle.reply_samples.specs.ReplyPulses.{dataOf, spiOf, pulsesOf, numSamplesOf};
-ghost use Rattle.reply_samples.specs.Samples.{sampleAt, samplesBy, replyCount, replySamples};
+ghost use Rattle.reply_samples.specs.Samples.{sampleAt, turned, samplesBy, replyCount, replySamples};
 ghost use Rattle.reply_samples.specs.Added.{addedAt, nextPlace, addedFrom, addedReply, addedCount};
-ghost use Rattle.reply_samples.specs.Mirror.{isModeAC, lateValue, waveOf, waveSamples, waveCount};
+ghost use Rattle.reply_samples.specs.Mirror.{isModeAC, lateValue, waveOf, waveValues, waveSamples, waveCount};
 use filterbank::Clock;
 use message::Reply;
 use message::ReplyKind;
@@ -119,7 +119,7 @@ fn limit_of(len: usize) -> usize
 fn value_at(prototype: &[f32], laid: &[bool; 252], clock: Clock) -> f32
     ensures { λ r. ⌜ r ≡ lateValue (now (prototype .entry)) (now (laid .entry)) clock ⌝ }
 {
-    filterbank::pulse_sum(
+    pulse_sum::pulse_sum(
         filterbank::filter_taps(prototype, clock.phase),
         laid,
         clock.index,
@@ -141,8 +141,8 @@ fn wave_of(c: MessageConfig, amplitude: f32, delays: Delays, len: usize) -> Wave
     ensures { λ r. ⌜ (r ≡ waveOf c amplitude delays len) × (r .limit ≤ 246) ⌝ }
 {
     Wave {
-        clock: filterbank::start_clock(c.clock_phase(delays)),
-        step: filterbank::clock_step(c.clock_error_for_filterbank()),
+        clock: filter_clock::start_clock(c.clock_phase(delays)),
+        step: filter_clock::clock_step(c.clock_error_for_filterbank()),
         phase: c.first_phase(delays),
         rate: c.carrier_rate(),
         amplitude: amplitude,
@@ -150,29 +150,52 @@ fn wave_of(c: MessageConfig, amplitude: f32, delays: Delays, len: usize) -> Wave
     }
 }
 
-// Adds the samples of a wave from a place on, and answers how many they are.
+// Writes the filterbank's values of a wave, from its clock on, and answers how many they are.
+fn fill_values(prototype: &[f32], laid: &[bool; 252], w: Wave, values: &mut [f32]) -> usize
+    requires { ⌜ (length (now values) ≡ 1968) × (w .limit ≤ 246) ⌝ }
+    ensures { λ r. ⌜ (take r (now (values .exit)) ≡ waveValues (now (prototype .entry)) (now (laid .entry)) w) × (r ≡ waveCount w) × (r ≤ 1968) × (length (now (values .exit)) ≡ 1968) ⌝ }
+{
+    let fuel = 8 * w.limit;
+    let mut clock = w.clock;
+    let mut n: usize = 0;
+    while n < fuel {
+        if clock.index >= w.limit {
+            return n;
+        }
+        values[n] = value_at(prototype, laid, clock);
+        clock = filter_clock::advance(clock, w.step);
+        n = n + 1;
+    }
+    n
+}
+
+// Adds so many values, turned by the carrier, from a place on.
+fn add_turned(values: &[f32], count: usize, w: Wave, memory: &mut [f32], place: usize)
+    requires { ⌜ (length (now values) ≡ 1968) × (count ≤ 1968) × (length (now memory) ≡ 2252) × (place < 1126) ⌝ }
+    ensures { λ _. ⌜ now (memory .exit) ≡ addedFrom four (now (memory .entry)) place (turned (w .amplitude) (w .rate) (w .phase) (take count (now (values .entry)))) ⌝ }
+{
+    let mut phase = w.phase;
+    let mut at = place;
+    let mut i: usize = 0;
+    while i < count {
+        let next = math::phase_wrap_once_f64(phase + w.rate);
+        let z = sample_at(w.amplitude, values[i], phase);
+        add_at(memory, at, z);
+        phase = next;
+        at = next_place(at);
+        i = i + 1;
+    }
+}
+
+// Adds the samples of a wave from a place on, and answers how many they are. The values come first, in a loop of their own: the processor works on more samples at once than where each one's value and sine wait for each other.
 fn add_wave(prototype: &[f32], laid: &[bool; 252], w: Wave, memory: &mut [f32], place: usize) -> u16
     requires { ⌜ (length (now memory) ≡ 2252) × (place < 1126) × (w .limit ≤ 246) ⌝ }
     ensures { λ r. ⌜ (now (memory .exit) ≡ addedFrom four (now (memory .entry)) place (waveSamples (now (prototype .entry)) (now (laid .entry)) w)) × (r ≡ waveCount w) ⌝ }
 {
-    let fuel = 8 * w.limit;
-    let mut clock = w.clock;
-    let mut phase = w.phase;
-    let mut at = place;
-    let mut n: usize = 0;
-    while n < fuel {
-        if clock.index >= w.limit {
-            return n as u16;
-        }
-        let next = math::phase_wrap_once_f64(phase + w.rate);
-        let z = sample_at(w.amplitude, value_at(prototype, laid, clock), phase);
-        add_at(memory, at, z);
-        phase = next;
-        clock = filterbank::advance(clock, w.step);
-        at = next_place(at);
-        n = n + 1;
-    }
-    n as u16
+    let mut values = [0.0; 1968];
+    let count = fill_values(prototype, laid, w, &mut values);
+    add_turned(&values, count, w, memory, place);
+    count as u16
 }
 
 // Adds the samples of a reply by a prototype.
@@ -190,7 +213,7 @@ fn add_by(
     let reply = c.reply;
     let p = message_to_pulses(reply);
     let on = p.on;
-    let laid = filterbank::lay_late(on, p.len);
+    let laid = pulse_sum::lay_late(on, p.len);
     let w = wave_of(c, amplitude, delays, p.len);
     add_wave(prototype, &laid, w, memory, place)
 }

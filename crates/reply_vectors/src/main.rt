@@ -159,7 +159,7 @@ fn make_line(r: [u8; 22]) {
     io::print_decimal(STDOUT_FILENO, r[15] as u64);
     io::write_all(STDOUT_FILENO, b" ");
     match message::message_type(r[15]) {
-        TypeFound::Of(t) => print_made(message::make(t, p)),
+        TypeFound::Of(t) => print_made(message_making::make(t, p)),
         TypeFound::Unknown => {}
     }
 }

@@ -59,5 +59,5 @@ pub fn check_draws(
     if jumps_back(time, latest, draws) {
         return Fault::At(0, 0);
     }
-    draw::first_fault(draws, rates, all)
+    draw_faults::first_fault(draws, rates, all)
 }

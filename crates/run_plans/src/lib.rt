@@ -173,6 +173,6 @@ pub fn choose(
         return Plan::Halt(Stop::WantsDraws);
     }
     let time = draw::time_after(last, rest);
-    let start = draw::start_at(all, delays, time, rest);
+    let start = draw_config::start_at(all, delays, time, rest);
     place(written, total, time, start, room, noise, bytes)
 }

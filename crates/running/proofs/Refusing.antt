@@ -1,5 +1,5 @@
 -- The checks of a run call are the theory's, and each answer is what the definition gives. Assumes nothing.
-use mathlib.Core.Path.{_≡_, refl, sym, ap, _∙_}
+use mathlib.Core.Path.{_≡_, refl, sym, ap, subst, _∙_}
 use mathlib.Core.Bool.{Bool, true, false, cond, not, _||_, false≢true}
 use mathlib.Core.List.{List, [], _∷_}
 use mathlib.Core.Option.{Option, none, some}
@@ -48,6 +48,24 @@ module _ (noise : List Float) (k : ℕ) where
       go : (l : List Float) → length l ≤ 0 → none ≡ loudFrom k l
       go [] q = refl
       go (x ∷ l) q = absurd (omega arith)
+
+-- while all were quiet so far, a turn keeps the first fault of the rest
+pub quiet-on : (noise : List Float) (k : ℕ) (q q′ : Bool) → k < length noise → q′ ≡ cond (loud (getD noise k nan)) false q → cond q (loudFrom k (drop k noise)) none ≡ cond q (loudFrom 0 noise) none → cond q′ (loudFrom (k + 1) (drop (k + 1) noise)) none ≡ cond q′ (loudFrom 0 noise) none
+unfolding loud
+quiet-on noise k q q′ h e i = subst (λ (b : Bool). cond b (loudFrom (k + 1) (drop (k + 1) noise)) none ≡ cond b (loudFrom 0 noise) none) (sym e) (go (within (getD noise k nan) (ofBits binary32 0x4280_0000)) refl)
+  where
+    go : (w : Bool) → within (getD noise k nan) (ofBits binary32 0x4280_0000) ≡ w → cond (cond (not w) false q) (loudFrom (k + 1) (drop (k + 1) noise)) none ≡ cond (cond (not w) false q) (loudFrom 0 noise) none
+    go true t = ap (λ (o : Option Bench.Refusal). cond q o none) (loud-on noise k h t) ∙ i
+    go false t = refl
+
+-- and at the end there is none
+pub quiet-end : (noise : List Float) (k : ℕ) (q : Bool) → length noise ≤ k → cond q (loudFrom k (drop k noise)) none ≡ cond q (loudFrom 0 noise) none → cond q (loudFrom 0 noise) none ≡ none
+unfolding loudRead
+quiet-end noise k q h i = sym i ∙ ap (λ (o : Option Bench.Refusal). cond q o none) (sym (loud-end noise k h)) ∙ same q
+  where
+    same : (b : Bool) → cond {A = Option Bench.Refusal} b none none ≡ none
+    same true = refl
+    same false = refl
 
 -- ---- refusal 9
 module _ {X : Type 0} (q : X) (x : Option X) where

@@ -61,7 +61,7 @@ fn fold_f32(digest: u64, x: f32) -> u64
     requires { ⌜ digest < 0x100_0000_0000_0000 ⌝ }
     ensures { λ r. ⌜ r < 0x100_0000_0000_0000 ⌝ }
 {
-    fold(digest, float_bits::bits_of_f32(x))
+    fold(digest, float_patterns::bits_of_f32(x))
 }
 
 fn values_digest(values: &[f32], start: u64) -> u64
@@ -91,8 +91,8 @@ fn taps_digest(prototype: &[f32]) -> u64 {
 
 // The values of a reply, at most 1,200.
 fn reply(prototype: &[f32], laid: &[bool; 252], limit: usize, first: f64, e: f64) {
-    let step = filterbank::clock_step(e);
-    let mut clock = filterbank::start_clock(first);
+    let step = filter_clock::clock_step(e);
+    let mut clock = filter_clock::start_clock(first);
     let mut digest: u64 = 0;
     let mut n: u64 = 0;
     while n < 1200 {
@@ -100,8 +100,8 @@ fn reply(prototype: &[f32], laid: &[bool; 252], limit: usize, first: f64, e: f64
             break;
         }
         let taps = filterbank::filter_taps(prototype, clock.phase);
-        digest = fold_f32(digest, filterbank::pulse_sum(taps, laid, clock.index));
-        clock = filterbank::advance(clock, step);
+        digest = fold_f32(digest, pulse_sum::pulse_sum(taps, laid, clock.index));
+        clock = filter_clock::advance(clock, step);
         n = n + 1;
     }
     io::write_all(STDOUT_FILENO, b"reply ");
@@ -117,9 +117,9 @@ fn line(n: u64) {
 
 fn delay(level: f32, prototype: &[f32]) {
     io::write_all(STDOUT_FILENO, b"delay");
-    let d = pulse_shape::group_delay(level, prototype);
+    let d = group_delay::group_delay(level, prototype);
     match d {
-        Crossing::At(x) => line(float_bits::bits_of(x)),
+        Crossing::At(x) => line(float_patterns::bits_of(x)),
         Crossing::Nowhere => line(0),
     }
 }
@@ -127,7 +127,7 @@ fn delay(level: f32, prototype: &[f32]) {
 fn replies(prototype: &[f32], seed: u64, len: usize)
     requires { ⌜ (seed < 0x8000_0000) × (len ≤ 240) ⌝ }
 {
-    let laid = filterbank::lay_late(pulses(seed), len);
+    let laid = pulse_sum::lay_late(pulses(seed), len);
     reply(prototype, &laid, len + 6, 0.0, 0.0);
     reply(prototype, &laid, len + 6, 1.1, -0.1);
     reply(prototype, &laid, len + 6, 0.37, 0.1);

@@ -36,11 +36,11 @@ fn hexadecimal(digits: &[u8]) -> u64 {
 // The stored answer is what the port answers: `x as f32` for n, `x.ceil() as i64` (as an `f64` again) for c, `x as u64` for u. Another letter is wrong.
 fn agrees(letter: u8, x: f64, stored: u64) -> bool {
     if letter == 110 {
-        return float_bits::bits_of_f32(float_bits::narrow(x)) as u64 == stored;
+        return float_patterns::bits_of_f32(float_bits::narrow(x)) as u64 == stored;
     }
     if letter == 99 {
         let n = float_bits::ceil_to_i64(x);
-        return float_bits::bits_of(std::num::nearest_i64_to_f64(n)) == stored;
+        return float_patterns::bits_of(std::num::nearest_i64_to_f64(n)) == stored;
     }
     if letter == 117 {
         return float_bits::to_u64(x) == stored;
@@ -52,7 +52,7 @@ fn agrees(letter: u8, x: f64, stored: u64) -> bool {
 fn right(line: &[u8]) -> bool
     requires { ⌜ length (now line) ≡ 36 ⌝ }
 {
-    let x = float_bits::f64_of(hexadecimal(&line[2..18]));
+    let x = float_patterns::f64_of(hexadecimal(&line[2..18]));
     agrees(line[0], x, hexadecimal(&line[19..35]))
 }
 

@@ -6,37 +6,26 @@ use reference::math;
 use std::f64::consts::PI;
 
 unsafe extern "C" {
-    pub safe fn port_phase_wrap_f64(phase: f64) -> f64;
-    pub safe fn port_phase_wrap_once_f64(phase: f64) -> f64;
-    pub safe fn port_sine(p: f64) -> f64;
-    pub safe fn port_cosine(p: f64) -> f64;
+    /// The phase wrapped, wrapped once, its sine and its cosine.
+    safe fn port_phase(p: f64, out: &mut [f64; 4]);
 }
 
 pub fn compare(t: &mut Tally, r: &mut Random, count: u64) {
     let special = crate::random::SPECIAL.into_iter();
     let some: Vec<f64> = (0..count).map(|_| phase(r)).collect();
     for x in special.chain(some) {
+        let mut ours = [f64::NAN; 4];
+        port_phase(x, &mut ours);
+        let [our_wrapped, our_once, our_sin, our_cos] = ours;
         let wrapped = math::phase_wrap_f64(x);
-        t.same(
-            "phase_wrap_f64",
-            x,
-            pattern64(wrapped),
-            pattern64(port_phase_wrap_f64(x)),
-        );
+        t.same("phase_wrap_f64", x, pattern64(wrapped), pattern64(our_wrapped));
         let once = math::phase_wrap_once_f64(x);
-        t.same(
-            "phase_wrap_once_f64",
-            x,
-            pattern64(once),
-            pattern64(port_phase_wrap_once_f64(x)),
-        );
+        t.same("phase_wrap_once_f64", x, pattern64(once), pattern64(our_once));
         let (sin, cos) = lent::sin_cos_by_steps(x);
-        t.same("sine", x, pattern64(sin), pattern64(port_sine(x)));
-        t.same("cosine", x, pattern64(cos), pattern64(port_cosine(x)));
+        t.same("sine", x, pattern64(sin), pattern64(our_sin));
+        t.same("cosine", x, pattern64(cos), pattern64(our_cos));
         if (-PI..=PI).contains(&x) {
-            let far = (port_sine(x) - x.sin())
-                .abs()
-                .max((port_cosine(x) - x.cos()).abs());
+            let far = (our_sin - x.sin()).abs().max((our_cos - x.cos()).abs());
             t.same("sine and cosine near sin_cos", x, true, far <= 2f64.powi(-23));
         }
     }

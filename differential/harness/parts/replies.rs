@@ -20,14 +20,17 @@ unsafe extern "C" {
         draw: &[u8; 14],
         data: u16,
         spi: u8,
+        made: &mut u8,
         out: &mut [u8; 14],
     ) -> u64;
-    safe fn port_make_kind(kind: u8, df: u8, ca: u8, overlay: u8, draw: &[u8; 14], data: u16, spi: u8) -> u8;
     safe fn port_from_message(kind: u8, message: &[u8; 14]) -> u8;
-    safe fn port_mode_s_pulses(message: &[u8; 14], long: bool, on: &mut [bool; 240]) -> usize;
-    safe fn port_mode_ac_pulses(data: u16, spi: bool, on: &mut [bool; 240]) -> usize;
-    safe fn port_mode_s_num_samples(long: bool) -> usize;
-    safe fn port_mode_ac_num_samples(spi: bool) -> usize;
+    safe fn port_mode_s_pulses(
+        message: &[u8; 14],
+        long: bool,
+        on: &mut [bool; 240],
+        samples: &mut usize,
+    ) -> usize;
+    safe fn port_mode_ac_pulses(data: u16, spi: bool, on: &mut [bool; 240], samples: &mut usize) -> usize;
     safe fn port_required_samples_for_apply(pulses: u32) -> u64;
     safe fn port_duration_as_samples(seconds: u64, nanoseconds: u32) -> u64;
 }
@@ -144,10 +147,10 @@ fn made(t: &mut Tally, r: &mut Random, count: u64) {
             }
             done += 1;
             let mut bytes = [0xaa; 14];
+            let mut kind = 0xaa;
             let fault = port_make(
-                d.kind, d.df_pick, d.ca_pick, d.overlay, &d.bytes, d.data, d.spi, &mut bytes,
+                d.kind, d.df_pick, d.ca_pick, d.overlay, &d.bytes, d.data, d.spi, &mut kind, &mut bytes,
             );
-            let kind = port_make_kind(d.kind, d.df_pick, d.ca_pick, d.overlay, &d.bytes, d.data, d.spi);
             let expected = rules::field_at_fault(&s, &d);
             t.alike("field of making at fault", d, expected.unwrap_or(0), fault);
             if let Some(field) = expected {
@@ -174,7 +177,6 @@ fn made(t: &mut Tally, r: &mut Random, count: u64) {
             );
             t.see(&format!("type {} made", d.kind));
             pulses(t, &m);
-            lengths_of(t, &m);
         }
     }
 }
@@ -190,36 +192,30 @@ fn change(r: &mut Random, d: &mut Draw) {
     }
 }
 
-/// The port's pulse map of a message: all 240 places, and how many are used.
-pub fn pulses_of(m: &SSRReply) -> ([bool; 240], usize) {
+/// The port's pulse map of a message: all 240 places, how many are used, and the message's length in samples.
+pub fn pulses_of(m: &SSRReply) -> ([bool; 240], usize, usize) {
     // What was there must not stay.
     let mut on = [true; 240];
+    let mut samples = usize::MAX;
     let length = match m {
         SSRReply::ModeS(message) => {
             let mut bytes = [0xff; 14];
             let used = message.as_slice();
             bytes[..used.len()].copy_from_slice(used);
-            port_mode_s_pulses(&bytes, used.len() == 14, &mut on)
+            port_mode_s_pulses(&bytes, used.len() == 14, &mut on, &mut samples)
         }
-        SSRReply::ModeAC(reply) => port_mode_ac_pulses(reply.data(), reply.spi(), &mut on),
+        SSRReply::ModeAC(reply) => port_mode_ac_pulses(reply.data(), reply.spi(), &mut on, &mut samples),
     };
-    (on, length)
+    (on, length, samples)
 }
 
 fn pulses(t: &mut Tally, m: &SSRReply) {
     let mut expected = open::pulses(m);
     let length = expected.len();
     expected.resize(240, false);
-    let (on, ours) = pulses_of(m);
+    let (on, ours, samples) = pulses_of(m);
     t.alike("pulses", m, (expected.as_slice(), length), (&on, ours));
-}
-
-fn lengths_of(t: &mut Tally, m: &SSRReply) {
-    let ours = match m {
-        SSRReply::ModeS(message) => port_mode_s_num_samples(message.num_bits() == 112),
-        SSRReply::ModeAC(reply) => port_mode_ac_num_samples(reply.spi()),
-    };
-    t.alike("message_num_samples", m, message_num_samples(m), ours);
+    t.alike("message_num_samples", m, message_num_samples(m), samples);
 }
 
 fn every_mode_ac(t: &mut Tally) {

@@ -9,18 +9,19 @@ use reference::simulation::pulse_shape::{open, required_samples_for_apply};
 use reference::simulation::{self, SSRReply};
 
 unsafe extern "C" {
-    fn port_mode_s_prototype(lowpass: *const f32, length: usize, out: &mut [f32; 1792]);
-    fn port_mode_ac_prototype(lowpass: *const f32, length: usize, out: &mut [f32; 1792]);
-    fn port_group_delay(level: f32, prototype: *const f32, length: usize) -> f64;
-    fn port_mode_ac_group_delay(level: f32, prototype: *const f32, length: usize) -> f64;
+    fn port_prototypes(
+        mode_s: *const f32,
+        mode_s_length: usize,
+        mode_ac: *const f32,
+        mode_ac_length: usize,
+        out_s: &mut [f32; 1792],
+        out_ac: &mut [f32; 1792],
+    );
+    fn port_group_delays(level: f32, prototype: *const f32, length: usize, out: &mut [f64; 2]);
     fn port_filter_taps(prototype: *const f32, length: usize, phase: f64, out: &mut [f32; 7]);
-    safe fn port_lay_late(on: &[bool; 240], length: usize, out: &mut [bool; 252]);
-    safe fn port_pulse_sum(taps: &[f32; 7], laid: &[bool; 252], index: usize) -> f32;
-    safe fn port_clock_step(e: f64) -> f64;
-    safe fn port_start_clock_phase(phase: f64) -> f64;
-    safe fn port_start_clock_index(phase: f64) -> usize;
-    safe fn port_advance_phase(phase: f64, index: usize, step: f64) -> f64;
-    safe fn port_advance_index(phase: f64, index: usize, step: f64) -> usize;
+    safe fn port_pulse_sum(taps: &[f32; 7], on: &[bool; 240], length: usize, index: usize) -> f32;
+    safe fn port_start_clock(phase: f64, index: &mut usize) -> f64;
+    safe fn port_next_clock(phase: f64, error: f64, index: &mut usize) -> f64;
 }
 
 pub fn compare(t: &mut Tally, r: &mut Random, count: u64) {
@@ -40,12 +41,18 @@ pub fn compare(t: &mut Tally, r: &mut Random, count: u64) {
 /// The port's prototypes of the lent taps.
 pub fn prototypes_of(taps: &[f32]) -> [[f32; 1792]; 2] {
     let (mode_s, mode_ac) = taps.split_at(MODE_S_TAPS);
-    let mut all = [[f32::NAN; 1792]; 2];
+    let (mut out_s, mut out_ac) = ([f32::NAN; 1792], [f32::NAN; 1792]);
     unsafe {
-        port_mode_s_prototype(mode_s.as_ptr(), mode_s.len(), &mut all[0]);
-        port_mode_ac_prototype(mode_ac.as_ptr(), mode_ac.len(), &mut all[1]);
+        port_prototypes(
+            mode_s.as_ptr(),
+            mode_s.len(),
+            mode_ac.as_ptr(),
+            mode_ac.len(),
+            &mut out_s,
+            &mut out_ac,
+        );
     }
-    all
+    [out_s, out_ac]
 }
 
 fn prototypes(t: &mut Tally, taps: &[f32]) -> [Vec<f32>; 2] {
@@ -61,14 +68,16 @@ fn prototypes(t: &mut Tally, taps: &[f32]) -> [Vec<f32>; 2] {
     expected
 }
 
+/// The port's delays of a prototype, as one of Mode S and as one of Mode A/C.
+fn both_delays(prototype: &[f32]) -> [f64; 2] {
+    let mut out = [f64::NAN; 2];
+    unsafe { port_group_delays(0.5, prototype.as_ptr(), prototype.len(), &mut out) };
+    out
+}
+
 /// The port's delays of a Mode S and a Mode A/C prototype.
 pub fn delays_of(mode_s: &[f32], mode_ac: &[f32]) -> [f64; 2] {
-    unsafe {
-        [
-            port_group_delay(0.5, mode_s.as_ptr(), mode_s.len()),
-            port_mode_ac_group_delay(0.5, mode_ac.as_ptr(), mode_ac.len()),
-        ]
-    }
+    [both_delays(mode_s)[0], both_delays(mode_ac)[1]]
 }
 
 /// A prototype as it is, and one with any values in some places. Where nothing crosses the Rust panics.
@@ -100,7 +109,7 @@ fn delay(t: &mut Tally, r: &mut Random, p: &[f32]) {
         } else {
             "prototype that does not cross 0.5"
         });
-        let [ours, ours_ac] = delays_of(q, q);
+        let [ours, ours_ac] = both_delays(q);
         t.alike("group_delay", q, pattern64(plain), pattern64(ours));
         t.alike("mode_ac_group_delay", q, pattern64(mode_ac), pattern64(ours_ac));
     }
@@ -130,32 +139,25 @@ fn taps_at(t: &mut Tally, r: &mut Random, p: &[f32]) {
     on[length..].fill(false);
     let index = r.below(length + 6);
     let sum = open::convolve_taps_pulses(&expected, &on[..length], index);
-    let mut laid = [true; 252];
-    port_lay_late(&on, length, &mut laid);
     t.alike(
         "pulse_sum",
         (expected, on, length, index),
         pattern32(sum),
-        pattern32(port_pulse_sum(&expected, &laid, index)),
+        pattern32(port_pulse_sum(&expected, &on, length, index)),
     );
 }
 
 /// The filterbank's values of a message by the port's functions.
 pub fn values_of(prototype: &[f32], message: &SSRReply, phase: f64, error: f64) -> Vec<f32> {
-    let (on, length) = pulses_of(message);
-    let mut laid = [true; 252];
-    port_lay_late(&on, length, &mut laid);
-    let step = port_clock_step(error);
-    let (mut phase, mut index) = (port_start_clock_phase(phase), port_start_clock_index(phase));
+    let (on, length, _) = pulses_of(message);
+    let mut index = usize::MAX;
+    let mut phase = port_start_clock(phase, &mut index);
     let mut all = Vec::new();
     let mut taps = [f32::NAN; 7];
     while index < length + 6 {
         unsafe { port_filter_taps(prototype.as_ptr(), prototype.len(), phase, &mut taps) };
-        all.push(port_pulse_sum(&taps, &laid, index));
-        (phase, index) = (
-            port_advance_phase(phase, index, step),
-            port_advance_index(phase, index, step),
-        );
+        all.push(port_pulse_sum(&taps, &on, length, index));
+        phase = port_next_clock(phase, error, &mut index);
     }
     all
 }

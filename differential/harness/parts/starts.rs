@@ -12,15 +12,27 @@ use reference::simulation::{MessageConfig, SSRReply, open};
 use std::f64::consts::PI;
 
 unsafe extern "C" {
-    safe fn port_start(time: f64, delay: f64, e: f64) -> i64;
-    safe fn port_mode_s_filter_clock_error(e: f64) -> f64;
-    safe fn port_mode_ac_filter_clock_error(e: f64) -> f64;
-    safe fn port_clock_phase(time: f64, delay: f64, e: f64, filter_error: f64) -> f64;
-    safe fn port_carrier_rate(offset: f64) -> f64;
-    safe fn port_first_phase(phase: f64, time: f64, first: i64, rate: f64) -> f64;
-    safe fn port_carrier_offset(kind: u8, first: f64, second: f64, draw: f64) -> f64;
-    safe fn port_carrier_phase(kind: u8, first: f64, second: f64, draw: f64) -> f64;
-    safe fn port_clock_error(kind: u8, first: f64, second: f64, draw: f64) -> f64;
+    /// The first sample; the filter's clock error and clock phase, the carrier's rate and first phase.
+    safe fn port_message(
+        time: f64,
+        offset: f64,
+        phase: f64,
+        error: f64,
+        mode_ac: bool,
+        delay_s: f64,
+        delay_ac: f64,
+        out: &mut [f64; 4],
+    ) -> i64;
+    /// What each draw becomes by the distribution of its kind that is asked for.
+    safe fn port_drawn(
+        kind: u8,
+        first: f64,
+        second: f64,
+        carrier: f64,
+        phase: f64,
+        clock: f64,
+        out: &mut [f64; 3],
+    );
     fn port_add_reply(
         mode_s: *const f32,
         mode_s_length: usize,
@@ -126,20 +138,11 @@ fn asked(t: &mut Tally, r: &mut Random, worked: &Settings, mut d: Draw) {
 }
 
 fn ours_drawn(place: usize, a: Asked, d: &Draw) -> (&'static str, f64) {
-    match place {
-        0 => (
-            "carrier offset",
-            port_carrier_offset(a.kind, a.first, a.second, d.carrier),
-        ),
-        1 => (
-            "carrier phase",
-            port_carrier_phase(a.kind, a.first, a.second, d.phase),
-        ),
-        _ => (
-            "clock error",
-            port_clock_error(a.kind, a.first, a.second, d.clock),
-        ),
-    }
+    let mut ours = [0.0; 3];
+    port_drawn(
+        a.kind, a.first, a.second, d.carrier, d.phase, d.clock, &mut ours,
+    );
+    (["carrier offset", "carrier phase", "clock error"][place], ours[place])
 }
 
 /// What the draws of accepted tapes become.
@@ -151,71 +154,70 @@ fn drawn(t: &mut Tally, s: &Settings, d: &Draw, m: &MessageConfig) {
     }
 }
 
-/// The two lines of `samples` on the carrier, which are not functions of their own in the Rust.
+/// The two lines of `samples` on the carrier, which are not functions of their own in the Rust, at any numbers whatever.
 fn carrier(t: &mut Tally, r: &mut Random) {
-    let (offset, phase, time) = (r.any_f64(), r.any_f64(), r.any_f64());
-    let (any, low) = (r.word() as i64, r.below(100_000) as i64);
-    let first = r.pick(&[any, low, time.ceil() as i64]);
+    let (offset, phase, any) = (r.any_f64(), r.any_f64(), r.any_f64());
+    let (near, far) = (100_000.0 * r.unit(), r.within(1e18));
+    let time = r.pick(&[any, near, far]);
+    let delays = [r.within(40.0), r.any_f64()];
+    let (error, mode_ac) = (r.within(0.1), r.once_in(2));
+    let (first, ours) = ours_of(time, offset, phase, error, mode_ac, delays);
+    let delay = delays[usize::from(mode_ac)];
+    let expected = (time - delay / (1.0 + error)).ceil() as i64;
+    t.alike("first sample of any message", (time, delay, error), expected, first);
+    carrier_of(t, (time, offset, phase, expected), ours);
+}
+
+/// The carrier of a message of a time, an offset, a phase and a first sample.
+fn carrier_of(t: &mut Tally, (time, offset, phase, first): (f64, f64, f64, i64), ours: [f64; 4]) {
     let rate = 2.0 * PI * offset / 8_000_000.0;
-    t.same(
-        "carrier_rate",
-        offset,
-        pattern64(rate),
-        pattern64(port_carrier_rate(offset)),
-    );
+    t.same("carrier_rate", offset, pattern64(rate), pattern64(ours[2]));
     let expected = math::phase_wrap_f64(phase - (time - first as f64) * rate);
-    let ours = port_first_phase(phase, time, first, rate);
     t.alike(
         "first_phase",
         (phase, time, first, rate),
         pattern64(expected),
-        pattern64(ours),
+        pattern64(ours[3]),
     );
 }
 
-fn delay(m: &MessageConfig, delays: [f64; 2]) -> f64 {
-    delays[usize::from(mode_ac(m))]
+fn ours_of(time: f64, offset: f64, phase: f64, error: f64, mode_ac: bool, delays: [f64; 2]) -> (i64, [f64; 4]) {
+    let mut ours = [0.0; 4];
+    let first = port_message(
+        time, offset, phase, error, mode_ac, delays[0], delays[1], &mut ours,
+    );
+    (first, ours)
 }
 
 fn mode_ac(m: &MessageConfig) -> bool {
     matches!(m.message, SSRReply::ModeAC(_))
 }
 
-fn filter_error(m: &MessageConfig) -> f64 {
-    match mode_ac(m) {
-        true => port_mode_ac_filter_clock_error(m.symbol_clock_error),
-        false => port_mode_s_filter_clock_error(m.symbol_clock_error),
-    }
-}
-
 fn starts(t: &mut Tally, m: &MessageConfig, delays: [f64; 2]) {
-    let (time, e, delay) = (m.timestamp_samples, m.symbol_clock_error, delay(m, delays));
     t.alike(
         "group_delay of a message",
         m,
         pattern64(open::group_delay(m)),
-        pattern64(delay),
+        pattern64(delays[usize::from(mode_ac(m))]),
     );
-    t.alike(
-        "first_sample_index",
-        m,
-        open::first_sample_index(m),
-        port_start(time, delay, e),
-    );
-    let error = filter_error(m);
+    let (time, e) = (m.timestamp_samples, m.symbol_clock_error);
+    let (offset, phase) = (m.carrier_frequency_offset, m.carrier_phase);
+    let (first, ours) = ours_of(time, offset, phase, e, mode_ac(m), delays);
+    let expected = open::first_sample_index(m);
+    t.alike("first_sample_index", m, expected, first);
     t.alike(
         "clock_error_for_filterbank",
         m,
         pattern64(open::clock_error_for_filterbank(m)),
-        pattern64(error),
+        pattern64(ours[0]),
     );
-    let phase = port_clock_phase(time, delay, e, error);
     t.alike(
         "clock_phase",
         m,
         pattern64(open::clock_phase(m)),
-        pattern64(phase),
+        pattern64(ours[1]),
     );
+    carrier_of(t, (time, offset, phase, expected), ours);
 }
 
 /// A message's kind, as a number, and its bytes.

@@ -48,7 +48,8 @@ byte-at-requires-14 c κs = search needs
 
 returns : tie.Need-returns
 unfolding bytesAt
-returns c = cc
+returns c =
+    rw (c .byte-at14 .ensures, c .before .byte-at13 .ensures, c .before .before .byte-at12 .ensures, c .before .before .before .byte-at11 .ensures, c .before .before .before .before .byte-at10 .ensures, c .before .before .before .before .before .byte-at9 .ensures, c .before .before .before .before .before .before .byte-at8 .ensures, c .before .before .before .before .before .before .before .byte-at7 .ensures, c .before .before .before .before .before .before .before .before .byte-at6 .ensures, c .before .before .before .before .before .before .before .before .before .byte-at5 .ensures, c .before .before .before .before .before .before .before .before .before .before .byte-at4 .ensures, c .before .before .before .before .before .before .before .before .before .before .before .byte-at3 .ensures, c .before .before .before .before .before .before .before .before .before .before .before .before .byte-at2 .ensures, c .before .before .before .before .before .before .before .before .before .before .before .before .before .byte-at .ensures)
 
 pub message-bytes-spec : {M : Type 1} → statement M
 message-bytes-spec =

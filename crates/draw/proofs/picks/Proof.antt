@@ -24,7 +24,8 @@ byte-at-requires-4 c κs = search needs
 
 returns : tie.Need-returns
 unfolding picksAt
-returns c = cc
+returns c =
+    rw (c .byte-at4 .ensures, c .before .u16-at .ensures, c .before .before .byte-at3 .ensures, c .before .before .before .byte-at2 .ensures, c .before .before .before .before .byte-at .ensures, c .before .before .before .before .before .message-bytes .ensures)
 
 pub picks-spec : {M : Type 1} → statement M
 picks-spec =

@@ -30,7 +30,8 @@ f64-at-requires-5 c κs = search needs
 
 returns : tie.Need-returns
 unfolding drawAt
-returns c = cc
+returns c =
+    rw (c .f64-at5 .ensures, c .before .f64-at4 .ensures, c .before .before .f64-at3 .ensures, c .before .before .before .f32-at .ensures, c .before .before .before .before .f64-at2 .ensures, c .before .before .before .before .before .byte-at .ensures, c .before .before .before .before .before .before .f64-at .ensures, c .before .before .before .before .before .before .before .picks .ensures)
 
 pub read-spec : {M : Type 1} → statement M
 read-spec =

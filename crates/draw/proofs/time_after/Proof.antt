@@ -10,7 +10,7 @@ f64-at-requires c κs = search needs
 
 returns : tie.Need-returns
 unfolding drawAt timeAfter
-returns c = cc
+returns c = rw (c .f64-at .ensures)
 
 pub time-after-spec : {M : Type 1} → statement M
 time-after-spec = tie.close (tie.spec f64-at-requires returns)

@@ -1,13 +1,11 @@
--- `float_bits::narrow` meets its contract: the pattern of the size, with the sign put before it. Assumes nothing.
-use mathlib.Core.Path.{sym, ap, subst}
-use Prim.Native.Nat.{_+_, _*_, _/_}
-use native.Mathlib.Omega.{arith}
+-- `float_bits::narrow` meets its contract. Assumes nothing.
+use mathlib.Core.Path.{sym, ap, subst, _∙_}
 use lib.Dec.{T}
-use lib.Ieee.{binary32, binary64, fits, div, ofBits, toBits}
-use lib.Ieee.Bits.{toBits-lt}
+use lib.Ieee.{binary64, fits}
+use lib.Ieee.Bits.{ofBits-toBits}
 use Rattle.float_bits.specs.Narrow.{narrow}
-use Rattle.float_bits.proofs.Nan.{is-nan, not-nan, no-nan-bits, size-of-bits}
-use Rattle.float_bits.proofs.NarrowOrder.{with-sign}
+use Rattle.float_bits.proofs.Nan.{not-nan}
+use borrow.Author.Needs.{needs}
 use Rattle.float_bits.proofs.narrow.Statement.{statement}
 use Rattle.float_bits.proofs.narrow.Tie as tie
 
@@ -15,30 +13,34 @@ use Rattle.float_bits.proofs.narrow.Tie as tie
 held : (c : tie.Start) → T (fits binary64 (c .args .x))
 held c = subst T (sym (c .good .0 .1)) tt
 
+narrow-any-requires : tie.Need-narrow-any-requires
+narrow-any-requires c κs = search needs
+
 returns : tie.Need-returns
-unfolding div ofBits narrow
-returns c = sym (ap narrow (is-nan (c .before .args .x) (c .if1 .taken)))
+returns c = search needs
 
 float-to-bits-bits : tie.Need-float-to-bits-bits
 float-to-bits-bits c = not-nan (c .before .args .x) (c .if1 .left)
 
-magnitude-requires : tie.Need-magnitude-requires
-magnitude-requires c κs = size-of-bits binary64 (c .before .args .x) (held (c .before)) (not-nan (c .before .args .x) (c .if1 .left))
-
-mul-result : tie.Need-mul-result
-mul-result c = omega (arith, toBits-lt binary64 (c .before .before .args .x) (held (c .before .before)))
-
-add-result : tie.Need-add-result
-add-result c = omega (arith, toBits-lt binary64 (c .before .before .args .x) (held (c .before .before)))
-
-cast-result : tie.Need-cast-result
-cast-result c = omega (arith, toBits-lt binary64 (c .before .before .args .x) (held (c .before .before)))
-
-float-from-bits-result : tie.Need-float-from-bits-result
-float-from-bits-result c = no-nan-bits binary32 (toBits binary64 (c .before .before .args .x) / 9223372036854775808 * 2147483648 + c .magnitude .result) (omega (arith, toBits-lt binary64 (c .before .before .args .x) (held (c .before .before))))
+narrow-any-requires-2 : tie.Need-narrow-any-requires-2
+narrow-any-requires-2 c κs = search needs
 
 returns-2 : tie.Need-returns-2
-returns-2 c = with-sign (c .before .before .args .x) (c .magnitude .result) (held (c .before .before)) (omega arith) (c .magnitude .ensures .1)
+returns-2 c = search needs
+
+narrow-any-requires-3 : tie.Need-narrow-any-requires-3
+narrow-any-requires-3 c κs = search needs
+
+returns-3 : tie.Need-returns-3
+returns-3 c = search needs
+
+narrow-normal-requires : tie.Need-narrow-normal-requires
+narrow-normal-requires c κs = search needs
+
+returns-4 : tie.Need-returns-4
+returns-4 c =
+    let s = c .before .before .before .before in
+    c .narrow-normal .ensures ∙ ap narrow (ofBits-toBits binary64 (s .args .x) (held s))
 
 pub narrow-spec : {M : Type 1} → statement M
-narrow-spec = tie.close (tie.spec returns float-to-bits-bits magnitude-requires mul-result add-result cast-result float-from-bits-result returns-2)
+narrow-spec = tie.close (tie.spec narrow-any-requires returns float-to-bits-bits narrow-any-requires-2 returns-2 narrow-any-requires-3 returns-3 narrow-normal-requires returns-4)

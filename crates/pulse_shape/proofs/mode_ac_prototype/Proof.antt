@@ -13,7 +13,7 @@ prototype-requires : tie.Need-prototype-requires
 prototype-requires c κs = search needs
 
 returns : tie.Need-returns
-returns c = cc
+returns c = rw (c .prototype .ensures, c .before .before .mode-ac-trapezoid .ensures)
 
 pub mode-ac-prototype-spec : {M : Type 1} → statement M
 mode-ac-prototype-spec =

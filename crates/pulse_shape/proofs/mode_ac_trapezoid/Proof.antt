@@ -5,7 +5,7 @@ use mathlib.Core.Path.{_≡_}
 use lib.ListN.{length, replicate, length-set}
 use lib.Ieee.{binary32, ofBits}
 use Rattle.pulse_shape.specs.Trapezoid.{trapezoidAt, modeACTrapezoid}
-use Rattle.pulse_shape.proofs.Fill.{fillFrom, fill-turn, fill-end, fill-all}
+use Rattle.pulse_shape.proofs.Fill.{fillFrom, fill-on, fill-done}
 use Rattle.pulse_shape.proofs.mode_ac_trapezoid.Statement.{statement}
 use Rattle.pulse_shape.proofs.mode_ac_trapezoid.Tie as tie
 
@@ -40,13 +40,13 @@ loop-less c = search needs
 loop-again : tie.Need-loop-again Inv-loop μ-loop
 loop-again c =
     let l = c .before .before .loop in
-    (search needs, simp length-set (search needs), cc (fill-turn (trapezoidAt 40 40 278) 278 (l .out) (l .j) (c .before .loop-test .taken)))
+    (search needs, simp length-set (search needs), fill-on (trapezoidAt 40 40 278) 278 (l .out) (l .j) _ _ (c .before .loop-test .taken) (c .trapezoid-at .ensures) (l .inv .2))
 
 returns : tie.Need-returns Inv-loop μ-loop
 unfolding modeACTrapezoid
 returns c =
     let l = c .before .loop in
-    cc (fill-end (trapezoidAt 40 40 278) 278 (l .out) (l .j) (c .loop-test .left), fill-all (trapezoidAt 40 40 278) 278 (ofBits binary32 0))
+    fill-done (trapezoidAt 40 40 278) 278 (l .out) (l .j) (ofBits binary32 0) (c .loop-test .left) (l .inv .2)
 
 pub mode-ac-trapezoid-spec : {M : Type 1} → statement M
 mode-ac-trapezoid-spec =

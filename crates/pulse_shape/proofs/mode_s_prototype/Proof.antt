@@ -13,7 +13,7 @@ prototype-requires : tie.Need-prototype-requires
 prototype-requires c κs = search needs
 
 returns : tie.Need-returns
-returns c = cc
+returns c = rw (c .prototype .ensures, c .before .before .mode-s-trapezoid .ensures)
 
 pub mode-s-prototype-spec : {M : Type 1} → statement M
 mode-s-prototype-spec =

@@ -1,7 +1,7 @@
 -- `products` meets its contract: what is left of the sum, from k on, is the whole. Assumes nothing.
 use borrow.Author.Needs.{needs}
 use Prim.Native.Nat.{_≤_, _-_}
-use mathlib.Core.Path.{_≡_}
+use mathlib.Core.Path.{_≡_, sym, _∙_}
 use lib.Ieee.{binary32, ofBits}
 use Rattle.pulse_shape.specs.Convolve.{productsFrom}
 use Rattle.pulse_shape.proofs.Turns.{products-turn, products-end}
@@ -43,13 +43,13 @@ loop-again : tie.Need-loop-again Inv-loop μ-loop
 loop-again c =
     let l = c .before .before .before .loop in
     let a = c .before .before .before .before .args in
-    (search needs, cc (products-turn (a .a .now) (a .b .now) (a .j) (a .end) (l .k) (l .sum) (c .before .before .loop-test .taken)))
+    (search needs, sym (products-turn (a .a .now) (a .b .now) (a .j) (a .end) (l .k) (l .sum) (c .before .before .loop-test .taken)) ∙ l .inv .1)
 
 returns : tie.Need-returns Inv-loop μ-loop
 returns c =
     let l = c .before .loop in
     let a = c .before .before .args in
-    cc (products-end (a .a .now) (a .b .now) (a .j) (a .end) (l .k) (l .sum) (c .loop-test .left))
+    sym (products-end (a .a .now) (a .b .now) (a .j) (a .end) (l .k) (l .sum) (c .loop-test .left)) ∙ l .inv .1
 
 pub products-spec : {M : Type 1} → statement M
 products-spec =

@@ -6,7 +6,7 @@ use lib.ListN.{length, replicate, length-set}
 use lib.Ieee.{binary32, ofBits}
 use Rattle.pulse_shape.specs.Convolve.{convolveAt}
 use Rattle.pulse_shape.specs.Prototype.{prototypeOf}
-use Rattle.pulse_shape.proofs.Fill.{fillFrom, fill-turn, fill-end, fill-all}
+use Rattle.pulse_shape.proofs.Fill.{fillFrom, fill-on, fill-done}
 use Rattle.pulse_shape.proofs.prototype.Statement.{statement}
 use Rattle.pulse_shape.proofs.prototype.Tie as tie
 
@@ -39,7 +39,7 @@ loop-again : tie.Need-loop-again Inv-loop μ-loop
 loop-again c =
     let l = c .before .before .loop in
     let a = c .before .before .before .before .before .args in
-    (search needs, simp length-set (search needs), cc (fill-turn (convolveAt (a .pulse .now) (a .lowpass .now)) 1792 (l .out) (l .j) (c .before .loop-test .taken)))
+    (search needs, simp length-set (search needs), fill-on (convolveAt (a .pulse .now) (a .lowpass .now)) 1792 (l .out) (l .j) _ _ (c .before .loop-test .taken) (c .convolve-at .ensures) (l .inv .2))
 
 returns : tie.Need-returns Inv-loop μ-loop
 unfolding prototypeOf
@@ -47,7 +47,7 @@ returns c =
     let l = c .before .loop in
     let a = c .before .before .before .before .args in
     let f = convolveAt (a .pulse .now) (a .lowpass .now) in
-    cc (fill-end f 1792 (l .out) (l .j) (c .loop-test .left), fill-all f 1792 (ofBits binary32 0))
+    fill-done f 1792 (l .out) (l .j) (ofBits binary32 0) (c .loop-test .left) (l .inv .2)
 
 pub prototype-spec : {M : Type 1} → statement M
 prototype-spec =

@@ -10,7 +10,7 @@ nearest-u32-to-f32-requires-2 : tie.Need-nearest-u32-to-f32-requires-2
 nearest-u32-to-f32-requires-2 c κs = search needs
 
 returns : tie.Need-returns
-returns c = cc
+returns c = rw (c .nearest-u32-to-f322 .ensures, c .before .nearest-u32-to-f32 .ensures)
 
 pub ratio-spec : {M : Type 1} → statement M
 ratio-spec = tie.close (tie.spec nearest-u32-to-f32-requires nearest-u32-to-f32-requires-2 returns)

@@ -21,7 +21,7 @@ float-at-requires-2 c κs = search needs
 
 returns : tie.Need-returns
 unfolding askedAt
-returns c = cc
+returns c = rw (c .float-at2 .ensures, c .before .float-at .ensures)
 
 pub asked-at-spec : {M : Type 1} → statement M
 asked-at-spec =

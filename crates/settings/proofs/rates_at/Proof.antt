@@ -45,7 +45,8 @@ float-at-requires-7 c κs = search needs
 
 returns : tie.Need-returns
 unfolding ratesAt
-returns c = cc
+returns c =
+    rw (c .float-at7 .ensures, c .before .float-at6 .ensures, c .before .before .float-at5 .ensures, c .before .before .before .float-at4 .ensures, c .before .before .before .before .float-at3 .ensures, c .before .before .before .before .before .float-at2 .ensures, c .before .before .before .before .before .before .float-at .ensures)
 
 pub rates-at-spec : {M : Type 1} → statement M
 rates-at-spec =

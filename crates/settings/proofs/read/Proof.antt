@@ -27,7 +27,7 @@ returns : tie.Need-returns
 unfolding settingsOf
 returns c =
     let s = c .before .before .before .before .before .before .before .before .before .before .before .before .args .s .now in
-    cc (number-there 8 s 0 (search needs), number-there 4 s 8 (search needs))
+    rw (c .u32-at .ensures, c .before .before .u64-at .ensures, c .before .before .before .before .asked-at3 .ensures, c .before .before .before .before .before .before .asked-at2 .ensures, c .before .before .before .before .before .before .before .before .asked-at .ensures, c .before .before .before .before .before .before .before .before .before .before .rates-at .ensures, number-there 8 s 0 (search needs), number-there 4 s 8 (search needs))
 
 pub read-spec : {M : Type 1} → statement M
 read-spec =

@@ -9,7 +9,7 @@ carrier-rate-requires c κs = search needs
 
 returns : tie.Need-returns
 unfolding configRate
-returns c = cc
+returns c = c .carrier-rate .ensures
 
 pub carrier-rate-spec : {M : Type 1} → statement M
 carrier-rate-spec = tie.close (tie.spec carrier-rate-requires returns)

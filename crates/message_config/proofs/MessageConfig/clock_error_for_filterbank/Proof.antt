@@ -11,7 +11,7 @@ filter-clock-error-requires c κs = search needs
 
 returns : tie.Need-returns
 unfolding configClockError
-returns c = cc
+returns c = c .filter-clock-error .ensures
 
 pub clock-error-for-filterbank-spec : {M : Type 1} → statement M
 clock-error-for-filterbank-spec = tie.close (tie.spec filter-clock-error-requires returns)

@@ -15,7 +15,7 @@ clock-phase-requires c κs = search needs
 
 returns : tie.Need-returns
 unfolding configClockPhase configClockError
-returns c = cc
+returns c = rw (c .clock-phase .ensures, c .before .filter-clock-error .ensures, c .before .before .group-delay .ensures)
 
 pub clock-phase-spec : {M : Type 1} → statement M
 clock-phase-spec =

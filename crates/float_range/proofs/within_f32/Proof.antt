@@ -1,0 +1,13 @@
+-- `float_range::within_f32` meets its contract. Assumes nothing.
+use Rattle.float_bits.proofs.Ranges.{within-test}
+use Rattle.float_range.proofs.within_f32.Statement.{statement}
+use Rattle.float_range.proofs.within_f32.Tie as tie
+
+returns : tie.Need-returns
+returns c = within-test (c .before .args .x) (c .before .args .limit) .0 (c .if1 .taken)
+
+returns-2 : tie.Need-returns-2
+returns-2 c = within-test (c .before .args .x) (c .before .args .limit) .1 (c .if1 .left)
+
+pub within-f32-spec : {M : Type 1} → statement M
+within-f32-spec = tie.close (tie.spec returns returns-2)

@@ -1,0 +1,34 @@
+// Little-endian numbers at a place in a byte slice, 0 past its end: equal to their definitions, in specs/ of `le_bytes`, on every input. Assumes nothing.
+ghost use mathlib.Core.Path.{_≡_};
+ghost use Rattle.le_bytes.specs.LeBytes.{numberAt};
+use le_bytes::ReadU16;
+use le_bytes::ReadU32;
+use le_bytes::ReadU64;
+
+// The number at a place, 0 where its bytes run past the end.
+pub fn u16_at(s: &[u8], at: usize) -> u16
+    ensures { λ r. ⌜ r ≡ numberAt 2 (now (s .entry)) at ⌝ }
+{
+    match le_bytes::le_u16(s, at) {
+        ReadU16::Value(n) => n,
+        ReadU16::Past => 0,
+    }
+}
+
+pub fn u32_at(s: &[u8], at: usize) -> u32
+    ensures { λ r. ⌜ r ≡ numberAt 4 (now (s .entry)) at ⌝ }
+{
+    match le_bytes::le_u32(s, at) {
+        ReadU32::Value(n) => n,
+        ReadU32::Past => 0,
+    }
+}
+
+pub fn u64_at(s: &[u8], at: usize) -> u64
+    ensures { λ r. ⌜ r ≡ numberAt 8 (now (s .entry)) at ⌝ }
+{
+    match le_bytes::le_u64(s, at) {
+        ReadU64::Value(n) => n,
+        ReadU64::Past => 0,
+    }
+}

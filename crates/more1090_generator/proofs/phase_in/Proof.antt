@@ -1,0 +1,16 @@
+-- `phase_in` meets its contract. Assumes nothing.
+use borrow.Author.Tests.{eq-eqb, ne-eqb}
+use Rattle.more1090_generator.specs.States.{phaseFrom}
+use Rattle.more1090_generator.proofs.phase_in.Statement.{statement}
+use Rattle.more1090_generator.proofs.phase_in.Tie as tie
+
+returns : tie.Need-returns
+unfolding phaseFrom
+returns c = rw (eq-eqb _ _ (c .if1 .taken))
+
+returns-2 : tie.Need-returns-2
+unfolding phaseFrom
+returns-2 c = rw (ne-eqb _ _ (c .if1 .left))
+
+pub phase-in-spec : {M : Type 1} → statement M
+phase-in-spec = tie.close (tie.spec returns returns-2)

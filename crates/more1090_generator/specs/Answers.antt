@@ -1,0 +1,68 @@
+-- What opening a run and a run call answer, as C has it: document 01's numbers and values for refusals, a number for each stop, and what a call leaves in the buffers. Definitions only.
+use Prim.Native.Nat.{ℕ}
+use mathlib.Core.List.{List, [], _∷_}
+use lib.Ieee.{Float}
+use lib.ListN.{getD}
+use Rattle.refusals.specs.declared.Refusal.{Refusal}
+use Rattle.refusals.specs.Number.{numberOf, valuesOf}
+use Rattle.opening.specs.declared.Opened as Opened
+use Rattle.running.specs.declared.Stop as Stop
+use Rattle.running.specs.declared.Counts.{Counts}
+use Rattle.running.specs.declared.Answer as Answer
+use Rattle.running.specs.declared.Ran.{Ran}
+use Rattle.running.specs.Ended.{Left}
+use Rattle.running.specs.Calls.{runLeft}
+use Rattle.running.specs.Handed.{Lent}
+use Rattle.more1090_generator.specs.declared.FlatState.{FlatState}
+use Rattle.more1090_generator.specs.declared.FlatOpened.{FlatOpened}
+use Rattle.more1090_generator.specs.declared.FlatAnswer.{FlatAnswer}
+use Rattle.more1090_generator.specs.declared.FlatRan.{FlatRan}
+use Rattle.more1090_generator.specs.declared.Values.{Values}
+use Rattle.more1090_generator.specs.States.{flatOf, stateFrom, noState}
+
+-- the values beside a refusal's number, 0 where there is none
+unfoldable pub valuesFlat : Refusal → Values
+valuesFlat q = record { value = getD (valuesOf q) 0 0; field = getD (valuesOf q) 1 0 }
+
+-- refusal 0 is none
+unfoldable pub openedFlat : Opened.Opened → FlatOpened
+openedFlat (Opened.the-variants.Run s) = record { state = flatOf s; refusal = 0; value = 0 }
+openedFlat (Opened.the-variants.Refused q) = record { state = noState; refusal = numberOf q; value = valuesFlat q .value }
+
+unfoldable pub stopNumber : Stop.Stop → ℕ
+stopNumber Stop.the-variants.Done = 0
+stopNumber Stop.the-variants.OutputFull = 1
+stopNumber Stop.the-variants.WantsNoise = 2
+stopNumber Stop.the-variants.WantsDraws = 3
+stopNumber Stop.the-variants.RecordsFull = 4
+
+unfoldable pub told : Counts → ℕ → ℕ → ℕ → ℕ → FlatAnswer
+told n stop refusal value field = record { taken = n .taken; samples = n .samples; noise = n .noise; records = n .records; stop = stop; refusal = refusal; value = value; field = field }
+
+-- refusal 0 is none; stop 5 is none
+unfoldable pub answered : Counts → Answer.Answer → FlatAnswer
+answered n (Answer.the-variants.Stopped w) = told n (stopNumber w) 0 0 0
+answered n (Answer.the-variants.Refused q) = told n 5 (numberOf q) (valuesFlat q .value) (valuesFlat q .field)
+
+unfoldable pub ranFlat : Ran → FlatRan
+ranFlat r = record { state = flatOf (r .state); answer = answered (r .counts) (r .answer) }
+
+-- what a run call answers, and what it leaves in what it was lent
+pub record FlatLeft : Type 0 where
+  pub ran : FlatRan
+  pub memory : List Float
+  pub output : List Float
+  pub records : List ℕ
+
+unfoldable pub leftFlat : Left → FlatLeft
+leftFlat l = record { ran = ranFlat (l .ran); memory = l .memory; output = l .output; records = l .records }
+
+unfoldable pub flatRunLeft : FlatState → List Float → List Float → List Float → List ℕ → List Float → List Float → List ℕ → FlatLeft
+flatRunLeft f modeS modeAC memory draws noise output records = leftFlat (runLeft (stateFrom f) modeS modeAC memory draws noise output records)
+
+-- what each run call of a list answers and leaves, given state, prototypes and memory as the last call left them
+unfoldable pub flatRunsLeft : FlatState → List Float → List Float → List Float → List Lent → List FlatLeft
+flatRunsLeft f modeS modeAC memory [] = []
+flatRunsLeft f modeS modeAC memory (l ∷ ls) =
+    let r = flatRunLeft f modeS modeAC memory (l .draws) (l .noise) (l .output) (l .records) in
+    r ∷ flatRunsLeft (r .ran .state) modeS modeAC (r .memory) ls

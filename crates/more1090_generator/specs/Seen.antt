@@ -1,0 +1,28 @@
+-- What a caller in C sees of a run call: its answer, and the two lent buffers after it; of what the contract of `more1090_run` leaves, and of document 01's plain bench. Definitions only.
+use Prim.Native.Nat.{ℕ}
+use mathlib.Core.List.{List}
+use lib.Ieee.{Float}
+use lib.ListN.{getD}
+use Rattle.call_lists.specs.PlainBench as Bench
+use Rattle.running.specs.declared.State.{State}
+use Rattle.running.specs.Turns.{genOf}
+use Rattle.running.specs.Ended.{stopGiven}
+use Rattle.more1090_generator.specs.declared.FlatAnswer.{FlatAnswer}
+use Rattle.more1090_generator.specs.Answers.{stopNumber, FlatLeft}
+
+pub record FlatSeen : Type 0 where
+  pub answer : FlatAnswer
+  pub output : List Float
+  pub records : List ℕ
+
+unfoldable pub flatSeen : FlatLeft → FlatSeen
+flatSeen l = record { answer = l .ran .answer; output = l .output; records = l .records }
+
+-- the plain bench's answer: counts and stop, or document 01's number and values
+unfoldable pub benchAnswer : Bench.Answer → FlatAnswer
+benchAnswer (Bench.refused q) = record { taken = 0; samples = 0; noise = 0; records = 0; stop = 5; refusal = getD (Bench.numbers q) 0 0; value = getD (Bench.numbers q) 1 0; field = getD (Bench.numbers q) 2 0 }
+benchAnswer (Bench.ran taken samples noise records stop) = record { taken = taken; samples = samples; noise = noise; records = records; stop = stopNumber (stopGiven stop); refusal = 0; value = 0; field = 0 }
+
+module _ (s : State) (modeS modeAC : List Float) where
+  unfoldable pub benchSeen : Bench.Result (genOf s modeS modeAC) → FlatSeen
+  benchSeen r = record { answer = benchAnswer (r .answer); output = r .output; records = r .records }

@@ -1,0 +1,49 @@
+// Sums of taps over pulses: equal to their definitions, in specs/ of `filterbank`, on every input. Assumes nothing.
+ghost use mathlib.Core.Path.{_≡_};
+ghost use mathlib.Core.Bool.{cond};
+ghost use Prim.Native.Nat.{min};
+ghost use lib.ListN.{take};
+ghost use lib.Ieee.{binary32, add};
+ghost use Rattle.filterbank.specs.PulseSum.{late, lateSum};
+
+fn least(a: usize, b: usize) -> usize
+    ensures { λ r. ⌜ r ≡ min a b ⌝ }
+{
+    if a < b { a } else { b }
+}
+
+// The first `len` pulses laid six places late, so that a sum over them needs no tests of their places.
+pub fn lay_late(on: [bool; 240], len: usize) -> [bool; 252]
+    ensures { λ r. ⌜ r ≡ late (take len on) ⌝ }
+{
+    let n = least(len, 240);
+    let mut out = [false; 252];
+    let mut j: usize = 0;
+    while j < n {
+        out[j + 6] = on[j];
+        j = j + 1;
+    }
+    out
+}
+
+fn added(sum: f32, tap: f32, on: bool) -> f32
+    ensures { λ r. ⌜ r ≡ cond on (add binary32 sum tap) sum ⌝ }
+{
+    if on { sum + tap } else { sum }
+}
+
+// The sum of the taps at whose place there is a pulse.
+pub fn pulse_sum(taps: [f32; 7], laid: &[bool; 252], index: usize) -> f32
+    ensures { λ r. ⌜ r ≡ lateSum taps (now (laid .entry)) index ⌝ }
+{
+    if index >= 246 {
+        return 0.0;
+    }
+    let s0 = added(0.0, taps[0], laid[index + 6]);
+    let s1 = added(s0, taps[1], laid[index + 5]);
+    let s2 = added(s1, taps[2], laid[index + 4]);
+    let s3 = added(s2, taps[3], laid[index + 3]);
+    let s4 = added(s3, taps[4], laid[index + 2]);
+    let s5 = added(s4, taps[5], laid[index + 1]);
+    added(s5, taps[6], laid[index])
+}

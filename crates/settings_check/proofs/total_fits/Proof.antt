@@ -1,0 +1,19 @@
+-- `settings_check::total_fits` meets its contract. Assumes nothing.
+use borrow.Author.Needs.{needs}
+use Rattle.settings.specs.Accepted.{totalFits}
+use Rattle.settings_check.proofs.total_fits.Statement.{statement}
+use Rattle.settings_check.proofs.total_fits.Tie as tie
+
+finite-requires : tie.Need-finite-requires
+finite-requires c κs = search needs
+
+returns : tie.Need-returns
+unfolding totalFits
+returns c = simp (c .before .if1 .taken, ← c .finite .ensures)
+
+returns-2 : tie.Need-returns-2
+unfolding totalFits
+returns-2 c = simp (c .if1 .left)
+
+pub total-fits-spec : {M : Type 1} → statement M
+total-fits-spec = tie.close (tie.spec finite-requires returns returns-2)

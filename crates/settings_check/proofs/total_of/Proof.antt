@@ -1,0 +1,13 @@
+-- `settings_check::total_of` meets its contract. Assumes nothing.
+use mathlib.Core.Path.{refl}
+use Rattle.settings.specs.Accepted.{totalOf, sumFrom}
+use Rattle.settings.specs.Settings.{ratesOf}
+use Rattle.settings_check.proofs.total_of.Statement.{statement}
+use Rattle.settings_check.proofs.total_of.Tie as tie
+
+returns : tie.Need-returns
+unfolding totalOf sumFrom ratesOf
+returns c = refl
+
+pub total-of-spec : {M : Type 1} → statement M
+total-of-spec = tie.close (tie.spec returns)

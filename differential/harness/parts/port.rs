@@ -1,0 +1,255 @@
+//! The port's opening and run calls, through its C interface (`include/more1090_generator.h`).
+
+use crate::bench::{PROTOTYPE, WORKING_MEMORY};
+use crate::calls::{OPENING_MARK, OUTPUT_MARK, RECORDS_MARK};
+use crate::tape::*;
+
+/// The state, which only the port reads: 23 numbers of eight bytes.
+#[repr(C)]
+#[derive(Clone, Copy)]
+struct State([u64; 23]);
+
+#[repr(C)]
+struct Opened {
+    state: State,
+    refusal: u64,
+    value: u64,
+}
+
+#[repr(C)]
+struct Ran {
+    state: State,
+    taken: u64,
+    samples: u64,
+    noise: u64,
+    records: u64,
+    stop: u64,
+    refusal: u64,
+    value: u64,
+    field: u64,
+}
+
+unsafe extern "C" {
+    fn more1090_open(
+        settings: &[u8; SETTINGS_BYTES],
+        taps_s: *const f32,
+        taps_s_length: usize,
+        taps_ac: *const f32,
+        taps_ac_length: usize,
+        mode_s: *mut f32,
+        mode_s_length: usize,
+        mode_ac: *mut f32,
+        mode_ac_length: usize,
+        memory: *mut f32,
+        memory_length: usize,
+    ) -> Opened;
+    fn more1090_run(
+        state: State,
+        mode_s: *const f32,
+        mode_s_length: usize,
+        mode_ac: *const f32,
+        mode_ac_length: usize,
+        memory: *mut f32,
+        memory_length: usize,
+        draws: *const u8,
+        draws_length: usize,
+        noise: *const f32,
+        noise_length: usize,
+        output: *mut f32,
+        output_length: usize,
+        records: *mut u8,
+        records_length: usize,
+    ) -> Ran;
+}
+
+/// A run that the port opened, with the memory lent to it.
+pub struct Port {
+    state: State,
+    mode_s: Vec<f32>,
+    mode_ac: Vec<f32>,
+    memory: Vec<f32>,
+}
+
+/// What is lent to a call: so many f32 of working memory and of each prototype, draws, noise, output, records.
+struct Lent<'a> {
+    lengths: [usize; 3],
+    draws: &'a [u8],
+    noise: &'a [f32],
+    output: &'a mut [f32],
+    records: &'a mut [u8],
+}
+
+impl Port {
+    /// Opens a run on memory of those lengths, filled with marks.
+    fn open(settings: &[u8], taps_s: &[f32], taps_ac: &[f32], lengths: [usize; 3]) -> (Port, u64, u64) {
+        let [memory, mode_s, mode_ac] = lengths.map(|n| vec![OPENING_MARK; n]);
+        let mut p = Port {
+            state: State([0; 23]),
+            mode_s,
+            mode_ac,
+            memory,
+        };
+        let settings = settings.try_into().expect("119 bytes");
+        let opened = unsafe {
+            more1090_open(
+                settings,
+                taps_s.as_ptr(),
+                taps_s.len(),
+                taps_ac.as_ptr(),
+                taps_ac.len(),
+                p.mode_s.as_mut_ptr(),
+                p.mode_s.len(),
+                p.mode_ac.as_mut_ptr(),
+                p.mode_ac.len(),
+                p.memory.as_mut_ptr(),
+                p.memory.len(),
+            )
+        };
+        p.state = opened.state;
+        (p, opened.refusal, opened.value)
+    }
+
+    fn run(&mut self, l: Lent) -> Ran {
+        // A length asked for above what there is: more is lent, as marks.
+        let lend = |v: &mut Vec<f32>, n: usize| v.resize(n.max(v.len()), OPENING_MARK);
+        let whole = [self.memory.len(), self.mode_s.len(), self.mode_ac.len()];
+        lend(&mut self.memory, l.lengths[0]);
+        lend(&mut self.mode_s, l.lengths[1]);
+        lend(&mut self.mode_ac, l.lengths[2]);
+        let ran = unsafe {
+            more1090_run(
+                self.state,
+                self.mode_s.as_ptr(),
+                l.lengths[1],
+                self.mode_ac.as_ptr(),
+                l.lengths[2],
+                self.memory.as_mut_ptr(),
+                l.lengths[0],
+                l.draws.as_ptr(),
+                l.draws.len(),
+                l.noise.as_ptr(),
+                l.noise.len(),
+                l.output.as_mut_ptr(),
+                l.output.len(),
+                l.records.as_mut_ptr(),
+                l.records.len(),
+            )
+        };
+        self.memory.truncate(whole[0]);
+        self.mode_s.truncate(whole[1]);
+        self.mode_ac.truncate(whole[2]);
+        self.state = ran.state;
+        ran
+    }
+
+    /// Samples and records of a tape that the rules accept, lent so many samples of noise and output at a time.
+    pub fn run_whole(tape: &Tape, samples: usize) -> (Vec<f32>, Vec<u8>) {
+        let (taps_s, taps_ac) = tape.taps.split_at(MODE_S_TAPS);
+        let right = [WORKING_MEMORY, PROTOTYPE, PROTOTYPE];
+        let (mut p, _, _) = Port::open(&tape.settings.to_bytes(), taps_s, taps_ac, right);
+        let draws: Vec<u8> = tape.draws.iter().flat_map(draw_to_bytes).collect();
+        let mut all = (Vec::new(), Vec::new());
+        let (mut taken, mut used) = (0, 0);
+        loop {
+            let mut output = vec![OUTPUT_MARK; 2 * samples];
+            let mut records = vec![RECORDS_MARK; 10 * RECORD_BYTES];
+            let to = (used + 2 * samples).min(tape.noise.len());
+            let ran = p.run(Lent {
+                lengths: right,
+                draws: &draws[DRAW_BYTES * taken..],
+                noise: &tape.noise[used..to],
+                output: &mut output,
+                records: &mut records,
+            });
+            all.0.extend(&output[..2 * ran.samples as usize]);
+            all.1.extend(&records[..RECORD_BYTES * ran.records as usize]);
+            taken += ran.taken as usize;
+            used += ran.noise as usize;
+            // Done; or nothing goes on: what is missing shows in the comparison.
+            if ran.refusal != 0 || ran.stop == 0 || ran.taken + ran.samples == 0 {
+                return all;
+            }
+        }
+    }
+
+    /// The answers to a list of calls as `calls` writes it: for opening and each call six numbers, then the lent buffers.
+    pub fn answers(input: &[u8]) -> Vec<u8> {
+        let mut r = Reader { rest: input };
+        let settings = r.take(SETTINGS_BYTES);
+        let lengths = [r.count(), r.count(), r.count()];
+        let (s, ac) = (r.count(), r.count());
+        let (taps_s, taps_ac) = (floats(r.take(4 * s)), floats(r.take(4 * ac)));
+        let (mut p, refusal, value) = Port::open(settings, &taps_s, &taps_ac, lengths);
+        let mut b = Vec::new();
+        put_answer(&mut b, refusal, [value, 0], [0; 5]);
+        for list in [&p.mode_s, &p.mode_ac, &p.memory] {
+            put_floats(&mut b, list);
+        }
+        if refusal != 0 {
+            return b;
+        }
+        for _ in 0..r.count() {
+            p.call(&mut r, &mut b);
+        }
+        b
+    }
+
+    fn call(&mut self, r: &mut Reader, b: &mut Vec<u8>) {
+        let lengths = [r.count(), r.count(), r.count()];
+        let n = r.count();
+        let draws = r.take(n);
+        let n = r.count();
+        let noise = floats(r.take(4 * n));
+        let mut output = vec![OUTPUT_MARK; r.count()];
+        let mut records = vec![RECORDS_MARK; r.count()];
+        let ran = self.run(Lent {
+            lengths,
+            draws,
+            noise: &noise,
+            output: &mut output,
+            records: &mut records,
+        });
+        let counts = [ran.stop, ran.taken, ran.samples, ran.noise, ran.records];
+        put_answer(b, ran.refusal, [ran.value, ran.field], counts);
+        put_floats(b, &output);
+        b.extend(&records);
+    }
+}
+
+/// A refusal with its values, or a stop and the counts.
+fn put_answer(b: &mut Vec<u8>, refusal: u64, values: [u64; 2], counts: [u64; 5]) {
+    let held = match refusal {
+        2 | 4 | 8 => 1,
+        7 => 2,
+        _ => 0,
+    };
+    let words = match refusal {
+        0 => [0, counts[0], counts[1], counts[2], counts[3], counts[4]],
+        _ => [1, refusal, held, values[0], values[1], 0],
+    };
+    for w in words {
+        b.extend(w.to_le_bytes());
+    }
+}
+
+fn put_floats(b: &mut Vec<u8>, values: &[f32]) {
+    for x in values {
+        b.extend(x.to_le_bytes());
+    }
+}
+
+struct Reader<'a> {
+    rest: &'a [u8],
+}
+
+impl<'a> Reader<'a> {
+    fn take(&mut self, n: usize) -> &'a [u8] {
+        let (a, b) = self.rest.split_at(n);
+        self.rest = b;
+        a
+    }
+
+    fn count(&mut self) -> usize {
+        u32_at(self.take(4), 0) as usize
+    }
+}

@@ -1,0 +1,151 @@
+/* The reply generator for C and C++: opening a run, and run calls. Link libmore1090_generator.a and -lm (hosts/build).
+ *
+ * A run makes the samples of transponder replies at 8,000,000 a second, each a pair of floats, real part first, and a record
+ * of every reply. The caller lends everything: settings, filter taps, draws (one for each reply) and noise to read;
+ * prototypes, working memory, output and records to write. No call allocates, keeps a pointer, or reads or writes anything
+ * else; the same arguments give the same answer and the same bytes.
+ *
+ * What is said of each call here is proved of its source, for every input, refused ones too (crates/more1090_generator, and
+ * its proofs/Demand3.antt for lists of calls). Asked of the caller, since no proof can see it: a pointer is not NULL, also
+ * where its length is 0; it is aligned to its type, and good for its length; what a call writes overlaps with nothing else
+ * that is lent to it. Calls that share no memory may run at the same time.
+ *
+ * Lengths count values of the pointer's type: floats or bytes. Places and draws are counted from 0 in what is lent to that
+ * call. Settings, draws and records are packed and little-endian, as in document 01's tape:
+ *
+ * Settings, 119 bytes: seconds u64; nanoseconds u32; seven rates f64, by type, in replies a second; three distributions,
+ *   each a kind u8 and two numbers f64. Carrier offset: 0 constant (Hz, at most 4,000,000 in size), 1 normal with sigma and
+ *   max (Hz). Phase: 0 constant (radians), 1 uniform. Clock error: 0 constant (parts of one, at most 0.1 in size), 1 uniform
+ *   with a max.
+ * Types: 0 extended squitter, 1 acquisition squitter, 2 short with address parity, 3 all-call reply, 4 long with address
+ *   parity, 5 military extended squitter, 6 Mode A/C.
+ * Draw, 65 bytes, its fields: 0 gap f64, samples after the last draw, finite, not negative; 1 type u8, its rate above 0;
+ *   2 CN0 f64, finite, dB Hz, for the record alone; 3 amplitude f32, 0 to 2^20; 4 carrier f64, finite, times sigma; 5 phase
+ *   f64, from -PI to below PI; 6 clock f64, within max in size; 7 format, 8 capability: picks u8 from the type's lists;
+ *   9 overlay u8, 1 to 127 for type 3; 10 bytes u8[14]; 11 Mode A/C data u16, below 4096; 12 SPI u8, 0 or 1. Fields that a
+ *   type or a constant distribution does not use are ignored.
+ * Record, 66 bytes: time f64, samples; CN0 f64; carrier offset f64, Hz; phase f64, radians; clock error f64; first sample
+ *   u64; type u8; count of samples u16; message length u8; message u8[14], then zeros (Mode A/C: 2 bytes, low first, SPI as
+ *   bit 12). */
+#ifndef MORE1090_GENERATOR_H
+#define MORE1090_GENERATOR_H
+
+#include <stddef.h>
+#include <stdint.h>
+
+#ifdef __cplusplus
+extern "C" {
+#endif
+
+#define MORE1090_SETTINGS_BYTES 119
+#define MORE1090_MODE_S_TAPS 1486  /* floats: a lowpass at 512,000,000 taps a second */
+#define MORE1090_MODE_AC_TAPS 1515 /* floats: a lowpass at 512,000,000 * 1500 / 1450 taps a second */
+#define MORE1090_PROTOTYPE 1792    /* floats: each of the two prototypes */
+#define MORE1090_MEMORY 2252       /* floats: working memory */
+#define MORE1090_DRAW_BYTES 65
+#define MORE1090_RECORD_BYTES 66
+
+/* Refusals: document 01's numbers, with what `value` and `field` tell; they are 0 where nothing is said. */
+enum {
+    MORE1090_ACCEPTED = 0,
+    MORE1090_DURATION = 1,      /* nanoseconds 1,000,000,000 or more, or more than 2^52 samples */
+    MORE1090_RATE = 2,          /* a rate negative or not finite; value: the first such rate, 0 to 6 */
+    MORE1090_TOTAL_RATE = 3,    /* the rates' total is 0 or not finite */
+    MORE1090_DISTRIBUTION = 4,  /* an unknown kind, or a parameter out of range; value: 0 carrier, 1 phase, 2 clock */
+    MORE1090_TAPS = 5,          /* a filter of the wrong length, or a tap not finite or above 16 in size */
+    MORE1090_BAD_PROTOTYPE = 6, /* a prototype value not finite or above 16 in size, or no crossing of 0.5 */
+    MORE1090_BAD_DRAW = 7,      /* a field out of range; value: the first such draw, field: its first such field. Or a first
+                                 * draw that jumps back: its time is before `latest` of the state; value 0, field 0 */
+    MORE1090_NOISE = 8,         /* a noise value not finite or above 64 in size; value: its place */
+    MORE1090_LENT = 9           /* memory, a prototype, output (0 or odd) or draws (no multiple of 65) of a wrong length */
+};
+
+/* Why a run call came back. */
+enum {
+    MORE1090_DONE = 0,         /* every sample is written: the run is over, and further calls write nothing */
+    MORE1090_OUTPUT_FULL = 1,  /* lend output */
+    MORE1090_WANTS_NOISE = 2,  /* lend two noise values or more */
+    MORE1090_WANTS_DRAWS = 3,  /* lend draws; the one that would start within 1,094 samples of the end, or later, ends the run */
+    MORE1090_RECORDS_FULL = 4, /* lend 66 bytes or more of records */
+    MORE1090_REFUSED = 5
+};
+
+typedef struct more1090_distribution {
+    uint64_t kind; /* as in the settings */
+    double first;
+    double second;
+} more1090_distribution;
+
+/* A run between two calls: plain data with no pointers and no padding, to be copied, stored and taken up again, with the
+ * prototypes that opening filled and the working memory as the last call left it. Any bytes are taken: a kind or `ended`
+ * that is not 0 is read as 1, and a number that its kind does not use is ignored; such a state comes back with 1 and 0.0. */
+typedef struct more1090_state {
+    uint64_t written;    /* samples written so far */
+    uint64_t total;      /* samples of the run */
+    double time;         /* of the last draw taken, in samples */
+    double latest;       /* of a lent draw by whose start a sample was written, in samples: no first draw may precede it */
+    double rates[7];     /* replies a second, by type; in a run call it only matters whether each is above 0 */
+    double mode_s_delay; /* of the prototypes, in samples */
+    double mode_ac_delay;
+    more1090_distribution carrier;
+    more1090_distribution phase;
+    more1090_distribution clock;
+    uint64_t ended; /* 1 once the draw that ends the run is taken, else 0 */
+} more1090_state;
+
+typedef struct more1090_opened {
+    more1090_state state;
+    uint64_t refusal; /* 0, or 1 to 6, or 9 */
+    uint64_t value;
+} more1090_opened;
+
+typedef struct more1090_ran {
+    more1090_state state; /* for the next call */
+    uint64_t taken;       /* draws taken */
+    uint64_t samples;     /* samples written: 2 * samples floats */
+    uint64_t noise;       /* noise values used: 2 * samples */
+    uint64_t records;     /* records written: 66 * records bytes */
+    uint64_t stop;        /* 0 to 4, or 5 where refused */
+    uint64_t refusal;     /* 0, or 7 to 9 */
+    uint64_t value;
+    uint64_t field;
+} more1090_ran;
+
+/* Opens a run. Checks 9 (mode_s, mode_ac, memory), then 1 to 6, and answers the first that fails: state is then all zero,
+ * and nothing lent is changed. Else the refusal is 0, state is the run's before its first call, mode_s and mode_ac hold the
+ * prototypes and memory is all 0.0. Settings and taps are not needed any more. */
+more1090_opened more1090_open(const uint8_t *settings, /* 119 bytes */
+                              const float *taps_s, size_t taps_s_length,
+                              const float *taps_ac, size_t taps_ac_length,
+                              float *mode_s, size_t mode_s_length,
+                              float *mode_ac, size_t mode_ac_length,
+                              float *memory, size_t memory_length);
+
+/* A run call. Checks 9, then 7 of every draw, then 8 of every noise value, before any work, and answers the first that
+ * fails: counts are then 0, state is the one given, and nothing lent is changed. Else it takes draws and writes samples and
+ * records until one of the five stops; memory goes on to the next call, and output and records past what was written are
+ * unchanged. Sample n of the run is what the replies add there, in the order of their draws, plus noise values 2n and
+ * 2n + 1 times 2^-10, counted from the run's start; a record stands for each reply, in the order of the draws. (A draw that
+ * would start before sample 0 is taken and ignored, but its gap counts.) So lend the draws that were not taken and the noise
+ * that was not used again, ahead of new ones: how a run is cut into calls then changes no sample and no record. */
+more1090_ran more1090_run(more1090_state state,
+                          const float *mode_s, size_t mode_s_length,
+                          const float *mode_ac, size_t mode_ac_length,
+                          float *memory, size_t memory_length,
+                          const uint8_t *draws, size_t draws_length,
+                          const float *noise, size_t noise_length,
+                          float *output, size_t output_length,
+                          uint8_t *records, size_t records_length);
+
+#ifdef __cplusplus
+}
+#define MORE1090_ASSERT(holds) static_assert(holds, "layout")
+#else
+#define MORE1090_ASSERT(holds) _Static_assert(holds, "layout")
+#endif
+MORE1090_ASSERT(sizeof(more1090_state) == 184 && offsetof(more1090_state, ended) == 176);
+MORE1090_ASSERT(sizeof(more1090_opened) == 200 && offsetof(more1090_opened, refusal) == 184);
+MORE1090_ASSERT(sizeof(more1090_ran) == 248 && offsetof(more1090_ran, taken) == 184);
+#undef MORE1090_ASSERT
+
+#endif
