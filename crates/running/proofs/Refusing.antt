@@ -1,71 +1,24 @@
 -- The checks of a run call are the theory's, and each answer is what the definition gives. Assumes nothing.
-use mathlib.Core.Path.{_≡_, refl, sym, ap, subst, _∙_}
-use mathlib.Core.Bool.{Bool, true, false, cond, not, _||_, false≢true}
+use mathlib.Core.Path.{_≡_, refl, sym, ap, _∙_}
+use mathlib.Core.Bool.{Bool, true, false, cond, _||_, false≢true}
 use mathlib.Core.List.{List, [], _∷_}
-use mathlib.Core.Option.{Option, none, some}
-use Prim.Native.Nat.{ℕ, suc, _+_, _≤_, _<_}
-use native.Mathlib.Numerals.{add-one}
-use native.Mathlib.Omega.{arith}
-use lib.ListN.{length, getD, drop, length-drop}
-use lib.Seq.{drop-cons}
-use lib.Ieee.{Float, nan, binary32, ofBits}
+use mathlib.Core.Option.{Option, some}
+use Prim.Native.Nat.{ℕ, suc}
+use lib.ListN.{length}
+use lib.Ieee.{Float}
 use Rattle.call_lists.specs.Generator.{Generator}
 use Rattle.call_lists.specs.PlainBench as Bench
-use Rattle.float_bits.specs.Range.{within}
 use Rattle.draw.specs.declared.Fault as Fault
 use Rattle.refusals.specs.declared.Refusal as Refusal
 use Rattle.generator.specs.Real.{loud}
 use Rattle.running.specs.declared.State.{State}
-use Rattle.running.specs.declared.Loud as Loud
+use Rattle.noise_check.specs.declared.Loud as Loud
+use Rattle.noise_check.specs.Noise.{loudFrom, loudRead}
 use Rattle.running.specs.declared.Ran.{Ran}
 use Rattle.running.specs.Turns.{genOf}
 use Rattle.running.specs.Ended.{Left, callLeft}
 use Rattle.run_checks.specs.Checks.{wrongMemory, wrongBuffers, faultRead}
-use Rattle.running.specs.Calls.{loudFrom, loudRead, refusalGiven, refusedBy, runBy, callRefusal, runLeft}
-
--- ---- noise
-module _ (noise : List Float) (k : ℕ) where
-  abbrev v : Float
-  v = getD noise k nan
-
-  here : k < length noise → loudFrom k (drop k noise) ≡ cond (not (within v (ofBits binary32 0x4280_0000))) (some (Bench.wrongNoise k)) (loudFrom (k + 1) (drop (k + 1) noise))
-  unfolding loudFrom loud
-  here h =
-      ap (loudFrom k) (drop-cons noise k nan h)
-      ∙ ap (λ (n : ℕ). cond (not (within v (ofBits binary32 0x4280_0000))) (some (Bench.wrongNoise k)) (loudFrom n (drop n noise))) (sym (add-one k))
-
-  pub loud-at : k < length noise → within v (ofBits binary32 0x4280_0000) ≡ false → loudRead (Loud.the-variants.At k) ≡ loudFrom k (drop k noise)
-  unfolding loudRead
-  loud-at h e = sym (here h ∙ ap (λ (b : Bool). cond (not b) (some (Bench.wrongNoise k)) (loudFrom (k + 1) (drop (k + 1) noise))) e)
-
-  pub loud-on : k < length noise → within v (ofBits binary32 0x4280_0000) ≡ true → loudFrom (k + 1) (drop (k + 1) noise) ≡ loudFrom k (drop k noise)
-  loud-on h e = sym (here h ∙ ap (λ (b : Bool). cond (not b) (some (Bench.wrongNoise k)) (loudFrom (k + 1) (drop (k + 1) noise))) e)
-
-  pub loud-end : length noise ≤ k → loudRead Loud.the-variants.Quiet ≡ loudFrom k (drop k noise)
-  unfolding loudRead loudFrom
-  loud-end h = go (drop k noise) (omega (arith, length-drop k noise))
-    where
-      go : (l : List Float) → length l ≤ 0 → none ≡ loudFrom k l
-      go [] q = refl
-      go (x ∷ l) q = absurd (omega arith)
-
--- while all were quiet so far, a turn keeps the first fault of the rest
-pub quiet-on : (noise : List Float) (k : ℕ) (q q′ : Bool) → k < length noise → q′ ≡ cond (loud (getD noise k nan)) false q → cond q (loudFrom k (drop k noise)) none ≡ cond q (loudFrom 0 noise) none → cond q′ (loudFrom (k + 1) (drop (k + 1) noise)) none ≡ cond q′ (loudFrom 0 noise) none
-unfolding loud
-quiet-on noise k q q′ h e i = subst (λ (b : Bool). cond b (loudFrom (k + 1) (drop (k + 1) noise)) none ≡ cond b (loudFrom 0 noise) none) (sym e) (go (within (getD noise k nan) (ofBits binary32 0x4280_0000)) refl)
-  where
-    go : (w : Bool) → within (getD noise k nan) (ofBits binary32 0x4280_0000) ≡ w → cond (cond (not w) false q) (loudFrom (k + 1) (drop (k + 1) noise)) none ≡ cond (cond (not w) false q) (loudFrom 0 noise) none
-    go true t = ap (λ (o : Option Bench.Refusal). cond q o none) (loud-on noise k h t) ∙ i
-    go false t = refl
-
--- and at the end there is none
-pub quiet-end : (noise : List Float) (k : ℕ) (q : Bool) → length noise ≤ k → cond q (loudFrom k (drop k noise)) none ≡ cond q (loudFrom 0 noise) none → cond q (loudFrom 0 noise) none ≡ none
-unfolding loudRead
-quiet-end noise k q h i = sym i ∙ ap (λ (o : Option Bench.Refusal). cond q o none) (sym (loud-end noise k h)) ∙ same q
-  where
-    same : (b : Bool) → cond {A = Option Bench.Refusal} b none none ≡ none
-    same true = refl
-    same false = refl
+use Rattle.running.specs.Calls.{refusalGiven, refusedBy, runBy, callRefusal, runLeft}
 
 -- ---- refusal 9
 module _ {X : Type 0} (q : X) (x : Option X) where

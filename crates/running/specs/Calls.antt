@@ -1,29 +1,18 @@
 -- A run call, refused or not: its checks in document 01's order, and what it answers and leaves, by the theory of lists of calls. Definitions only.
-use Prim.Native.Nat.{ℕ, suc}
+use Prim.Native.Nat.{ℕ}
 use mathlib.Core.Bool.{cond}
-use mathlib.Core.List.{List, [], _∷_}
+use mathlib.Core.List.{List}
 use mathlib.Core.Option.{Option, none, some}
 use lib.ListN.{length}
 use lib.Ieee.{Float}
 use Rattle.call_lists.specs.PlainBench as Bench
 use Rattle.refusals.specs.declared.Refusal as Refusal
 use Rattle.run_checks.specs.Checks.{wrongMemory}
-use Rattle.generator.specs.Real.{loud}
 use Rattle.running.specs.declared.State.{State}
 use Rattle.running.specs.declared.Answer as Answer
-use Rattle.running.specs.declared.Loud as Loud
 use Rattle.running.specs.declared.Ran.{Ran}
 use Rattle.running.specs.Turns.{genOf}
 use Rattle.running.specs.Ended.{Left, callLeft}
-
--- the first noise value at fault, from place k on
-unfoldable pub loudFrom : ℕ → List Float → Option Bench.Refusal
-loudFrom k [] = none
-loudFrom k (v ∷ vs) = cond (loud v) (some (Bench.wrongNoise k)) (loudFrom (suc k) vs)
-
-unfoldable pub loudRead : Loud.Loud → Option Bench.Refusal
-loudRead Loud.the-variants.Quiet = none
-loudRead (Loud.the-variants.At place) = some (Bench.wrongNoise place)
 
 -- a refusal of the theory, as the code answers it: the same number and values
 unfoldable pub refusalGiven : Bench.Refusal → Refusal.Refusal

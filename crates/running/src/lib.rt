@@ -1,18 +1,17 @@
 // Run calls: the checks, and the turns, each a stop, samples that are due, or a draw. Each function is tied to the theory of lists of calls. Assumes nothing.
 ghost use mathlib.Core.Path.{_≡_};
-ghost use mathlib.Core.Bool.{false, cond};
-ghost use mathlib.Core.Option.{none};
+ghost use mathlib.Core.Bool.{cond};
 ghost use Prim.Native.Nat.{_+_, _*_, _≤_, _<_, _^_};
 ghost use lib.ListN.{length, take, drop};
 ghost use lib.Ieee.{lt, nan};
 ghost use Rattle.call_lists.specs.Buffers.{laid};
 ghost use Rattle.due_samples.specs.Due.{samplesOf, clearOf};
-ghost use Rattle.generator.specs.Real.{loud};
 ghost use Rattle.running.specs.Ended.{firstBy, ranBy, callLeft};
-ghost use Rattle.running.specs.Calls.{loudFrom, loudRead, refusedBy, runLeft};
+ghost use Rattle.running.specs.Calls.{refusedBy, runLeft};
 ghost use Rattle.running.specs.Turns.{Inside, wroteBy, tookBy, haltedBy, turnRead, restAfter, genOf, StepSays};
 use draw::Fault;
 use message_config::Delays;
+use noise_check::Loud;
 use refusals::Refusal;
 use run_plans::Plan;
 pub use run_plans::Stop;
@@ -267,61 +266,6 @@ fn steps(
     }
 }
 
-// The place of the first noise value at fault, or none.
-pub enum Loud {
-    Quiet,
-    At(u64),
-}
-
-// The size that noise may have.
-const LOUDEST: f32 = 64.0;
-
-// The first noise value at fault.
-fn first_loud(noise: &[f32]) -> Loud
-    ensures { λ r. ⌜ loudRead r ≡ loudFrom 0 (now (noise .entry)) ⌝ }
-{
-    let mut k: usize = 0;
-    while k < noise.len() {
-        if !float_range::within_f32(noise[k], LOUDEST) {
-            return Loud::At(k as u64);
-        }
-        k = k + 1;
-    }
-    Loud::Quiet
-}
-
-fn still_quiet(quiet: bool, x: f32) -> bool
-    ensures { λ r. ⌜ r ≡ cond (loud x) false quiet ⌝ }
-{
-    if float_range::within_f32(x, LOUDEST) {
-        return quiet;
-    }
-    false
-}
-
-// No noise value is at fault. Without an early exit the compiler can test several at once.
-fn all_quiet(noise: &[f32]) -> bool
-    ensures { λ r. ⌜ cond r (loudFrom 0 (now (noise .entry))) none ≡ none ⌝ }
-{
-    let mut quiet = true;
-    let mut k: usize = 0;
-    while k < noise.len() {
-        quiet = still_quiet(quiet, noise[k]);
-        k = k + 1;
-    }
-    quiet
-}
-
-// Refusal 8.
-fn check_noise(noise: &[f32]) -> Loud
-    ensures { λ r. ⌜ loudRead r ≡ loudFrom 0 (now (noise .entry)) ⌝ }
-{
-    if all_quiet(noise) {
-        return Loud::Quiet;
-    }
-    first_loud(noise)
-}
-
 fn refused(s: State, q: Refusal) -> Ran
     ensures { λ r. ⌜ r ≡ refusedBy s q ⌝ }
 {
@@ -365,7 +309,7 @@ pub fn run(
     if let Fault::At(k, n) = fault {
         return refused(s, Refusal::Draw(k, n));
     }
-    let loud = check_noise(noise);
+    let loud = noise_check::check_noise(noise);
     if let Loud::At(p) = loud {
         return refused(s, Refusal::Noise(p));
     }

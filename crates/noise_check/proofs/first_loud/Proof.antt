@@ -3,11 +3,11 @@ use mathlib.Core.Path.{_≡_, refl, sym, _∙_}
 use Prim.Native.Nat.{_-_, _≤_}
 use lib.ListN.{length, drop}
 use borrow.Author.Tests.{not-true, not-false}
-use Rattle.running.specs.Calls.{loudFrom}
-use Rattle.running.proofs.Refusing.{loud-at, loud-on, loud-end}
+use Rattle.noise_check.specs.Noise.{loudFrom}
+use Rattle.noise_check.proofs.Quiet.{loud-at, loud-on, loud-end}
 use borrow.Author.Needs.{needs}
-use Rattle.running.proofs.first_loud.Statement.{statement}
-use Rattle.running.proofs.first_loud.Tie as tie
+use Rattle.noise_check.proofs.first_loud.Statement.{statement}
+use Rattle.noise_check.proofs.first_loud.Tie as tie
 
 abbrev Inv-loop : tie.InvT-loop
 Inv-loop noise k₀ k = (k ≤ length noise) × (loudFrom k (drop k noise) ≡ loudFrom 0 noise)

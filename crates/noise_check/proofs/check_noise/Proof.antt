@@ -2,10 +2,10 @@
 use mathlib.Core.Path.{_≡_, sym, ap, _∙_}
 use mathlib.Core.Bool.{Bool, cond}
 use mathlib.Core.Option.{none}
-use Rattle.running.specs.Calls.{loudFrom, loudRead}
+use Rattle.noise_check.specs.Noise.{loudFrom, loudRead}
 use borrow.Author.Needs.{needs}
-use Rattle.running.proofs.check_noise.Statement.{statement}
-use Rattle.running.proofs.check_noise.Tie as tie
+use Rattle.noise_check.proofs.check_noise.Statement.{statement}
+use Rattle.noise_check.proofs.check_noise.Tie as tie
 
 all-quiet-requires : tie.Need-all-quiet-requires
 all-quiet-requires c κs = search needs

@@ -4,11 +4,11 @@ use mathlib.Core.Bool.{cond}
 use mathlib.Core.Option.{none}
 use Prim.Native.Nat.{_-_, _≤_}
 use lib.ListN.{length, drop}
-use Rattle.running.specs.Calls.{loudFrom}
-use Rattle.running.proofs.Refusing.{quiet-on, quiet-end}
+use Rattle.noise_check.specs.Noise.{loudFrom}
+use Rattle.noise_check.proofs.Quiet.{quiet-on, quiet-end}
 use borrow.Author.Needs.{needs}
-use Rattle.running.proofs.all_quiet.Statement.{statement}
-use Rattle.running.proofs.all_quiet.Tie as tie
+use Rattle.noise_check.proofs.all_quiet.Statement.{statement}
+use Rattle.noise_check.proofs.all_quiet.Tie as tie
 
 abbrev Inv-loop : tie.InvT-loop
 Inv-loop noise quiet₀ k₀ quiet k = (k ≤ length noise) × (cond quiet (loudFrom k (drop k noise)) none ≡ cond quiet (loudFrom 0 noise) none)
