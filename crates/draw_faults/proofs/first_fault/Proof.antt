@@ -33,7 +33,7 @@ returns c =
     let start = c .before .before .before .before .before .before .before .before in
     let l = c .before .before .before .before .before .before .loop in
     let e = c .before .before .before .field-fault .ensures ∙ ap (drawFault (start .args .rates) (start .args .all)) (c .before .before .before .before .read .ensures) in
-    cc (stops (start .args .rates) (start .args .all) (l .rest .now) (l .k) (c .before .before .before .before .before .loop-test .taken) _ (sym e ∙ c .before .f .given .1))
+    sym (stops (start .args .rates) (start .args .all) (l .rest .now) (l .k) (c .before .before .before .before .before .loop-test .taken) _ (sym e ∙ c .before .f .given .1)) ∙ l .inv .1
 
 enum-told : tie.Need-enum-told Inv-loop μ-loop
 enum-told c = search needs
@@ -59,11 +59,11 @@ loop-again c =
     let l = c .before .before .before .before .before .before .loop in
     let e = c .before .before .before .field-fault .ensures ∙ ap (drawFault (start .args .rates) (start .args .all)) (c .before .before .before .before .read .ensures) in (
       rw (part-is, length-drop) (omega arith),
-      rw part-is (cc (goes-on (start .args .rates) (start .args .all) (l .rest .now) (l .k) (c .before .before .before .before .before .loop-test .taken) (sym e ∙ c .before .enum-told .given .1))),
+      rw part-is (sym (goes-on (start .args .rates) (start .args .all) (l .rest .now) (l .k) (c .before .before .before .before .before .loop-test .taken) (sym e ∙ c .before .enum-told .given .1)) ∙ l .inv .1),
     )
 
 returns-2 : tie.Need-returns-2 Inv-loop μ-loop
-returns-2 c = cc (ends (c .before .before .before .args .rates) (c .before .before .before .args .all) (c .before .loop .rest .now) (c .before .loop .k) (c .loop-test .left))
+returns-2 c = sym (ends (c .before .before .before .args .rates) (c .before .before .before .args .all) (c .before .loop .rest .now) (c .before .loop .k) (c .loop-test .left)) ∙ c .before .loop .inv .1
 
 pub first-fault-spec : {M : Type 1} → statement M
 first-fault-spec =

@@ -13,7 +13,7 @@ phase-wrap-once-f64-requires : tie.Need-phase-wrap-once-f64-requires
 phase-wrap-once-f64-requires c κs = search needs
 
 returns : tie.Need-returns
-returns c = cc
+returns c = rw (c .phase-wrap-once-f64 .ensures, c .before .phase-wrap-f64 .ensures, c .before .before .sin-cos .ensures)
 
 pub port-phase-spec : {M : Type 1} → statement M
 port-phase-spec =

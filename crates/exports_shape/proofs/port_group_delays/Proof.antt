@@ -16,7 +16,8 @@ delay-number-requires-2 : tie.Need-delay-number-requires-2
 delay-number-requires-2 c κs = search needs
 
 returns : tie.Need-returns
-returns c = cc
+returns c =
+    rw (c .delay-number2 .ensures, c .before .mode-ac-group-delay .ensures, c .before .before .delay-number .ensures, c .before .before .before .group-delay .ensures)
 
 pub port-group-delays-spec : {M : Type 1} → statement M
 port-group-delays-spec =

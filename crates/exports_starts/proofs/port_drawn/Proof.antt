@@ -1,11 +1,5 @@
 -- `exports_starts::port_drawn` meets its contract. Assumes nothing.
-use mathlib.Core.Path.{_≡_, ap, _∙_}
-use mathlib.Core.List.{List, [], _∷_}
-use lib.Ieee.{Float}
-use Rattle.distributions.specs.declared.OffsetAnswer.{OffsetAnswer}
-use Rattle.distributions.specs.declared.PhaseAnswer.{PhaseAnswer}
-use Rattle.distributions.specs.declared.ClockAnswer.{ClockAnswer}
-use Rattle.exports_starts.specs.Drawn.{askedOf, offsetDrawn, phaseDrawn, errorDrawn}
+use Rattle.exports_starts.specs.Drawn.{askedOf}
 use borrow.Author.Needs.{needs}
 use Rattle.exports_starts.proofs.port_drawn.Statement.{statement}
 use Rattle.exports_starts.proofs.port_drawn.Tie as tie
@@ -28,17 +22,10 @@ clock-error-requires c κs = search needs
 error-drawn-requires : tie.Need-error-drawn-requires
 error-drawn-requires c κs = search needs
 
-three : (x y z x′ y′ z′ : Float) → x ≡ x′ → y ≡ y′ → z ≡ z′ → _≡_ {A = List Float} (x ∷ (y ∷ (z ∷ []))) (x′ ∷ (y′ ∷ (z′ ∷ [])))
-three x y z x′ y′ z′ p q r = rw (p, q, r)
-
 returns : tie.Need-returns
 unfolding askedOf
 returns c =
-    let a = c .before .before .before .before .before .before .args in
-    three _ _ _ _ _ _
-    (c .before .before .before .before .offset-drawn .ensures ∙ ap (λ (d : OffsetAnswer). offsetDrawn d (a .carrier)) (c .before .before .before .before .before .carrier-offset .ensures))
-    (c .before .before .phase-drawn .ensures ∙ ap (λ (d : PhaseAnswer). phaseDrawn d (a .phase)) (c .before .before .before .carrier-phase .ensures))
-    (c .error-drawn .ensures ∙ ap (λ (d : ClockAnswer). errorDrawn d (a .clock)) (c .before .clock-error .ensures))
+    rw (c .error-drawn .ensures, c .before .clock-error .ensures, c .before .before .phase-drawn .ensures, c .before .before .before .carrier-phase .ensures, c .before .before .before .before .offset-drawn .ensures, c .before .before .before .before .before .carrier-offset .ensures)
 
 pub port-drawn-spec : {M : Type 1} → statement M
 port-drawn-spec =

@@ -1,9 +1,10 @@
 -- `group_delay` meets its contract: the first crossing of what is left is that of the whole. Assumes nothing.
 use borrow.Author.Needs.{needs}
 use Prim.Native.Nat.{_≤_, _-_}
-use mathlib.Core.Path.{_≡_}
+use mathlib.Core.Path.{_≡_, sym, ap, _∙_}
 use lib.ListN.{length, drop}
 use Rattle.constants.specs.Rate.{four}
+use Rattle.pulse_shape.specs.declared.Crossing.the-variants.{At}
 use Rattle.pulse_shape.specs.GroupDelay.{delayFrom, groupDelay}
 use Rattle.pulse_shape.proofs.Turns.{delay-stop, delay-on, delay-end}
 use Rattle.group_delay.proofs.group_delay.Statement.{statement}
@@ -47,7 +48,9 @@ returns : tie.Need-returns Inv-loop μ-loop
 returns c =
     let l = c .before .before .before .before .before .before .loop in
     let a = c .before .before .before .before .before .before .before .before .args in
-    cc (delay-stop four (a .level) (a .prototype .now) (l .j) (c .before .before .before .before .before .loop-test .taken) (cc (c .before .if1 .taken)))
+    ap At (c .delay-at .ensures)
+    ∙ sym (delay-stop four (a .level) (a .prototype .now) (l .j) (c .before .before .before .before .before .loop-test .taken) (sym (c .before .before .crosses-level .ensures) ∙ c .before .if1 .taken))
+    ∙ l .inv .1
 
 add-j : tie.Need-add-j Inv-loop μ-loop
 add-j c = search needs
@@ -59,13 +62,13 @@ loop-again : tie.Need-loop-again Inv-loop μ-loop
 loop-again c =
     let l = c .before .before .before .before .before .loop in
     let a = c .before .before .before .before .before .before .before .args in
-    (search needs, cc (delay-on four (a .level) (a .prototype .now) (l .j) (c .before .before .before .before .loop-test .taken) (cc (c .if1 .left))))
+    (search needs, sym (delay-on four (a .level) (a .prototype .now) (l .j) (c .before .before .before .before .loop-test .taken) (sym (c .before .crosses-level .ensures) ∙ c .if1 .left)) ∙ l .inv .1)
 
 returns-2 : tie.Need-returns-2 Inv-loop μ-loop
 returns-2 c =
     let l = c .before .loop in
     let a = c .before .before .before .args in
-    cc (delay-end four (a .level) (a .prototype .now) (l .j) (c .loop-test .left))
+    sym (delay-end four (a .level) (a .prototype .now) (l .j) (c .loop-test .left)) ∙ l .inv .1
 
 pub group-delay-spec : {M : Type 1} → statement M
 group-delay-spec =

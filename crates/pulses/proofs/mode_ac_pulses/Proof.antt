@@ -65,13 +65,13 @@ returns : tie.Need-returns Inv-loop μ-loop
 returns c =
     let l = c .before .before .loop in
     let a = c .before .before .before .args in
-    cc (whole-spi (a .«data») (a .spi) (l .on) (cc (end (a .«data») (l .n) (l .on) (c .before .loop-test .left))) (c .if2 .taken))
+    whole-spi (a .«data») (a .spi) (l .on) (sym (end (a .«data») (l .n) (l .on) (c .before .loop-test .left)) ∙ l .inv .2) (c .if2 .taken)
 
 returns-2 : tie.Need-returns-2 Inv-loop μ-loop
 returns-2 c =
     let l = c .before .before .loop in
     let a = c .before .before .before .args in
-    cc (whole (a .«data») (a .spi) (l .on) (cc (end (a .«data») (l .n) (l .on) (c .before .loop-test .left))) (c .if2 .left))
+    whole (a .«data») (a .spi) (l .on) (sym (end (a .«data») (l .n) (l .on) (c .before .loop-test .left)) ∙ l .inv .2) (c .if2 .left)
 
 pub mode-ac-pulses-spec : {M : Type 1} → statement M
 mode-ac-pulses-spec =

@@ -1,9 +1,10 @@
 -- `pulses::mode_s_pulses` meets its contract: at every turn, marking what is left gives what marking all gives. Assumes nothing.
-use mathlib.Core.Path.{_≡_, refl}
-use Prim.Native.Nat.{_-_, _≤_}
+use mathlib.Core.Path.{_≡_, refl, sym, ap, _∙_}
+use Prim.Native.Nat.{ℕ, _+_, _-_, _*_, _≤_}
 use native.Mathlib.Nat.{sub-zero}
-use lib.ListN.{length}
-use Rattle.pulses.specs.ModeS.{bitOf, bitPlaces, modeSLength}
+use mathlib.Core.Bool.{true}
+use lib.ListN.{length, set}
+use Rattle.pulses.specs.ModeS.{bitOf, pairPlace, bitPlaces, modeSLength}
 use Rattle.pulses.proofs.Marked.{mark}
 use Rattle.pulses.proofs.ModeSTurns.{pair-place, turn, end, preambled, whole}
 use borrow.Author.Needs.{needs}
@@ -71,7 +72,9 @@ loop-again c =
     let bits = c .before .before .before .num-bits .result in (
       search needs,
       search needs,
-      cc (turn bytes bits (l .n) (l .on) (c .before .loop-test .taken), pair-place (l .n) (c .bit .result) (search needs)),
+      ap (λ (p : ℕ). mark (bitPlaces bytes (bits - (l .n + 1)) (l .n + 1)) (set (l .on) p true)) (sym (pair-place (l .n) (c .bit .result) (search needs)) ∙ ap (pairPlace (l .n)) (c .bit .ensures .0))
+          ∙ turn bytes bits (l .n) (l .on) (c .before .loop-test .taken)
+          ∙ l .inv .2,
     )
 
 mul-len : tie.Need-mul-len Inv-loop μ-loop
@@ -87,8 +90,8 @@ returns c =
     let a = c .before .before .before .args in
     let bits = c .before .before .num-bits .result in
     whole (a .t1) (a .long) (l .on) _
-    (cc (end (a .t1) bits (l .n) (l .on) (c .loop-test .left)))
-    (cc)
+    (sym (end (a .t1) bits (l .n) (l .on) (c .loop-test .left)) ∙ l .inv .2 ∙ ap (λ (n : ℕ). mark (bitPlaces (a .t1) n 0) preambled) (c .before .before .num-bits .ensures .0))
+    (ap (λ (n : ℕ). 16 + 2 * n) (c .before .before .num-bits .ensures .0))
 
 pub mode-s-pulses-spec : {M : Type 1} → statement M
 mode-s-pulses-spec =

@@ -31,7 +31,7 @@ returns : tie.Need-returns Inv-loop μ-loop
 returns c =
     let l = c .before .before .before .before .loop in
     let v = c .before .before .before .before .before .before .args .values .now in
-    cc (within-stop v (l .j) (c .before .before .before .loop-test .taken) (sym (c .before .within-16 .ensures) ∙ not-true _ (c .if1 .taken)))
+    sym (within-stop v (l .j) (c .before .before .before .loop-test .taken) (sym (c .before .within-16 .ensures) ∙ not-true _ (c .if1 .taken))) ∙ l .inv .1
 
 add-j : tie.Need-add-j Inv-loop μ-loop
 add-j c = search needs
@@ -43,12 +43,12 @@ loop-again : tie.Need-loop-again Inv-loop μ-loop
 loop-again c =
     let l = c .before .before .before .before .loop in
     let v = c .before .before .before .before .before .before .args .values .now in
-    (search needs, cc (within-on v (l .j) (c .before .before .before .loop-test .taken) (sym (c .before .within-16 .ensures) ∙ not-false _ (c .if1 .left))))
+    (search needs, sym (within-on v (l .j) (c .before .before .before .loop-test .taken) (sym (c .before .within-16 .ensures) ∙ not-false _ (c .if1 .left))) ∙ l .inv .1)
 
 returns-2 : tie.Need-returns-2 Inv-loop μ-loop
 returns-2 c =
     let l = c .before .loop in
-    cc (within-end (c .before .before .before .args .values .now) (l .j) (c .loop-test .left))
+    sym (within-end (c .before .before .before .args .values .now) (l .j) (c .loop-test .left)) ∙ l .inv .1
 
 pub all-within-16-spec : {M : Type 1} → statement M
 all-within-16-spec =
