@@ -10,6 +10,9 @@ use loads::Load;
 /// Samples in a run call of the port, and in a batch of the Rust.
 const CALLS: [usize; 3] = [64, 4_096, 65_536];
 
+/// The Rust has its own sine, as published, and not document 01's.
+const OWN_SINE: bool = cfg!(own_sine);
+
 /// Replies a second.
 const RATES: [f64; 3] = [0.0, 4_000.0, 40_000.0];
 
@@ -47,10 +50,11 @@ fn clock() -> f64 {
     t.seconds as f64 + 1e-9 * t.nanoseconds as f64
 }
 
-fn seconds(f: impl FnOnce()) -> f64 {
+/// What f gives, and how long it took.
+pub fn timed<T>(f: impl FnOnce() -> T) -> (T, f64) {
     let begin = clock();
-    f();
-    clock() - begin
+    let given = f();
+    (given, clock() - begin)
 }
 
 fn median(mut times: Vec<f64>) -> f64 {
@@ -58,18 +62,18 @@ fn median(mut times: Vec<f64>) -> f64 {
     times[times.len() / 2]
 }
 
-/// The medians of both, each run in turn.
-fn both(turns: usize, mut one: impl FnMut(), mut other: impl FnMut()) -> [f64; 2] {
+/// The medians of two times, each taken in turn.
+fn both(turns: usize, mut one: impl FnMut() -> f64, mut other: impl FnMut() -> f64) -> [f64; 2] {
     let (mut a, mut b) = (Vec::new(), Vec::new());
     for _ in 0..turns {
-        a.push(seconds(&mut one));
-        b.push(seconds(&mut other));
+        a.push(one());
+        b.push(other());
     }
     [median(a), median(b)]
 }
 
 fn compare(load: &Load, call: usize) {
-    let [a, b] = [theirs::run(load, call, true), ours::run(load, call, true)];
+    let [a, b] = [theirs::run(load, call, true).0, ours::run(load, call, true).0];
     if a != b {
         println!("{} replies a second, calls of {call}: the Rust gave {a:x?}, the port {b:x?}", load.rate);
         std::process::exit(1);
@@ -83,10 +87,14 @@ fn number(words: &[String], at: usize, otherwise: usize) -> usize {
 fn main() {
     let words: Vec<String> = std::env::args().collect();
     let (length, turns) = (number(&words, 1, 10), number(&words, 2, 5));
-    println!("{length} s of signal at 8 million samples a second; processor time, medians of {turns} runs, the two in turn; ns a sample.");
-    println!("The samples and the number of records are the same bit for bit. A call of the port writes so many samples;");
-    println!("the Rust's batch is of the same size. It copies 1,094 samples for each batch, so the last column has the");
-    println!("port against the Rust at its best, batches of {}.", CALLS[2]);
+    println!("{length} s of signal at 8 million samples a second: processor time in ns a sample, medians of {turns} runs,");
+    println!("the two in turn, opening apart. A call of the port writes so many samples; the Rust's batch is of the same size.");
+    println!("The Rust copies 1,094 samples for each batch, so the last column has the port against its best batch.");
+    if OWN_SINE {
+        println!("The Rust has its own sin_cos here, so that samples differ by 2^-23 and are not compared.");
+    } else {
+        println!("Both have document 01's sine, and the samples and the number of records are the same, bit for bit.");
+    }
     println!();
     println!("replies/s   call    Rust    port   ratio   to best");
     for rate in RATES {
@@ -94,13 +102,14 @@ fn main() {
         let per = 1e9 / load.samples() as f64;
         let mut rows = Vec::new();
         for call in CALLS {
-            compare(&load, call);
-            let times = both(
+            if !OWN_SINE {
+                compare(&load, call);
+            }
+            rows.push(both(
                 turns,
-                || drop(theirs::run(&load, call, false)),
-                || drop(ours::run(&load, call, false)),
-            );
-            rows.push(times);
+                || theirs::run(&load, call, false).1,
+                || ours::run(&load, call, false).1,
+            ));
         }
         let best = rows.iter().map(|r| r[0]).fold(f64::INFINITY, f64::min);
         for (call, [a, b]) in CALLS.iter().zip(rows) {
@@ -108,6 +117,6 @@ fn main() {
         }
     }
     let load = Load::new(RATES[1], 1);
-    let [a, b] = both(101, || theirs::open(&load), || ours::open(&load));
+    let [a, b] = both(101, || timed(|| theirs::open(&load)).1, || timed(|| ours::open(&load)).1);
     println!("\nopening, in microseconds: Rust {:.0}, port {:.0}, ratio {:.2}", a * 1e6, b * 1e6, b / a);
 }

@@ -1,7 +1,7 @@
 //! The port, as a host calls it: opening, and run calls lent draws, noise and output in parts.
 
 use crate::loads::{Load, MODE_S_TAPS};
-use crate::{Given, summed};
+use crate::{Given, summed, timed};
 use lent::NOISE;
 use std::hint::black_box;
 
@@ -132,10 +132,15 @@ impl Run {
     }
 }
 
-/// A run in calls of so many samples. A call is lent the draws that it is likely to take, one more, and noise for its
-/// output; where it wants draws before its output is full, it is called again for the rest.
-pub fn run(load: &Load, call: usize, check: bool) -> Given {
+/// What a run gives in calls of so many samples, and how long it took from opening on.
+pub fn run(load: &Load, call: usize, check: bool) -> (Given, f64) {
     let mut run = opened(load);
+    timed(|| calls(&mut run, load, call, check))
+}
+
+/// A call is lent the draws that it is likely to take, one more, and noise for its output; where it wants draws before its
+/// output is full, it is called again for the rest.
+fn calls(run: &mut Run, load: &Load, call: usize, check: bool) -> Given {
     let mut given = Given::default();
     let window = 65 * (2 + (1.1 * call as f64 * load.rate / 8e6) as usize);
     let mut output = vec![0.0; 2 * call];

@@ -1,7 +1,7 @@
 //! The published Rust: `Simulation::run` with the draws, taps and noise of a load.
 
 use crate::loads::{CARRIER_MAX, CARRIER_SIGMA, CLOCK_MAX, Load};
-use crate::{Given, summed};
+use crate::{Given, summed, timed};
 use num::complex::Complex32;
 use reference::io::WriteComplex32;
 use reference::simulation::distributions::*;
@@ -58,21 +58,23 @@ pub fn open(load: &Load) {
     black_box(pulse_shape::mode_s_group_delay());
 }
 
-pub fn run(load: &Load, batch: usize, check: bool) -> Given {
+/// What a run gives, and how long it took from opening on.
+pub fn run(load: &Load, batch: usize, check: bool) -> (Given, f64) {
     open(load);
     lent::lend(load.draws, load.noise);
+    let simulation = simulation(load, batch);
     let mut writer = Writer {
         check,
         given: Given::default(),
     };
     let mut records = 0;
-    simulation(load, batch)
-        .run(&mut rand::rngs::Xoshiro256PlusPlus::new(), &mut writer, |m| {
+    let (ended, time) = timed(|| {
+        simulation.run(&mut rand::rngs::Xoshiro256PlusPlus::new(), &mut writer, |m| {
             black_box(m);
             records += 1;
             Ok(())
         })
-        .ok()
-        .unwrap();
-    Given { records, ..writer.given }
+    });
+    assert!(ended.is_ok(), "the Rust refused the run");
+    (Given { records, ..writer.given }, time)
 }

@@ -98,9 +98,12 @@ pub fn taps(count: usize) -> Vec<f32> {
     }
 }
 
-/// Document 01's sine and cosine of p, which the compiler may inline.
+/// Document 01's sine and cosine of p, which the compiler may inline; or the published program's own.
 #[inline]
 pub fn sin_cos(p: f64) -> (f64, f64) {
+    if cfg!(own_sine) {
+        return p.sin_cos();
+    }
     use std::f64::consts::PI;
     const H: f64 = PI / 2.0;
     let (r, q) = if p < -1.5 * H {

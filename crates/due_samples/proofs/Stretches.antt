@@ -1,29 +1,24 @@
--- The two loops: a number of a stretch more (`Going`), and a stretch more (`Writing`). Assumes nothing.
+-- The loops: a number of a stretch more (`mix-next`, `clear-next`), and a stretch more (`Writing`). Assumes nothing.
 use mathlib.Core.List.{List, [], _∷_, _++_}
 use mathlib.Core.Path.{_≡_, refl, sym, ap, _∙_}
 use Prim.Native.Nat.{ℕ, _+_, _-_, _*_, _/_, _%_, _≤_, _<_, min}
 use native.Mathlib.Nat.{mod-lt}
 use native.Mathlib.Numerals.{add-one}
 use native.Mathlib.Omega.{arith}
-use lib.ListN.{length, getD, set, take, drop, length-set, length-drop, take-append-drop}
+use lib.ListN.{length, getD, set, take, drop, length-set, length-drop, length-replicate, take-append-drop}
 use lib.Seq.{drop-drop, length-take-le}
 use Rattle.call_lists.specs.PlainBench.{pairs, flatten}
 use Rattle.call_lists.specs.Batch.{written, cleared}
 use Rattle.call_lists.proofs.Batch.{length-written}
 use lib.Ieee.{Float, nan, binary32, ofBits, add, mul}
 use Rattle.call_lists.specs.Buffers.{laid}
-use Rattle.call_lists.proofs.FlatLists.{laid-laid, length-flatten, length-pairs}
+use Rattle.call_lists.proofs.FlatLists.{laid-beyond, laid-laid, length-flatten, length-pairs}
 use Rattle.call_lists.proofs.Stretch.{stretch-output, stretch-memory, place-wraps, written-more, cleared-laid}
 use Rattle.draw_times.proofs.FloatLaws.{scale-bits, nought-bits}
+use Rattle.draw_times.specs.FloatGenerator.{nought}
 use Rattle.due_samples.specs.Due.{gen, mix, zeros, samplesOf, clearOf}
 
-pub record Going (m₀ noise out₀ : List Float) (p from at len : ℕ) (m out : List Float) (i : ℕ) : Type 0 where
-  pub some : i ≤ len
-  pub same-memory : length m ≡ length m₀
-  pub same-output : length out ≡ length out₀
-  pub output : out ≡ laid at (mix (drop p m₀) (take i (drop from noise))) out₀
-  pub memory : m ≡ laid p (zeros i) m₀
-
+-- ---- a stretch: no number, one number more
 no-mix : (xs : List Float) → mix xs [] ≡ []
 no-mix [] = refl
 no-mix (x ∷ xs) = refl
@@ -31,38 +26,39 @@ no-mix (x ∷ xs) = refl
 none-laid : (at : ℕ) (b : List Float) → laid at [] b ≡ b
 none-laid at b = ap (λ (n : ℕ). take at b ++ drop n b) {x = at + 0} {y = at} (omega arith) ∙ take-append-drop at b
 
-pub first : (m noise out : List Float) (p from at len : ℕ) → Going m noise out p from at len m out 0
-first m noise out p from at len = record {
-  some = omega arith;
-  same-memory = refl;
-  same-output = refl;
-  output = sym (ap (λ (l : List Float). laid at l out) (no-mix (drop p m)) ∙ none-laid at out);
-  memory = sym (none-laid p m);
-}
+pub mix-first : (m noise out : List Float) (p from at : ℕ) → out ≡ laid at (mix (drop p m) (take 0 (drop from noise))) out
+mix-first m noise out p from at = sym (ap (λ (l : List Float). laid at l out) (no-mix (drop p m)) ∙ none-laid at out)
 
-pub next : (m₀ noise out₀ : List Float) (p from at len : ℕ) (m out : List Float) (i : ℕ)
-    → p + len ≤ length m₀ → from + len ≤ length noise → at + len ≤ length out₀ → i < len
-    → Going m₀ noise out₀ p from at len m out i
-    → Going m₀ noise out₀ p from at len (set m (p + i) (ofBits binary32 0)) (set out (at + i) (add binary32 (getD m (p + i) nan) (mul binary32 (getD noise (from + i) nan) (ofBits binary32 0x3a80_0000)))) (i + 1)
-next m₀ noise out₀ p from at len m out i a b c lt g = record {
-  some = omega arith;
-  same-memory = length-set m (p + i) (ofBits binary32 0) ∙ g .same-memory;
-  same-output = length-set out (at + i) (add binary32 (getD m (p + i) nan) (mul binary32 (getD noise (from + i) nan) (ofBits binary32 0x3a80_0000))) ∙ g .same-output;
-  output =
-      (λ j. set (g .output j) (at + i) (add binary32 (getD (g .memory j) (p + i) nan) (mul binary32 (getD noise (from + i) nan) (scale-bits j))))
-      ∙ stretch-output gen nan m₀ noise out₀ p from at i (omega arith) (omega arith) (omega arith)
-      ∙ ap (λ (n : ℕ). laid at (mix (drop p m₀) (take n (drop from noise))) out₀) (sym (add-one i));
-  memory =
-      (λ j. set (g .memory j) (p + i) (nought-bits .0 j))
-      ∙ stretch-memory gen nan m₀ noise out₀ p from at i (omega arith) (omega arith) (omega arith)
-      ∙ ap (λ (n : ℕ). laid p (zeros n) m₀) (sym (add-one i));
-}
+pub clear-first : (m : List Float) (p : ℕ) → m ≡ laid p (zeros 0) m
+clear-first m p = sym (none-laid p m)
 
-pub end : (m₀ noise out₀ : List Float) (p from at len : ℕ) (m out : List Float) (i : ℕ) → len ≤ i → Going m₀ noise out₀ p from at len m out i
-    → (out ≡ laid at (mix (drop p m₀) (take len (drop from noise))) out₀) × (m ≡ laid p (zeros len) m₀)
-end m₀ noise out₀ p from at len m out i h g =
-    let e : i ≡ len = omega (arith, g .some) in
-    (g .output ∙ ap (λ (n : ℕ). laid at (mix (drop p m₀) (take n (drop from noise))) out₀) e, g .memory ∙ ap (λ (n : ℕ). laid p (zeros n) m₀) e)
+module _ (m : List Float) (p i : ℕ) (in-memory : p + i < length m) where
+  -- what was not cleared yet stands as it was
+  read : getD (laid p (zeros i) m) (p + i) nan ≡ getD m (p + i) nan
+  read =
+      ap (λ (k : ℕ). getD (laid p (zeros i) m) k nan) {x = p + i} {y = p + i + 0} (omega arith)
+      ∙ laid-beyond p i 0 (zeros i) m nan (length-replicate i nought) (omega arith)
+      ∙ ap (λ (k : ℕ). getD m k nan) {x = p + i + 0} {y = p + i} (omega arith)
+
+  pub mix-next : (noise out₀ out : List Float) (from at : ℕ) → from + i < length noise → at + i < length out₀ → out ≡ laid at (mix (drop p m) (take i (drop from noise))) out₀
+      → set out (at + i) (add binary32 (getD m (p + i) nan) (mul binary32 (getD noise (from + i) nan) (ofBits binary32 0x3a80_0000))) ≡ laid at (mix (drop p m) (take (i + 1) (drop from noise))) out₀
+  mix-next noise out₀ out from at b c e =
+      (λ j. set (e j) (at + i) (add binary32 (sym read j) (mul binary32 (getD noise (from + i) nan) (scale-bits j))))
+      ∙ stretch-output gen nan m noise out₀ p from at i in-memory b c
+      ∙ ap (λ (n : ℕ). laid at (mix (drop p m) (take n (drop from noise))) out₀) (sym (add-one i))
+
+  pub clear-next : (m′ : List Float) → m′ ≡ laid p (zeros i) m → set m′ (p + i) (ofBits binary32 0) ≡ laid p (zeros (i + 1)) m
+  clear-next m′ e =
+      (λ j. set (e j) (p + i) (nought-bits .0 j))
+      ∙ stretch-memory gen nan m m m p p p i in-memory in-memory in-memory
+      ∙ ap (λ (n : ℕ). laid p (zeros n) m) (sym (add-one i))
+
+-- and at the end all of them
+pub all-mixed : (m noise out₀ out : List Float) (p from at i len : ℕ) → i ≤ len → len ≤ i → out ≡ laid at (mix (drop p m) (take i (drop from noise))) out₀ → out ≡ laid at (mix (drop p m) (take len (drop from noise))) out₀
+all-mixed m noise out₀ out p from at i len h g e = e ∙ ap (λ (n : ℕ). laid at (mix (drop p m) (take n (drop from noise))) out₀) {x = i} {y = len} (omega arith)
+
+pub all-cleared : (m m′ : List Float) (p i len : ℕ) → i ≤ len → len ≤ i → m′ ≡ laid p (zeros i) m → m′ ≡ laid p (zeros len) m
+all-cleared m m′ p i len h g e = e ∙ ap (λ (n : ℕ). laid p (zeros n) m) {x = i} {y = len} (omega arith)
 
 -- after k samples, the rest in stretches
 pub record Writing (m₀ noise out₀ : List Float) (w from at values : ℕ) (m out : List Float) (p done : ℕ) : Type 0 where

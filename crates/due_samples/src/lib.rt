@@ -5,7 +5,39 @@ ghost use lib.ListN.{length, drop, take};
 ghost use Rattle.call_lists.specs.Buffers.{laid};
 ghost use Rattle.due_samples.specs.Due.{mix, zeros, samplesOf, clearOf, fitsOf, Lent, dueOf};
 
-// Writes a stretch of the memory with its noise, and clears it.
+// Writes a stretch of the memory with its noise.
+fn mix_stretch(
+    memory: &[f32],
+    noise: &[f32],
+    output: &mut [f32],
+    p: usize,
+    from: usize,
+    at: usize,
+    len: usize,
+)
+    requires { ⌜ (p + len ≤ length (now memory)) × (from + len ≤ length (now noise)) × (at + len ≤ length (now output)) ⌝ }
+    ensures { λ _. ⌜ now (output .exit) ≡ laid at (mix (drop p (now (memory .entry))) (take len (drop from (now (noise .entry))))) (now (output .entry)) ⌝ }
+{
+    let mut i: usize = 0;
+    while i < len {
+        output[at + i] = memory[p + i] + noise[from + i] * 0.0009765625;
+        i = i + 1;
+    }
+}
+
+// Clears a stretch of the memory.
+fn clear_stretch(memory: &mut [f32], p: usize, len: usize)
+    requires { ⌜ p + len ≤ length (now memory) ⌝ }
+    ensures { λ _. ⌜ now (memory .exit) ≡ laid p (zeros len) (now (memory .entry)) ⌝ }
+{
+    let mut i: usize = 0;
+    while i < len {
+        memory[p + i] = 0.0;
+        i = i + 1;
+    }
+}
+
+// Writes a stretch of the memory with its noise, and clears it: by two loops, so that the clearing is one call of `memset`.
 fn stretch(
     memory: &mut [f32],
     noise: &[f32],
@@ -18,12 +50,8 @@ fn stretch(
     requires { ⌜ (p + len ≤ length (now memory)) × (from + len ≤ length (now noise)) × (at + len ≤ length (now output)) ⌝ }
     ensures { λ _. ⌜ (now (output .exit) ≡ laid at (mix (drop p (now (memory .entry))) (take len (drop from (now (noise .entry))))) (now (output .entry))) × (now (memory .exit) ≡ laid p (zeros len) (now (memory .entry))) ⌝ }
 {
-    let mut i: usize = 0;
-    while i < len {
-        output[at + i] = memory[p + i] + noise[from + i] * 0.0009765625;
-        memory[p + i] = 0.0;
-        i = i + 1;
-    }
+    mix_stretch(memory, noise, output, p, from, at, len);
+    clear_stretch(memory, p, len);
 }
 
 fn least(a: usize, b: usize) -> usize

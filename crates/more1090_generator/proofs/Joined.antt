@@ -13,7 +13,7 @@ use Rattle.settings.specs.declared.Distributions.{Distributions}
 use Rattle.opening.specs.declared.Opened as Opened
 use Rattle.opening.specs.Opening as Opening
 use Rattle.running.specs.declared.State.{State}
-use Rattle.running.specs.declared.Stop.{Stop}
+use Rattle.run_plans.specs.declared.Stop.{Stop}
 use Rattle.running.specs.declared.Counts.{Counts}
 use Rattle.running.specs.declared.Answer as Answer
 use Rattle.running.specs.declared.Ran.{Ran}
