@@ -8,10 +8,10 @@ use native.Mathlib.Numerals.{add-one}
 use lib.Dec.{eqb}
 use lib.ListN.{length, getD, take, drop, length-append, length-drop}
 use lib.Seq.{take-all, drop-drop, length-take-le}
-use borrow.Author.Tests.{le-leb, eq-eqb, ne-eqb}
+use borrow.Author.Tests.{eq-eqb, ne-eqb}
 use Rattle.io.specs.Digits.{digits, Fewest}
-use Rattle.le_bytes.specs.LeBytes.{leAt, numberAt, laid, inside}
-use Rattle.le_bytes.proofs.Decided.{read-there}
+use Rattle.le_bytes.specs.LeBytes.{leAt, numberAt, laid}
+use Rattle.settings.proofs.Inside.{number-there}
 use Rattle.record.proofs.Laid.{none-laid}
 use Rattle.tape_text.specs.Text.{digitsOf, number, hex, hexLine, messageOf, lineOf, linesOf, header, samplesWord, refusedWord, runText, refusedText, Put}
 use Rattle.tape_text.proofs.Puts.{then-put, put-length, length-hex}
@@ -60,9 +60,6 @@ mode-s-put r {n = n} {w = w} l h v m p =
     ∙ sym (ap (λ (b : Bool). cond b (getD r 53 0 ∷ getD r 52 0 ∷ []) (take (min (getD r 51 0) 14) (drop 52 r))) (ne-eqb (getD r 48 0) 6 h)))
     (omega (arith, length-take-le n (take (length r - 52) (drop 52 r)) (omega (arith, ap length q, length-drop 52 r))))
     p
-
-number-there : (n : ℕ) (s : List ℕ) (at : ℕ) → at + n ≤ length s → numberAt n s at ≡ leAt n s at
-number-there n s at h = read-there n s at (sym (le-leb (at + n) (length s) h)) (λ v. v) 0 refl
 
 pub line-put : (r : List ℕ) {s d₁ d₂ d₃ d₄ : List ℕ} {at a b c e x y z : ℕ} → 66 ≤ length r → at + 92 ≤ length s → x ≡ numberAt 8 r 40 → y ≡ getD r 48 0 → z ≡ numberAt 2 r 49
     → Put (number x 32) s at d₁ a × (a ≤ at + 21) → Put (number y 32) d₁ a d₂ b × (b ≤ a + 21) → Put (number z 32) d₂ b d₃ c × (c ≤ b + 21) → Put (hexLine (messageOf r)) d₃ c d₄ e × (e ≤ c + 29)
