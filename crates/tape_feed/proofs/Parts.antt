@@ -7,7 +7,7 @@ use native.Mathlib.Nat.{le-div-iff-mul-le, div-lt-iff-lt-mul, mul-comm}
 use native.Mathlib.Omega.{arith}
 use lib.Dec.{leb}
 use lib.ListN.{length, take, drop, length-drop}
-use lib.Seq.{take-all, drop-nil, drop-drop, drop-length}
+use lib.Seq.{take-all, take-at, drop-nil, drop-drop, drop-length}
 use lib.Ieee.{Float}
 use borrow.Author.Tests.{leb-true, leb-false}
 use Rattle.refusals.specs.declared.Refusal as Refusal
@@ -15,8 +15,10 @@ use Rattle.running.specs.declared.Ran.{Ran}
 use Rattle.running.specs.declared.Stop as Stop
 use Rattle.running.specs.declared.Answer as Answer
 use Rattle.running.specs.Calls.{runLeft}
+use Rattle.tape_floats.specs.Floats.{floatsOf}
+use Rattle.tape_floats.proofs.Rows.{length-floats}
 use Rattle.tape_feed.specs.declared.Feed.{Feed}
-use Rattle.tape_feed.specs.Feeding.{Fed, feedAfter, fedAfter, calledOf, fedThen, fedOf, answerThen, verdictOf}
+use Rattle.tape_feed.specs.Feeding.{Fed, feedAfter, fedAfter, calledOf, fedThen, fedOf, noiseOf, rowAfter, answerThen, verdictOf}
 
 -- ---- places
 pub inside-place : (k size len : ℕ) → 0 < size → k ≤ len / size → size * k ≤ len
@@ -82,3 +84,12 @@ module _ (modeS modeAC : List Float) (draws : List ℕ) (noise : List Float) (d 
 pub not-short : (over : Bool) (answer : Answer.Answer) {short : Bool} {r : ℕ} → short ≡ false → r ≡ answerThen over answer → r ≡ verdictOf short answer over
 unfolding verdictOf
 not-short over answer e p = p ∙ sym (ap (λ (b : Bool). cond b 11 (answerThen over answer)) e)
+
+-- ---- noise as bytes
+pub row-read : (bytes : List ℕ) (row t : List Float) {n : ℕ} → n ≡ min (length bytes / 4) (length row) → t ≡ floatsOf n bytes ++ drop n row → (take n t ≡ noiseOf bytes (length row)) × (t ≡ rowAfter bytes row)
+unfolding noiseOf rowAfter
+row-read bytes row t {n} e p =
+    (ap (take n) p ∙ take-at (floatsOf n bytes) (drop n row) n (length-floats n bytes) ∙ ap (λ (k : ℕ). floatsOf k bytes) e, p ∙ ap (λ (k : ℕ). floatsOf k bytes ++ drop k row) e)
+
+pub fed-with : (modeS modeAC : List Float) (draws : List ℕ) (d : Fed) {x y : List Float} {r : Fed} → x ≡ y → r ≡ fedOf modeS modeAC draws x d → r ≡ fedOf modeS modeAC draws y d
+fed-with modeS modeAC draws d e p = p ∙ ap (λ (z : List Float). fedOf modeS modeAC draws z d) e

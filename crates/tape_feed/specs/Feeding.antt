@@ -1,8 +1,8 @@
 -- A run that is fed its noise chunk by chunk: each chunk is a run call, lent the draws that are not taken and the room behind the records written. Definitions only.
-use Prim.Native.Nat.{ℕ, _+_, _*_, _%_, _^_}
+use Prim.Native.Nat.{ℕ, _+_, _*_, _/_, _%_, _^_, min}
 use mathlib.Core.Bool.{Bool, cond}
 use mathlib.Core.List.{List, [], _∷_, _++_}
-use lib.ListN.{take, drop}
+use lib.ListN.{length, take, drop}
 use lib.Ieee.{Float}
 use Rattle.refusals.specs.Number.{numberOf}
 use Rattle.running.specs.declared.State.{State}
@@ -11,6 +11,7 @@ use Rattle.running.specs.declared.Answer as Answer
 use Rattle.running.specs.declared.Ran.{Ran}
 use Rattle.running.specs.Ended.{Left}
 use Rattle.running.specs.Calls.{runLeft}
+use Rattle.tape_floats.specs.Floats.{floatsOf}
 use Rattle.tape_feed.specs.declared.Feed.{Feed}
 
 -- a run that nothing has been fed: no draw taken, no record written
@@ -50,6 +51,13 @@ module _ (modeS modeAC : List Float) (draws : List ℕ) (noise : List Float) whe
   -- the run after a chunk of noise
   unfoldable pub fedOf : Fed → Fed
   fedOf d = fedThen d (d .feed .answer)
+
+-- the noise values in bytes, as many as there is room for; and the row that they are put into
+unfoldable pub noiseOf : List ℕ → ℕ → List Float
+noiseOf bytes room = floatsOf (min (length bytes / 4) room) bytes
+
+unfoldable pub rowAfter : List ℕ → List Float → List Float
+rowAfter bytes row = noiseOf bytes (length row) ++ drop (min (length bytes / 4) (length row)) row
 
 -- the verdict on a tape whose noise is read: a refusal's number, or 0. "noise value by value to the last, used or not; then a run not Done, then bytes left over"; and a section's length before its values
 unfoldable pub stopThen : Bool → Stop.Stop → ℕ

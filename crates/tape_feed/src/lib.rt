@@ -3,7 +3,7 @@ ghost use mathlib.Core.Path.{_≡_};
 ghost use Prim.Native.Nat.{_*_, _≤_, _<_, min};
 ghost use lib.ListN.{length};
 ghost use mathlib.Core.Bool.{cond};
-ghost use Rattle.tape_feed.specs.Feeding.{startOf, feedAfter, calledOf, fedOf, stopThen, verdictOf};
+ghost use Rattle.tape_feed.specs.Feeding.{startOf, feedAfter, calledOf, fedOf, noiseOf, rowAfter, stopThen, verdictOf};
 use running::Answer;
 use running::Ran;
 use running::State;
@@ -102,6 +102,34 @@ pub fn feed_noise(
         Answer::Refused(_) => f,
         Answer::Stopped(_) => call(f, mode_s, mode_ac, memory, draws, noise, output, records),
     }
+}
+
+// The same, the noise as bytes; the values are put into a lent row, as many as it has room for.
+pub fn feed_bytes(
+    f: Feed,
+    mode_s: &[f32],
+    mode_ac: &[f32],
+    memory: &mut [f32],
+    draws: &[u8],
+    bytes: &[u8],
+    row: &mut [f32],
+    output: &mut [f32],
+    records: &mut [u8],
+) -> Feed
+    ensures { λ r. ⌜ record { feed = r; memory = now (memory .exit); output = now (output .exit); records = now (records .exit) } ≡ fedOf (now («mode_s» .entry)) (now («mode_ac» .entry)) (now (draws .entry)) (noiseOf (now (bytes .entry)) (length (now (row .entry)))) (record { feed = f; memory = now (memory .entry); output = now (output .entry); records = now (records .entry) }) ⌝ }
+    ensures { λ r. ⌜ now (row .exit) ≡ rowAfter (now (bytes .entry)) (now (row .entry)) ⌝ }
+{
+    let n = tape_floats::floats(bytes, row);
+    feed_noise(
+        f,
+        mode_s,
+        mode_ac,
+        memory,
+        draws,
+        &row[..n],
+        output,
+        records,
+    )
 }
 
 fn left_over(over: bool) -> u64

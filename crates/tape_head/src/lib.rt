@@ -174,6 +174,7 @@ pub fn head(tape: &[u8], mode_s: &mut [f32], mode_ac: &mut [f32], memory: &mut [
 // How many bytes of a tape stand before its noise, as its first 12,135 say.
 pub fn head_length(tape: &[u8]) -> usize
     ensures { λ r. ⌜ r ≡ headLength four (now (tape .entry)) ⌝ }
+    ensures { λ r. ⌜ (12135 ≤ r) × (r ≤ 38139) ⌝ }
 {
     match section(tape, 12131, 0, 400, 0) {
         Counted::Of(n) => 12139 + 65 * n as usize,

@@ -9,6 +9,7 @@ use lib.Dec.{eqb}
 use lib.ListN.{length, getD, take, drop, length-append, length-drop}
 use lib.Seq.{take-all, drop-drop, length-take-le}
 use borrow.Author.Tests.{eq-eqb, ne-eqb}
+use Rattle.io.specs.Counts.{Counts}
 use Rattle.io.specs.Digits.{digits, Fewest}
 use Rattle.le_bytes.specs.LeBytes.{leAt, numberAt, laid}
 use Rattle.settings.proofs.Inside.{number-there}
@@ -124,24 +125,32 @@ module _ (records : List ℕ) (n : ℕ) (s : List ℕ) (at : ℕ) where
       subst (λ (m : ℕ). Put (linesOf m records) s at out end × (end ≤ at + 92 * m)) e (g .text, g .bound)
 
 -- text put at the start of a buffer
-whole : {text s d : List ℕ} {r : ℕ} → Put text s 0 d r → (r ≡ length text) × (d ≡ laid s 0 text)
-whole p = (omega (arith, p .ends), p .held)
+abbrev pub Whole : List ℕ → List ℕ → List ℕ → ℕ → Type 0
+Whole text s d r = ((r ≡ length text) × (d ≡ laid s 0 text)) × Counts r d
 
-pub refused-put : (n : ℕ) {word s d e : List ℕ} {a b x : ℕ} → 40960 ≤ length s → word ≡ refusedWord → x ≡ 10 → Put word s 0 d a → Put (number n x) d a e b × (b ≤ a + 21)
-    → (b ≡ length (refusedText n)) × (e ≡ laid s 0 (refusedText n))
+whole : {text s d : List ℕ} {r : ℕ} → length text ≤ length s → Put text s 0 d r → Whole text s d r
+whole {text} {s} {d} {r} h p =
+    let e : r ≡ length text = omega (arith, p .ends) in
+    let l : length d ≡ length s = put-length (omega arith) p in
+    let g : r ≤ length d = omega arith in
+    ((e, p .held), (g, sym (length-take-le r d g)))
+
+pub refused-put : (n : ℕ) {word s d e : List ℕ} {a b x : ℕ} → 40960 ≤ length s → word ≡ refusedWord → x ≡ 10 → Put word s 0 d a → Put (number n x) d a e b × (b ≤ a + 21) → Whole (refusedText n) s e b
 unfolding refusedText
 refused-put n {s = s} {d} {e} {a} {b} h w z p q =
     let p′ : Put refusedWord s 0 d a = subst (λ (l : List ℕ). Put l s 0 d a) w p in
-    whole (then-put (omega arith) p′ (subst (λ (y : ℕ). Put (number n y) d a e b) z (q .0)))
+    let both = then-put (omega arith) p′ (subst (λ (y : ℕ). Put (number n y) d a e b) z (q .0)) in
+    whole (omega (arith, both .ends, p′ .ends, q .1)) both
 
-pub run-put : (records : List ℕ) (samples : ℕ) {s d₁ d₂ d₃ d₄ : List ℕ} {a b c e n x : ℕ} → 40960 ≤ length s → n ≡ min (length records / 66) 400 → x ≡ 10 → Put header s 0 d₁ a → Put (linesOf n records) d₁ a d₂ b × (b ≤ a + 92 * n)
-    → Put samplesWord d₂ b d₃ c → Put (number samples x) d₃ c d₄ e × (e ≤ c + 21) → (e ≡ length (runText records samples)) × (d₄ ≡ laid s 0 (runText records samples))
+pub run-put : (records : List ℕ) (count samples : ℕ) {s d₁ d₂ d₃ d₄ : List ℕ} {a b c e m n x : ℕ} → 40960 ≤ length s → m ≡ min (length records / 66) 400 → n ≡ min count m → x ≡ 10 → Put header s 0 d₁ a
+    → Put (linesOf n records) d₁ a d₂ b × (b ≤ a + 92 * n) → Put samplesWord d₂ b d₃ c → Put (number samples x) d₃ c d₄ e × (e ≤ c + 21) → Whole (runText records count samples) s d₄ e
 unfolding runText
-run-put records samples {s} {d₁} {d₂} {d₃} {d₄} {a} {b} {c} {e} {n} h m z p q t u =
-    let q′ : Put (linesOf (min (length records / 66) 400) records) d₁ a d₂ b = subst (λ (k : ℕ). Put (linesOf k records) d₁ a d₂ b) m (q .0) in
+run-put records count samples {s} {d₁} {d₂} {d₃} {d₄} {a} {b} {c} {e} {m} {n} h k l z p q t u =
+    let q′ : Put (linesOf (min count (min (length records / 66) 400)) records) d₁ a d₂ b = subst (λ (i : ℕ). Put (linesOf i records) d₁ a d₂ b) (l ∙ ap (min count) k) (q .0) in
     let low : n ≤ 400 = omega arith in
     let p0 = p .ends in
     let t0 = t .ends in
     let one = then-put (omega arith) p q′ in
     let two = then-put (omega (arith, one .ends, q .1)) one t in
-    whole (then-put (omega (arith, two .ends, q .1)) two (subst (λ (y : ℕ). Put (number samples y) d₃ c d₄ e) z (u .0)))
+    let all = then-put (omega (arith, two .ends, q .1)) two (subst (λ (y : ℕ). Put (number samples y) d₃ c d₄ e) z (u .0)) in
+    whole (omega (arith, all .ends, q .1, u .1)) all

@@ -53,9 +53,9 @@ samplesWord = 115 ∷ 97 ∷ 109 ∷ 112 ∷ 108 ∷ 101 ∷ 115 ∷ 32 ∷ []
 abbrev pub refusedWord : List ℕ
 refusedWord = 114 ∷ 101 ∷ 102 ∷ 117 ∷ 115 ∷ 101 ∷ 100 ∷ 32 ∷ []
 
--- of a run, with its records, up to 400 of 66 bytes, and the samples written
-unfoldable pub runText : List ℕ → ℕ → List ℕ
-runText records samples = header ++ linesOf (min (length records / 66) 400) records ++ samplesWord ++ number samples 10
+-- of a run, with its records, so many of 66 bytes (no more than there are, nor than 400), and the samples written
+unfoldable pub runText : List ℕ → ℕ → ℕ → List ℕ
+runText records count samples = header ++ linesOf (min count (min (length records / 66) 400)) records ++ samplesWord ++ number samples 10
 
 -- of a refusal, with its number
 unfoldable pub refusedText : ℕ → List ℕ

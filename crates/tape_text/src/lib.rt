@@ -3,6 +3,7 @@ ghost use mathlib.Core.Path.{_≡_};
 ghost use Prim.Native.Nat.{_+_, _*_, _/_, _≤_, _<_, min};
 ghost use lib.ListN.{length, getD, take};
 ghost use mathlib.Core.List.{_∷_, []};
+ghost use Rattle.io.specs.Counts.{Counts};
 ghost use Rattle.le_bytes.specs.LeBytes.{laid};
 ghost use Rattle.tape_text.specs.Text.{number, hexDigit, hex, hexLine, messageOf, lineOf, linesOf, runText, refusedText, Put};
 
@@ -133,11 +134,12 @@ fn put_lines(records: &[u8], n: usize, out: &mut [u8], at: usize) -> usize
     end
 }
 
-// What is printed of a run with its records; its length.
-pub fn run_text(records: &[u8], samples: u64, out: &mut [u8; 40960]) -> usize
-    ensures { λ r. ⌜ (r ≡ length (runText (now (records .entry)) samples)) × (now (out .exit) ≡ laid (now (out .entry)) 0 (runText (now (records .entry)) samples)) ⌝ }
+// What is printed of a run with its records, so many of them; its length.
+pub fn run_text(records: &[u8], count: usize, samples: u64, out: &mut [u8; 40960]) -> usize
+    ensures { λ r. ⌜ (r ≡ length (runText (now (records .entry)) count samples)) × (now (out .exit) ≡ laid (now (out .entry)) 0 (runText (now (records .entry)) count samples)) ⌝ }
+    ensures { λ r. ⌜ Counts r (now (out .exit)) ⌝ }
 {
-    let n = least(records.len() / 66, 400);
+    let n = least(count, least(records.len() / 66, 400));
     let a = put_bytes(b"first type count message\n", out, 0);
     let b = put_lines(records, n, out, a);
     let c = put_bytes(b"samples ", out, b);
@@ -147,6 +149,7 @@ pub fn run_text(records: &[u8], samples: u64, out: &mut [u8; 40960]) -> usize
 // What is printed of a refusal with its number; its length.
 pub fn refused_text(refusal: u64, out: &mut [u8; 40960]) -> usize
     ensures { λ r. ⌜ (r ≡ length (refusedText refusal)) × (now (out .exit) ≡ laid (now (out .entry)) 0 (refusedText refusal)) ⌝ }
+    ensures { λ r. ⌜ Counts r (now (out .exit)) ⌝ }
 {
     let a = put_bytes(b"refused ", out, 0);
     put_number(refusal, 10, out, a)

@@ -21,10 +21,12 @@ enum-told : tie.Need-enum-told
 enum-told c = search needs
 
 returns : tie.Need-returns
-returns c = length-counted _ (c .before .before .before .section .ensures) (c .before .n .given .1) (search needs)
+returns c =
+    let t = counted _ _ _ _ _ _ (c .before .before .before .section .ensures) (c .before .n .given .1) in
+    (length-counted _ (c .before .before .before .section .ensures) (c .before .n .given .1) (search needs), (search needs, omega (arith, t .1)))
 
 returns-2 : tie.Need-returns-2
-returns-2 c = length-wrong _ (c .before .before .section .ensures) (c .enum-told .given .1) (search needs)
+returns-2 c = (length-wrong _ (c .before .before .section .ensures) (c .enum-told .given .1) (search needs), (search needs, search needs))
 
 pub head-length-spec : {M : Type 1} → statement M
 head-length-spec =
