@@ -1,0 +1,240 @@
+// The tape program: a tape on standard input; a header, a line for each record and the samples written on standard output, or `refused` and a number.
+// What it says is worked out by tape_head, tape_feed and tape_text; here bytes are read and written. Assumes nothing but the kit's io and libc.
+ghost use mathlib.Core.Path.{_≡_};
+ghost use Prim.Native.Nat.{_-_, _≤_, min};
+ghost use lib.ListN.{length};
+ghost use Rattle.io.specs.Counts.{Counts};
+use libc::STDIN_FILENO;
+use libc::STDOUT_FILENO;
+use running::State;
+use tape_feed::Feed;
+use tape_head::Beginning;
+
+// A run so far, and whether the noise section was short.
+pub struct Fed {
+    pub feed: Feed,
+    pub short: bool,
+}
+
+fn least(a: u64, b: u64) -> u64
+    ensures { λ r. ⌜ r ≡ min a b ⌝ }
+{
+    if a < b { a } else { b }
+}
+
+fn print_refused(number: u64) {
+    let mut text = [0u8; 40960];
+    let n = tape_text::refused_text(number, &mut text);
+    io::write_all(STDOUT_FILENO, &text[..n]);
+}
+
+fn print_run(records: &[u8], count: usize, samples: u64) {
+    let mut text = [0u8; 40960];
+    let n = tape_text::run_text(records, count, samples, &mut text);
+    io::write_all(STDOUT_FILENO, &text[..n]);
+}
+
+// Bytes are left over.
+fn left_over() -> bool {
+    let mut b = [0u8; 1];
+    0 < io::read_full(STDIN_FILENO, &mut b)
+}
+
+// As many noise values as the bytes have room for, read and fed to the run.
+fn chunk(
+    f: Feed,
+    mode_s: &[f32],
+    mode_ac: &[f32],
+    memory: &mut [f32],
+    draws: &[u8],
+    bytes: &mut [u8],
+    row: &mut [f32],
+    output: &mut [f32],
+    records: &mut [u8],
+) -> Fed {
+    let got = io::read_full(STDIN_FILENO, bytes);
+    if got < bytes.len() {
+        return Fed {
+            feed: f,
+            short: true,
+        };
+    }
+    let g = tape_feed::feed_bytes(
+        f,
+        mode_s,
+        mode_ac,
+        memory,
+        draws,
+        bytes,
+        row,
+        output,
+        records,
+    );
+    Fed {
+        feed: g,
+        short: false,
+    }
+}
+
+// The next so many noise values.
+fn turn(
+    f: Feed,
+    want: u64,
+    mode_s: &[f32],
+    mode_ac: &[f32],
+    memory: &mut [f32],
+    draws: &[u8],
+    bytes: &mut [u8],
+    row: &mut [f32],
+    output: &mut [f32],
+    records: &mut [u8],
+) -> Fed
+    requires { ⌜ (want ≤ 16384) × (65536 ≤ length (now bytes)) ⌝ }
+{
+    let size = 4 * want as usize;
+    chunk(
+        f,
+        mode_s,
+        mode_ac,
+        memory,
+        draws,
+        &mut bytes[..size],
+        row,
+        output,
+        records,
+    )
+}
+
+// The values left after so many; none once the section was short.
+fn left_after(left: u64, want: u64, short: bool) -> u64
+    ensures { λ r. ⌜ r ≤ left - want ⌝ }
+{
+    if short {
+        return 0;
+    }
+    if left < want {
+        return 0;
+    }
+    left - want
+}
+
+// The noise section of so many values, in chunks of up to 16,384; first none, so that a run of no samples is done.
+fn noise_section(
+    count: u64,
+    first: Feed,
+    mode_s: &[f32],
+    mode_ac: &[f32],
+    memory: &mut [f32],
+    draws: &[u8],
+    bytes: &mut [u8],
+    row: &mut [f32],
+    output: &mut [f32],
+    records: &mut [u8],
+) -> Fed
+    requires { ⌜ 65536 ≤ length (now bytes) ⌝ }
+{
+    let mut f = turn(
+        first,
+        0,
+        mode_s,
+        mode_ac,
+        memory,
+        draws,
+        bytes,
+        row,
+        output,
+        records,
+    );
+    let mut left = count;
+    while 0 < left {
+        let want = least(left, 16384);
+        let g = f.feed;
+        f = turn(
+            g,
+            want,
+            mode_s,
+            mode_ac,
+            memory,
+            draws,
+            bytes,
+            row,
+            output,
+            records,
+        );
+        left = left_after(left, want, f.short);
+    }
+    f
+}
+
+fn finish(f: Fed, records: &[u8]) {
+    let g = f.feed;
+    let answer = g.answer;
+    let state = g.state;
+    let count = g.records;
+    let n = tape_feed::verdict(f.short, answer, left_over());
+    if n == 0 {
+        print_run(records, count, state.written);
+    } else {
+        print_refused(n);
+    }
+}
+
+// A run with n draws and so many noise values.
+fn run(
+    state: State,
+    n: u64,
+    count: u64,
+    head: &[u8],
+    mode_s: &[f32],
+    mode_ac: &[f32],
+    memory: &mut [f32],
+)
+    requires { ⌜ (n ≤ 400) × (38139 ≤ length (now head)) ⌝ }
+{
+    let end = 12135 + 65 * n as usize;
+    let mut bytes = [0u8; 65536];
+    let mut row = [0.0f32; 16384];
+    let mut output = [0.0f32; 16386];
+    let mut records = [0u8; 26400];
+    let f = noise_section(
+        count,
+        tape_feed::start(state),
+        mode_s,
+        mode_ac,
+        memory,
+        &head[12135..end],
+        &mut bytes,
+        &mut row,
+        &mut output,
+        &mut records,
+    );
+    finish(f, &records);
+}
+
+// The bytes of a tape up to its noise; how many there are.
+fn read_head(bytes: &mut [u8]) -> usize
+    requires { ⌜ 38139 ≤ length (now bytes) ⌝ }
+    ensures { λ r. ⌜ Counts r (now (bytes .exit)) ⌝ }
+{
+    let got = io::read_full(STDIN_FILENO, &mut bytes[..12135]);
+    if got < 12135 {
+        return got;
+    }
+    let want = tape_head::head_length(bytes);
+    let more = io::read_full(STDIN_FILENO, &mut bytes[12135..want]);
+    12135 + more
+}
+
+fn main() {
+    let mut bytes = [0u8; 38139];
+    let got = read_head(&mut bytes);
+    let mut mode_s = [0.0f32; 1792];
+    let mut mode_ac = [0.0f32; 1792];
+    let mut memory = [0.0f32; 2252];
+    match tape_head::head(&bytes[..got], &mut mode_s, &mut mode_ac, &mut memory) {
+        Beginning::Refused(number) => print_refused(number),
+        Beginning::Run(state, n, count) => {
+            run(state, n, count, &bytes, &mode_s, &mode_ac, &mut memory)
+        }
+    }
+}

@@ -1,0 +1,95 @@
+-- The parts that a call is lent are the rest of the draws and of the room, and what it leaves joins the records (`called`); and the joints of a verdict. Assumes nothing.
+use Prim.Native.Nat.{ℕ, _+_, _-_, _*_, _/_, _≤_, _<_, min}
+use mathlib.Core.Path.{_≡_, refl, sym, ap, _∙_}
+use mathlib.Core.Bool.{Bool, true, false, cond}
+use mathlib.Core.List.{List, [], _++_, append-nil}
+use native.Mathlib.Nat.{le-div-iff-mul-le, div-lt-iff-lt-mul, mul-comm}
+use native.Mathlib.Omega.{arith}
+use lib.Dec.{leb}
+use lib.ListN.{length, take, drop, length-drop}
+use lib.Seq.{take-all, take-at, drop-nil, drop-drop, drop-length}
+use lib.Ieee.{Float}
+use borrow.Author.Tests.{leb-true, leb-false}
+use Rattle.refusals.specs.declared.Refusal as Refusal
+use Rattle.running.specs.declared.Ran.{Ran}
+use Rattle.running.specs.declared.Stop as Stop
+use Rattle.running.specs.declared.Answer as Answer
+use Rattle.running.specs.Calls.{runLeft}
+use Rattle.tape_floats.specs.Floats.{floatsOf}
+use Rattle.tape_floats.proofs.Rows.{length-floats}
+use Rattle.tape_feed.specs.declared.Feed.{Feed}
+use Rattle.tape_feed.specs.Feeding.{Fed, feedAfter, fedAfter, calledOf, fedThen, fedOf, noiseOf, rowAfter, answerThen, verdictOf}
+
+-- ---- places
+pub inside-place : (k size len : ℕ) → 0 < size → k ≤ len / size → size * k ≤ len
+inside-place k size len h g = let p : k * size ≤ len = le-div-iff-mul-le h .0 g in omega (arith, mul-comm k size)
+
+pub past-place : (k size len : ℕ) → 0 < size → len / size < k → len ≤ size * k
+past-place k size len h g = let p : len < k * size = div-lt-iff-lt-mul h .0 g in omega (arith, mul-comm k size)
+
+module _ {A : Type 0} where
+  drop-past : (n : ℕ) (l : List A) → length l ≤ n → drop n l ≡ []
+  drop-past n l h =
+      ap (λ (k : ℕ). drop k l) {x = n} {y = length l + (n - length l)} (omega arith) ∙ sym (drop-drop (n - length l) (length l) l) ∙ ap (drop (n - length l)) (drop-length l) ∙ drop-nil (n - length l)
+
+  -- dropping no more than there is drops the same
+  drop-within : (n a : ℕ) (l : List A) → a ≡ min n (length l) → drop a l ≡ drop n l
+  drop-within n a l e = go (leb n (length l)) refl
+    where
+      go : (b : Bool) → leb n (length l) ≡ b → drop a l ≡ drop n l
+      go true t = ap (λ (k : ℕ). drop k l) {x = a} {y = n} (omega (arith, leb-true n (length l) t))
+      go false t = drop-past a l (omega (arith, leb-false n (length l) t)) ∙ sym (drop-past n l (omega (arith, leb-false n (length l) t)))
+
+  take-within : (n a : ℕ) (l : List A) → a ≡ min n (length l) → take a l ≡ take n l
+  take-within n a l e = go (leb n (length l)) refl
+    where
+      go : (b : Bool) → leb n (length l) ≡ b → take a l ≡ take n l
+      go true t = ap (λ (k : ℕ). take k l) {x = a} {y = n} (omega (arith, leb-true n (length l) t))
+      go false t = take-all a l (omega (arith, leb-false n (length l) t)) ∙ sym (take-all n l (omega (arith, leb-false n (length l) t)))
+
+  -- a part from a place on, as the code lends it
+  part-from : (n a : ℕ) (l : List A) → a ≡ min n (length l) → take (length l - a) (drop a l) ≡ drop n l
+  part-from n a l e = take-all (length l - a) (drop a l) (simp length-drop (omega arith)) ∙ drop-within n a l e
+
+  -- and as it comes back
+  part-back : (n a : ℕ) (l ys : List A) → a ≡ min n (length l) → take a l ++ (ys ++ drop (length l - a) (drop a l)) ≡ take n l ++ ys
+  part-back n a l ys e =
+      ap (λ (z : List A). take a l ++ (ys ++ z)) (drop-past (length l - a) (drop a l) (simp length-drop (omega arith)))
+      ∙ ap (λ (z : List A). take a l ++ z) (append-nil ys)
+      ∙ ap (λ (z : List A). z ++ ys) (take-within n a l e)
+
+-- ---- a call
+pub called : (f : Feed) (modeS modeAC memory : List Float) (draws : List ℕ) (noise output : List Float) (records : List ℕ) {a b : ℕ} {r : Ran} {m o : List Float} {ys : List ℕ} {q : Feed} → a ≡ min (65 * f .taken) (length draws)
+    → b ≡ min (66 * f .records) (length records)
+    → record { ran = r; memory = m; output = o; records = ys } ≡ runLeft (f .state) modeS modeAC memory (take (length draws - a) (drop a draws)) noise output (take (length records - b) (drop b records)) → q ≡ feedAfter f r
+    → record { feed = q; memory = m; output = o; records = take b records ++ (ys ++ drop (length records - b) (drop b records)) }
+    ≡ calledOf modeS modeAC draws noise (record { feed = f; memory = memory; output = output; records = records })
+unfolding calledOf fedAfter
+called f modeS modeAC memory draws noise output records {a} {b} {r} {m} {o} {ys} {q} ha hb e z =
+    (λ i. record { feed = z i; memory = m; output = o; records = part-back (66 * f .records) b records ys hb i })
+    ∙ ap (fedAfter f records)
+    (e ∙ (λ i. runLeft (f .state) modeS modeAC memory (part-from (65 * f .taken) a draws ha i) noise output (part-from (66 * f .records) b records hb i)))
+
+-- ---- a chunk
+module _ (modeS modeAC : List Float) (draws : List ℕ) (noise : List Float) (d : Fed) where
+  pub stays : (q : Refusal.Refusal) → d .feed .answer ≡ Answer.the-variants.Refused q → d ≡ fedOf modeS modeAC draws noise d
+  unfolding fedOf fedThen
+  stays q e = sym (ap (fedThen modeS modeAC draws noise d) e)
+
+  pub goes-on : (w : Stop.Stop) {x : Fed} → d .feed .answer ≡ Answer.the-variants.Stopped w → x ≡ calledOf modeS modeAC draws noise d → x ≡ fedOf modeS modeAC draws noise d
+  unfolding fedOf fedThen
+  goes-on w e p = p ∙ sym (ap (fedThen modeS modeAC draws noise d) e)
+
+-- ---- the verdict
+pub not-short : (over : Bool) (answer : Answer.Answer) {short : Bool} {r : ℕ} → short ≡ false → r ≡ answerThen over answer → r ≡ verdictOf short answer over
+unfolding verdictOf
+not-short over answer e p = p ∙ sym (ap (λ (b : Bool). cond b 11 (answerThen over answer)) e)
+
+-- ---- noise as bytes
+pub row-read : (bytes : List ℕ) (row t : List Float) {n : ℕ} → n ≡ min (length bytes / 4) (length row) → t ≡ floatsOf n bytes ++ drop n row → (take n t ≡ noiseOf bytes (length row)) × (t ≡ rowAfter bytes row)
+unfolding noiseOf rowAfter
+row-read bytes row t {n} e p =
+    (ap (take n) p ∙ take-at (floatsOf n bytes) (drop n row) n (length-floats n bytes) ∙ ap (λ (k : ℕ). floatsOf k bytes) e, p ∙ ap (λ (k : ℕ). floatsOf k bytes ++ drop k row) e)
+
+pub fed-with : (modeS modeAC : List Float) (draws : List ℕ) (d : Fed) {x y : List Float} {r : Fed} → x ≡ y → r ≡ fedOf modeS modeAC draws x d → r ≡ fedOf modeS modeAC draws y d
+fed-with modeS modeAC draws d e p = p ∙ ap (λ (z : List Float). fedOf modeS modeAC draws z d) e

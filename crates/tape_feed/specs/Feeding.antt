@@ -1,0 +1,75 @@
+-- A run that is fed its noise chunk by chunk: each chunk is a run call, lent the draws that are not taken and the room behind the records written. Definitions only.
+use Prim.Native.Nat.{ℕ, _+_, _*_, _/_, _%_, _^_, min}
+use mathlib.Core.Bool.{Bool, cond}
+use mathlib.Core.List.{List, [], _∷_, _++_}
+use lib.ListN.{length, take, drop}
+use lib.Ieee.{Float}
+use Rattle.refusals.specs.Number.{numberOf}
+use Rattle.running.specs.declared.State.{State}
+use Rattle.running.specs.declared.Stop as Stop
+use Rattle.running.specs.declared.Answer as Answer
+use Rattle.running.specs.declared.Ran.{Ran}
+use Rattle.running.specs.Ended.{Left}
+use Rattle.running.specs.Calls.{runLeft}
+use Rattle.tape_floats.specs.Floats.{floatsOf}
+use Rattle.tape_feed.specs.declared.Feed.{Feed}
+
+-- a run that nothing has been fed: no draw taken, no record written
+unfoldable pub startOf : State → Feed
+startOf s = record { state = s; taken = 0; records = 0; answer = Answer.the-variants.Stopped Stop.the-variants.WantsNoise }
+
+-- a run so far, and what is lent to it for writing
+pub record Fed : Type 0 where
+  pub feed : Feed
+  pub memory : List Float
+  pub output : List Float
+  pub records : List ℕ
+
+-- the run after a call; counts are kept modulo 2^64, which no tape reaches
+unfoldable pub feedAfter : Feed → Ran → Feed
+feedAfter f r = record {
+  state = r .state;
+  taken = (f .taken + r .counts .taken) % 2 ^ 64;
+  records = (f .records + r .counts .records) % 2 ^ 64;
+  answer = r .answer;
+}
+
+unfoldable pub fedAfter : Feed → List ℕ → Left → Fed
+fedAfter f records l = record { feed = feedAfter f (l .ran); memory = l .memory; output = l .output; records = take (66 * f .records) records ++ l .records }
+
+module _ (modeS modeAC : List Float) (draws : List ℕ) (noise : List Float) where
+  -- one run call
+  unfoldable pub calledOf : Fed → Fed
+  calledOf d =
+      fedAfter (d .feed) (d .records) (runLeft (d .feed .state) modeS modeAC (d .memory) (drop (65 * d .feed .taken) draws) noise (d .output) (drop (66 * d .feed .records) (d .records)))
+
+  -- once refused, a run stays as it is
+  unfoldable pub fedThen : Fed → Answer.Answer → Fed
+  fedThen d (Answer.the-variants.Stopped w) = calledOf d
+  fedThen d (Answer.the-variants.Refused q) = d
+
+  -- the run after a chunk of noise
+  unfoldable pub fedOf : Fed → Fed
+  fedOf d = fedThen d (d .feed .answer)
+
+-- the noise values in bytes, as many as there is room for; and the row that they are put into
+unfoldable pub noiseOf : List ℕ → ℕ → List Float
+noiseOf bytes room = floatsOf (min (length bytes / 4) room) bytes
+
+unfoldable pub rowAfter : List ℕ → List Float → List Float
+rowAfter bytes row = noiseOf bytes (length row) ++ drop (min (length bytes / 4) (length row)) row
+
+-- the verdict on a tape whose noise is read: a refusal's number, or 0. "noise value by value to the last, used or not; then a run not Done, then bytes left over"; and a section's length before its values
+unfoldable pub stopThen : Bool → Stop.Stop → ℕ
+stopThen over Stop.the-variants.Done = cond over 11 0
+stopThen over Stop.the-variants.OutputFull = 11
+stopThen over Stop.the-variants.WantsNoise = 11
+stopThen over Stop.the-variants.WantsDraws = 11
+stopThen over Stop.the-variants.RecordsFull = 11
+
+unfoldable pub answerThen : Bool → Answer.Answer → ℕ
+answerThen over (Answer.the-variants.Stopped w) = stopThen over w
+answerThen over (Answer.the-variants.Refused q) = numberOf q
+
+unfoldable pub verdictOf : Bool → Answer.Answer → Bool → ℕ
+verdictOf short answer over = cond short 11 (answerThen over answer)

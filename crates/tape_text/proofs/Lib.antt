@@ -1,0 +1,3 @@
+pub mod Puts
+pub mod Decimal
+pub mod Lines

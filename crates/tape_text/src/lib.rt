@@ -1,0 +1,156 @@
+// The text that the tape program prints, put into a lent buffer. Each public function is equal to a definition of specs/ on every input. Assumes nothing.
+ghost use mathlib.Core.Path.{_≡_};
+ghost use Prim.Native.Nat.{_+_, _*_, _/_, _≤_, _<_, min};
+ghost use lib.ListN.{length, getD, take};
+ghost use mathlib.Core.List.{_∷_, []};
+ghost use Rattle.io.specs.Counts.{Counts};
+ghost use Rattle.le_bytes.specs.LeBytes.{laid};
+ghost use Rattle.tape_text.specs.Text.{number, hexDigit, hex, hexLine, messageOf, lineOf, linesOf, runText, refusedText, Put};
+
+fn wide(x: u8) -> u64
+    ensures { λ r. ⌜ r ≡ x ⌝ }
+{
+    x as u64
+}
+
+fn least(a: usize, b: usize) -> usize
+    ensures { λ r. ⌜ r ≡ min a b ⌝ }
+{
+    if a < b { a } else { b }
+}
+
+fn hex_digit(d: u8) -> u8
+    requires { ⌜ d < 16 ⌝ }
+    ensures { λ r. ⌜ r ≡ hexDigit d ⌝ }
+{
+    if d < 10 {
+        return 48 + d;
+    }
+    87 + d
+}
+
+// Bytes put at a place; where they end.
+fn put_bytes(from: &[u8], out: &mut [u8], at: usize) -> usize
+    requires { ⌜ at + length (now from) ≤ length (now out) ⌝ }
+    ensures { λ r. ⌜ Put (now (from .entry)) (now (out .entry)) at (now (out .exit)) r ⌝ }
+{
+    let mut k: usize = 0;
+    while k < from.len() {
+        out[at + k] = from[k];
+        k = k + 1;
+    }
+    at + k
+}
+
+fn put_byte(b: u8, out: &mut [u8], at: usize)
+    requires { ⌜ at < length (now out) ⌝ }
+    ensures { λ _. ⌜ now (out .exit) ≡ laid (now (out .entry)) at (b ∷ []) ⌝ }
+{
+    out[at] = b;
+}
+
+// A number in decimal and a byte after it, put at a place; where they end.
+fn put_number(n: u64, after: u8, out: &mut [u8], at: usize) -> usize
+    requires { ⌜ at + 21 ≤ length (now out) ⌝ }
+    ensures { λ r. ⌜ Put (number n after) (now (out .entry)) at (now (out .exit)) r × (r ≤ at + 21) ⌝ }
+{
+    let mut digits = [0u8; 20];
+    let k = io::decimal(n, &mut digits);
+    let end = put_bytes(&digits[..k], out, at);
+    put_byte(after, out, end);
+    end + 1
+}
+
+// A byte in hexadecimal, put at a place.
+fn put_hex_byte(b: u8, out: &mut [u8], at: usize)
+    requires { ⌜ at + 2 ≤ length (now out) ⌝ }
+    ensures { λ _. ⌜ now (out .exit) ≡ laid (now (out .entry)) at (hex (b ∷ [])) ⌝ }
+{
+    let high = hex_digit(b / 16);
+    let low = hex_digit(b % 16);
+    put_byte(high, out, at);
+    put_byte(low, out, at + 1);
+}
+
+// The first n bytes of a list in hexadecimal, put at a place.
+fn put_hex(bytes: &[u8], n: usize, out: &mut [u8], at: usize)
+    requires { ⌜ (n ≤ length (now bytes)) × (at + 2 * n ≤ length (now out)) ⌝ }
+    ensures { λ _. ⌜ now (out .exit) ≡ laid (now (out .entry)) at (hex (take n (now (bytes .entry)))) ⌝ }
+{
+    let mut k: usize = 0;
+    while k < n {
+        put_hex_byte(bytes[k], out, at + 2 * k);
+        k = k + 1;
+    }
+}
+
+// The same with the line's end; where it ends.
+fn put_hex_line(bytes: &[u8], n: usize, out: &mut [u8], at: usize) -> usize
+    requires { ⌜ (n ≤ length (now bytes)) × (at + 2 * n < length (now out)) ⌝ }
+    ensures { λ r. ⌜ Put (hexLine (take n (now (bytes .entry)))) (now (out .entry)) at (now (out .exit)) r ⌝ }
+{
+    put_hex(bytes, n, out, at);
+    put_byte(10, out, at + 2 * n);
+    at + 2 * n + 1
+}
+
+// The message of a record and the line's end; Mode A/C as the four digits of its u16.
+fn put_message(rec: &[u8], out: &mut [u8], at: usize) -> usize
+    requires { ⌜ (66 ≤ length (now rec)) × (at + 29 ≤ length (now out)) ⌝ }
+    ensures { λ r. ⌜ Put (hexLine (messageOf (now (rec .entry)))) (now (out .entry)) at (now (out .exit)) r × (r ≤ at + 29) ⌝ }
+{
+    if rec[48] == 6 {
+        let data = [rec[53], rec[52]];
+        return put_hex_line(&data, 2, out, at);
+    }
+    let n = least(wide(rec[51]) as usize, 14);
+    put_hex_line(&rec[52..], n, out, at)
+}
+
+// The line of the record at the start of the bytes, put at a place; where it ends.
+fn put_line(rec: &[u8], out: &mut [u8], at: usize) -> usize
+    requires { ⌜ (66 ≤ length (now rec)) × (at + 92 ≤ length (now out)) ⌝ }
+    ensures { λ r. ⌜ Put (lineOf (now (rec .entry))) (now (out .entry)) at (now (out .exit)) r × (r ≤ at + 92) ⌝ }
+{
+    let a = put_number(le_bytes::u64_at(rec, 40), 32, out, at);
+    let b = put_number(wide(rec[48]), 32, out, a);
+    let c = put_number(le_bytes::u16_at(rec, 49) as u64, 32, out, b);
+    put_message(rec, out, c)
+}
+
+// The lines of n records, put at a place; where they end.
+fn put_lines(records: &[u8], n: usize, out: &mut [u8], at: usize) -> usize
+    requires { ⌜ (66 * n ≤ length (now records)) × (at + 92 * n ≤ length (now out)) ⌝ }
+    ensures { λ r. ⌜ Put (linesOf n (now (records .entry))) (now (out .entry)) at (now (out .exit)) r × (r ≤ at + 92 * n) ⌝ }
+{
+    let mut rest = records;
+    let mut end = at;
+    let mut k: usize = 0;
+    while k < n {
+        end = put_line(rest, out, end);
+        rest = &rest[66..];
+        k = k + 1;
+    }
+    end
+}
+
+// What is printed of a run with its records, so many of them; its length.
+pub fn run_text(records: &[u8], count: usize, samples: u64, out: &mut [u8; 40960]) -> usize
+    ensures { λ r. ⌜ (r ≡ length (runText (now (records .entry)) count samples)) × (now (out .exit) ≡ laid (now (out .entry)) 0 (runText (now (records .entry)) count samples)) ⌝ }
+    ensures { λ r. ⌜ Counts r (now (out .exit)) ⌝ }
+{
+    let n = least(count, least(records.len() / 66, 400));
+    let a = put_bytes(b"first type count message\n", out, 0);
+    let b = put_lines(records, n, out, a);
+    let c = put_bytes(b"samples ", out, b);
+    put_number(samples, 10, out, c)
+}
+
+// What is printed of a refusal with its number; its length.
+pub fn refused_text(refusal: u64, out: &mut [u8; 40960]) -> usize
+    ensures { λ r. ⌜ (r ≡ length (refusedText refusal)) × (now (out .exit) ≡ laid (now (out .entry)) 0 (refusedText refusal)) ⌝ }
+    ensures { λ r. ⌜ Counts r (now (out .exit)) ⌝ }
+{
+    let a = put_bytes(b"refused ", out, 0);
+    put_number(refusal, 10, out, a)
+}
