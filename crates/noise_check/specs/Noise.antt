@@ -13,6 +13,7 @@ unfoldable pub loudFrom : ℕ → List Float → Option Bench.Refusal
 loudFrom k [] = none
 loudFrom k (v ∷ vs) = cond (loud v) (some (Bench.wrongNoise k)) (loudFrom (suc k) vs)
 
+-- the code's answer, as the plain bench refuses it
 unfoldable pub loudRead : Loud.Loud → Option Bench.Refusal
 loudRead Loud.the-variants.Quiet = none
 loudRead (Loud.the-variants.At place) = some (Bench.wrongNoise place)

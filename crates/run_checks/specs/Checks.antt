@@ -29,10 +29,11 @@ wrongBuffers output draws = eqb output 0 || not (eqb (output % 2) 0) || not (eqb
 unfoldable pub jumpOf : Float → Float → List ℕ → Bool
 jumpOf time latest draws = cond (ltb (length draws) 65) false (lt (timeAfter time (drawAt draws)) latest)
 
+-- the first fault of draws, as the plain bench refuses it
 unfoldable pub faultRead : Fault.Fault → Option Bench.Refusal
 faultRead Fault.the-variants.Clean = none
 faultRead (Fault.the-variants.At k field) = some (Bench.wrongDraw k field)
 
--- the generator of rates and distributions: delays, prototypes and the run's samples do not turn the check of draws
+-- the generator of rates and distributions: the check of draws turns on nothing else
 abbrev pub asked : MessagesPerSecond → Distributions → Generator
 asked rates all = real (record { rates = rates; distributions = all; delays = record { «mode_s» = nought; «mode_ac» = nought }; modeS = []; modeAC = [] }) 0

@@ -26,6 +26,7 @@ abbrev pub isNegative : ℤ → Bool
 isNegative (pos n) = false
 isNegative (negsuc n) = true
 
+-- the code's stops and plans, case by case
 unfoldable pub stopRead : Stop.Stop → Bench.Stop
 stopRead Stop.the-variants.Done = Bench.done
 stopRead Stop.the-variants.OutputFull = Bench.outputFull
