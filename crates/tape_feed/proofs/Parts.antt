@@ -12,7 +12,7 @@ use lib.Ieee.{Float}
 use borrow.Author.Tests.{leb-true, leb-false}
 use Rattle.refusals.specs.declared.Refusal as Refusal
 use Rattle.running.specs.declared.Ran.{Ran}
-use Rattle.running.specs.declared.Stop as Stop
+use Rattle.run_plans.specs.declared.Stop as Stop
 use Rattle.running.specs.declared.Answer as Answer
 use Rattle.running.specs.Calls.{runLeft}
 use Rattle.tape_floats.specs.Floats.{floatsOf}

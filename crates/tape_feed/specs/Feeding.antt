@@ -6,7 +6,7 @@ use lib.ListN.{length, take, drop}
 use lib.Ieee.{Float}
 use Rattle.refusals.specs.Number.{numberOf}
 use Rattle.running.specs.declared.State.{State}
-use Rattle.running.specs.declared.Stop as Stop
+use Rattle.run_plans.specs.declared.Stop as Stop
 use Rattle.running.specs.declared.Answer as Answer
 use Rattle.running.specs.declared.Ran.{Ran}
 use Rattle.running.specs.Ended.{Left}

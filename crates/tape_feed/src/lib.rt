@@ -7,7 +7,7 @@ ghost use Rattle.tape_feed.specs.Feeding.{startOf, feedAfter, calledOf, 
 use running::Answer;
 use running::Ran;
 use running::State;
-use running::Stop;
+use run_plans::Stop;
 
 // A run so far: its state, the draws taken, the records written, and what its last call answered.
 pub struct Feed {

@@ -47,7 +47,7 @@ fn section(tape: &[u8], at: usize, least: u64, most: u64, size: u64) -> Counted
     if tape.len() < at + 4 {
         return Counted::Wrong;
     }
-    let n = le_bytes::u32_at(tape, at) as u64;
+    let n = le_at::u32_at(tape, at) as u64;
     let room = (tape.len() - (at + 4)) as u64;
     if fits(n, least, most, size, room) {
         return Counted::Of(n);
@@ -88,7 +88,7 @@ fn check_draws(state: State, n: u64, tape: &[u8]) -> Beginning
     let rates = state.rates;
     let all = state.distributions;
     let end = 12135 + 65 * n as usize;
-    match draw::first_fault(&tape[12135..end], rates, all) {
+    match draw_faults::first_fault(&tape[12135..end], rates, all) {
         Fault::Clean => noise_count(state, n, tape),
         Fault::At(_, _) => Beginning::Refused(7),
     }
@@ -165,7 +165,7 @@ pub fn head(tape: &[u8], mode_s: &mut [f32], mode_ac: &mut [f32], memory: &mut [
     }
     let bytes = settings_bytes(tape);
     let s = settings::read(&bytes);
-    match settings::check(s) {
+    match settings_check::check(s) {
         Checked::Refused(q) => Beginning::Refused(refusals::number(q)),
         Checked::Accepted(_, _) => taps_section(&bytes, tape, mode_s, mode_ac, memory),
     }

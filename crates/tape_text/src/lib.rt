@@ -112,9 +112,9 @@ fn put_line(rec: &[u8], out: &mut [u8], at: usize) -> usize
     requires { ⌜ (66 ≤ length (now rec)) × (at + 92 ≤ length (now out)) ⌝ }
     ensures { λ r. ⌜ Put (lineOf (now (rec .entry))) (now (out .entry)) at (now (out .exit)) r × (r ≤ at + 92) ⌝ }
 {
-    let a = put_number(le_bytes::u64_at(rec, 40), 32, out, at);
+    let a = put_number(le_at::u64_at(rec, 40), 32, out, at);
     let b = put_number(wide(rec[48]), 32, out, a);
-    let c = put_number(le_bytes::u16_at(rec, 49) as u64, 32, out, b);
+    let c = put_number(le_at::u16_at(rec, 49) as u64, 32, out, b);
     put_message(rec, out, c)
 }
 
