@@ -4,10 +4,10 @@ ghost use Prim.Native.Nat.{_*_, _≤_, _<_, min};
 ghost use lib.ListN.{length};
 ghost use mathlib.Core.Bool.{cond};
 ghost use Rattle.tape_feed.specs.Feeding.{startOf, feedAfter, calledOf, fedOf, noiseOf, rowAfter, stopThen, verdictOf};
+use run_plans::Stop;
 use running::Answer;
 use running::Ran;
 use running::State;
-use run_plans::Stop;
 
 // A run so far: its state, the draws taken, the records written, and what its last call answered.
 pub struct Feed {
