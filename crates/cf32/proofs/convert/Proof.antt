@@ -1,0 +1,97 @@
+-- `cf32::convert` is safe: a run that a tape begins has at most 400 draws. Assumes nothing.
+use borrow.Author.Needs.{needs}
+use Prim.Native.Nat.{ℕ, _≤_}
+use mathlib.Core.Path.{_≡_, sym, ap, _∙_}
+use mathlib.Core.List.{List}
+use Rattle.constants.specs.Rate.{four}
+use Rattle.opening.specs.Opening.{Lent}
+use Rattle.running.specs.declared.State.{State}
+use Rattle.tape_head.specs.declared.Beginning as Beginning
+use Rattle.tape_head.specs.Head.{Begun, headOf}
+use Rattle.tape_head.proofs.Within.{head-within}
+use Rattle.cf32.proofs.convert.Statement.{statement}
+use Rattle.cf32.proofs.convert.Tie as tie
+
+within : (tape : List ℕ) (lent : Lent) (b : Begun) (s : State) (n count : ℕ) → b ≡ headOf four tape lent → b .head ≡ Beginning.the-variants.Run s n count → n ≤ 400
+within tape lent b s n count e f = head-within tape lent s n count (sym (ap (λ (x : Begun). x .head) e) ∙ f) .0
+
+slice-aggregate-read-head : tie.Need-slice-aggregate-read-head
+slice-aggregate-read-head c = search needs
+
+read-head-requires : tie.Need-read-head-requires
+read-head-requires c κs = search needs
+
+array-share-prefix-bytes : tie.Need-array-share-prefix-bytes
+array-share-prefix-bytes c = search needs
+
+slice-aggregate-head : tie.Need-slice-aggregate-head
+slice-aggregate-head c = search needs
+
+slice-aggregate-head-2 : tie.Need-slice-aggregate-head-2
+slice-aggregate-head-2 c = search needs
+
+slice-aggregate-head-3 : tie.Need-slice-aggregate-head-3
+slice-aggregate-head-3 c = search needs
+
+slice-aggregate-head-4 : tie.Need-slice-aggregate-head-4
+slice-aggregate-head-4 c = search needs
+
+head-requires : tie.Need-head-requires
+head-requires c κs = search needs
+
+enum-known-number : tie.Need-enum-known-number
+enum-known-number c = search needs
+
+slice-aggregate-tell : tie.Need-slice-aggregate-tell
+slice-aggregate-tell c = search needs
+
+tell-requires : tie.Need-tell-requires
+tell-requires c κs = search needs
+
+enum-known-state : tie.Need-enum-known-state
+enum-known-state c = search needs
+
+slice-aggregate-run : tie.Need-slice-aggregate-run
+slice-aggregate-run c = search needs
+
+slice-aggregate-run-2 : tie.Need-slice-aggregate-run-2
+slice-aggregate-run-2 c = search needs
+
+slice-aggregate-run-3 : tie.Need-slice-aggregate-run-3
+slice-aggregate-run-3 c = search needs
+
+slice-aggregate-run-4 : tie.Need-slice-aggregate-run-4
+slice-aggregate-run-4 c = search needs
+
+run-requires : tie.Need-run-requires
+run-requires c κs = (within _ _ _ _ _ _ (c .before .before .before .before .before .before .before .before .before .before .head .ensures) (c .before .before .before .before .before .state .given .1), search needs)
+
+returns : tie.Need-returns
+returns c = search needs
+
+returns-2 : tie.Need-returns-2
+returns-2 c = search needs
+
+pub convert-spec : {M : Type 1} → statement M
+convert-spec =
+    tie.close
+    (tie.spec
+    slice-aggregate-read-head
+    read-head-requires
+    array-share-prefix-bytes
+    slice-aggregate-head
+    slice-aggregate-head-2
+    slice-aggregate-head-3
+    slice-aggregate-head-4
+    head-requires
+    enum-known-number
+    slice-aggregate-tell
+    tell-requires
+    enum-known-state
+    slice-aggregate-run
+    slice-aggregate-run-2
+    slice-aggregate-run-3
+    slice-aggregate-run-4
+    run-requires
+    returns
+    returns-2)

@@ -1,0 +1,303 @@
+// Samples for other tools: a tape on standard input, its samples on standard output as interleaved little-endian f32 (cf32), its records, 66 bytes each, in the file that the first argument names.
+// Each second of signal is told on standard error, and so is how it ended. Samples are written as they come, so a fault behind them is told after them. Assumes nothing but the kit's io, os and libc.
+ghost use mathlib.Core.Path.{_≡_};
+ghost use Prim.Native.Nat.{_-_, _≤_, min};
+ghost use lib.ListN.{length};
+ghost use Rattle.io.specs.Counts.{Counts};
+use libc::STDERR_FILENO;
+use libc::STDIN_FILENO;
+use libc::STDOUT_FILENO;
+use running::State;
+use tape_feed::Feed;
+use tape_head::Beginning;
+
+// A run so far, and whether to stop: the noise section was short, or nobody takes the samples.
+pub struct Fed {
+    pub feed: Feed,
+    pub short: bool,
+    pub stop: bool,
+}
+
+fn least(a: u64, b: u64) -> u64
+    ensures { λ r. ⌜ r ≡ min a b ⌝ }
+{
+    if a < b { a } else { b }
+}
+
+fn difference(a: u64, b: u64) -> u64
+    ensures { λ r. ⌜ r ≡ a - b ⌝ }
+{
+    if a < b {
+        return 0;
+    }
+    a - b
+}
+
+// A line on standard error: a word, a number, and the samples written.
+fn tell(word: &[u8], number: u64, samples: u64) {
+    io::write_all(STDERR_FILENO, word);
+    io::print_decimal(STDERR_FILENO, number);
+    io::write_all(STDERR_FILENO, b", samples ");
+    io::print_decimal(STDERR_FILENO, samples);
+    io::write_all(STDERR_FILENO, b"\n");
+}
+
+// A line for each second of signal.
+fn progress(before: u64, after: u64) {
+    let second = after / 8000000;
+    if before / 8000000 < second {
+        tell(b"second ", second, after);
+    }
+}
+
+// Bytes are left over.
+fn left_over() -> bool {
+    let mut b = [0u8; 1];
+    0 < io::read_full(STDIN_FILENO, &mut b)
+}
+
+// The samples that a call wrote, from one number of samples to the next; false where nobody takes them.
+fn write_samples(before: u64, after: u64, output: &[f32]) -> bool {
+    let k = least(difference(after, before), 8193);
+    let n = least(2 * k, output.len() as u64) as usize;
+    let mut out = [0u8; 65544];
+    tape_floats::float_bytes(&output[..n], &mut out);
+    let size = 4 * n;
+    let all: &[u8] = &out;
+    io::write_all(STDOUT_FILENO, &all[..size])
+}
+
+// As many noise values as the bytes have room for, read and fed to the run; then its samples.
+fn chunk(
+    f: Feed,
+    mode_s: &[f32],
+    mode_ac: &[f32],
+    memory: &mut [f32],
+    draws: &[u8],
+    bytes: &mut [u8],
+    row: &mut [f32],
+    output: &mut [f32],
+    records: &mut [u8],
+) -> Fed {
+    let got = io::read_full(STDIN_FILENO, bytes);
+    if got < bytes.len() {
+        return Fed {
+            feed: f,
+            short: true,
+            stop: true,
+        };
+    }
+    let g = tape_feed::feed_bytes(
+        f,
+        mode_s,
+        mode_ac,
+        memory,
+        draws,
+        bytes,
+        row,
+        output,
+        records,
+    );
+    Fed {
+        feed: g,
+        short: false,
+        stop: false,
+    }
+}
+
+// The run after its samples are written out.
+fn written(before: u64, f: Fed, output: &[f32]) -> Fed {
+    let g = f.feed;
+    let state = g.state;
+    let after = state.written;
+    let taken = write_samples(before, after, output);
+    progress(before, after);
+    Fed {
+        feed: g,
+        short: f.short,
+        stop: f.stop || !taken,
+    }
+}
+
+// The next so many noise values, and the samples that come of them.
+fn turn(
+    f: Feed,
+    want: u64,
+    mode_s: &[f32],
+    mode_ac: &[f32],
+    memory: &mut [f32],
+    draws: &[u8],
+    bytes: &mut [u8],
+    row: &mut [f32],
+    output: &mut [f32],
+    records: &mut [u8],
+) -> Fed
+    requires { ⌜ (want ≤ 16384) × (65536 ≤ length (now bytes)) ⌝ }
+{
+    let size = 4 * want as usize;
+    let state = f.state;
+    let before = state.written;
+    let g = chunk(
+        f,
+        mode_s,
+        mode_ac,
+        memory,
+        draws,
+        &mut bytes[..size],
+        row,
+        output,
+        records,
+    );
+    written(before, g, output)
+}
+
+// The values left after so many; none once the run stops.
+fn left_after(left: u64, want: u64, stop: bool) -> u64
+    ensures { λ r. ⌜ r ≤ left - want ⌝ }
+{
+    if stop {
+        return 0;
+    }
+    difference(left, want)
+}
+
+// The noise section of so many values, in chunks of up to 16,384; first none, so that a run of no samples is done.
+fn noise_section(
+    count: u64,
+    first: Feed,
+    mode_s: &[f32],
+    mode_ac: &[f32],
+    memory: &mut [f32],
+    draws: &[u8],
+    bytes: &mut [u8],
+    row: &mut [f32],
+    output: &mut [f32],
+    records: &mut [u8],
+) -> Fed
+    requires { ⌜ 65536 ≤ length (now bytes) ⌝ }
+{
+    let mut f = turn(
+        first,
+        0,
+        mode_s,
+        mode_ac,
+        memory,
+        draws,
+        bytes,
+        row,
+        output,
+        records,
+    );
+    let mut left = count;
+    while 0 < left {
+        let want = least(left, 16384);
+        let g = f.feed;
+        f = turn(
+            g,
+            want,
+            mode_s,
+            mode_ac,
+            memory,
+            draws,
+            bytes,
+            row,
+            output,
+            records,
+        );
+        left = left_after(left, want, f.stop);
+    }
+    f
+}
+
+// The records, and how the run ended.
+fn finish(fd: i32, f: Fed, records: &[u8]) {
+    let g = f.feed;
+    let answer = g.answer;
+    let state = g.state;
+    let count = g.records as u64;
+    let end = least(66 * least(count, 400), records.len() as u64) as usize;
+    io::write_all(fd, &records[..end]);
+    let n = tape_feed::verdict(f.short, answer, left_over());
+    if n == 0 {
+        tell(b"records ", count, state.written);
+    } else {
+        tell(b"refused ", n, state.written);
+    }
+}
+
+// A run with n draws and so many noise values.
+fn run(
+    fd: i32,
+    state: State,
+    n: u64,
+    count: u64,
+    head: &[u8],
+    mode_s: &[f32],
+    mode_ac: &[f32],
+    memory: &mut [f32],
+)
+    requires { ⌜ (n ≤ 400) × (38139 ≤ length (now head)) ⌝ }
+{
+    let end = 12135 + 65 * n as usize;
+    let mut bytes = [0u8; 65536];
+    let mut row = [0.0f32; 16384];
+    let mut output = [0.0f32; 16386];
+    let mut records = [0u8; 26400];
+    let f = noise_section(
+        count,
+        tape_feed::start(state),
+        mode_s,
+        mode_ac,
+        memory,
+        &head[12135..end],
+        &mut bytes,
+        &mut row,
+        &mut output,
+        &mut records,
+    );
+    finish(fd, f, &records);
+}
+
+// The bytes of a tape up to its noise; how many there are.
+fn read_head(bytes: &mut [u8]) -> usize
+    requires { ⌜ 38139 ≤ length (now bytes) ⌝ }
+    ensures { λ r. ⌜ Counts r (now (bytes .exit)) ⌝ }
+{
+    let got = io::read_full(STDIN_FILENO, &mut bytes[..12135]);
+    if got < 12135 {
+        return got;
+    }
+    let want = tape_head::head_length(bytes);
+    let more = io::read_full(STDIN_FILENO, &mut bytes[12135..want]);
+    12135 + more
+}
+
+fn convert(fd: i32) {
+    let mut bytes = [0u8; 38139];
+    let got = read_head(&mut bytes);
+    let mut mode_s = [0.0f32; 1792];
+    let mut mode_ac = [0.0f32; 1792];
+    let mut memory = [0.0f32; 2252];
+    match tape_head::head(&bytes[..got], &mut mode_s, &mut mode_ac, &mut memory) {
+        Beginning::Refused(number) => tell(b"refused ", number, 0),
+        Beginning::Run(state, n, count) => {
+            run(fd, state, n, count, &bytes, &mode_s, &mode_ac, &mut memory)
+        }
+    }
+}
+
+fn main() {
+    let mut path = io::buffer();
+    let length = os::arg(1, &mut path);
+    if os::errno() != 0 {
+        os::fail(b"the file for the records");
+        return;
+    }
+    let fd = os::open_overwrite(&path[..length]);
+    if fd < 0 {
+        os::fail(&path[..length]);
+        return;
+    }
+    convert(fd);
+    libc::close(fd);
+}
