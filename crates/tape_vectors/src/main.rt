@@ -21,7 +21,7 @@ fn read_number() -> u64
 {
     let mut b = [0u8; 4];
     io::read_full(STDIN_FILENO, &mut b);
-    le_bytes::u32_at(&b, 0) as u64
+    le_at::u32_at(&b, 0) as u64
 }
 
 fn print_refused(number: u64) {
