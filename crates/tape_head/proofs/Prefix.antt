@@ -1,4 +1,4 @@
--- A tape's beginning depends on the bytes before its noise alone (`head-of-prefix`): reading a tape as it comes is the same as having it whole. Assumes nothing.
+-- A tape's beginning depends on the bytes before its noise alone (`head-of-prefix`), and the first 12,135 tell how many those are (`length-of-prefix`): reading a tape as it comes is the same as having it whole. Assumes nothing.
 use Prim.Native.Nat.{ℕ, zero, suc, _+_, _-_, _*_, _≤_, _<_, min}
 use mathlib.Core.Path.{_≡_, refl, sym, ap, _∙_, subst}
 use mathlib.Core.Bool.{Bool, true, false, cond, _&&_}
@@ -190,3 +190,8 @@ head-of-prefix tape lent = go (leb 12135 (length tape)) refl
     go false e =
         let h = leb-false 12135 (length tape) e in
         ap (λ (l : List ℕ). headOf four l lent) (take-all (headLength four tape) tape (omega (arith, length-low (sectionAt tape 12131 0 400 0))))
+
+-- and the first 12,135 bytes tell how many those are
+pub length-of-prefix : (tape : List ℕ) (k : ℕ) → 12135 ≤ k → headLength four (take k tape) ≡ headLength four tape
+unfolding headLength
+length-of-prefix tape k h = ap (lengthThen four) (section-first tape k 12131 0 400 0 h (λ g. omega arith))
