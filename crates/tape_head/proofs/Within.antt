@@ -1,6 +1,6 @@
 -- A run that a tape begins has at most 400 draws, all on the tape before the noise (`head-within`). Assumes nothing.
 use Prim.Native.Nat.{ℕ, _+_, _*_, _≤_}
-use mathlib.Core.Path.{_≡_, refl, sym, subst}
+use mathlib.Core.Path.{_≡_, refl, sym, ap, _∙_, subst}
 use mathlib.Core.Bool.{Bool, true, false, cond}
 use mathlib.Core.List.{List}
 use native.Mathlib.Omega.{arith}
@@ -18,7 +18,7 @@ use Rattle.opening.specs.Opening.{Lent}
 use Rattle.opening.specs.declared.Opened as Opened
 use Rattle.tape_head.specs.declared.Counted as Counted
 use Rattle.tape_head.specs.declared.Beginning as Beginning
-use Rattle.tape_head.specs.Head.{tapeFault, sectionAt, noiseThen, faultThen, drawsThen, openedThen, settingsBytes, openedFrom, openThen, tapsThen, checkedThen, settingsThen, headOf}
+use Rattle.tape_head.specs.Head.{tapeFault, sectionAt, noiseThen, faultThen, drawsThen, openedThen, settingsBytes, openedFrom, Begun, openThen, tapsThen, checkedThen, settingsThen, headOf}
 use Rattle.tape_head.proofs.Sections.{counted}
 
 module _ (tape : List ℕ) where
@@ -69,3 +69,7 @@ module _ (tape : List ℕ) where
     pub head-within : (s : State) (n count : ℕ) → headOf four tape lent .head ≡ Beginning.the-variants.Run s n count → (n ≤ 400) × (12139 + 65 * n ≤ length tape)
     unfolding headOf Within
     head-within s n count e = subst Within e (settings-within (sectionAt tape 0 1 1 119))
+
+    -- the same, of what the contract of `head` gives
+    pub begun-within : (b : Begun) (s : State) (n count : ℕ) → b ≡ headOf four tape lent → b .head ≡ Beginning.the-variants.Run s n count → (n ≤ 400) × (12139 + 65 * n ≤ length tape)
+    begun-within b s n count e f = head-within s n count (sym (ap (λ (x : Begun). x .head) e) ∙ f)

@@ -21,6 +21,12 @@ same-length c = search needs
 returns : tie.Need-returns
 returns c = counts _ _ (search needs)
 
+slice-reshare-prefix-head-length : tie.Need-slice-reshare-prefix-head-length
+slice-reshare-prefix-head-length c = search needs
+
+slice-aggregate-head-length : tie.Need-slice-aggregate-head-length
+slice-aggregate-head-length c = simp length-take (omega arith)
+
 head-length-requires : tie.Need-head-length-requires
 head-length-requires c κs = search needs
 
@@ -54,6 +60,8 @@ read-head-spec =
     read-full-requires
     same-length
     returns
+    slice-reshare-prefix-head-length
+    slice-aggregate-head-length
     head-length-requires
     sub-read-full
     part-read-full-start
