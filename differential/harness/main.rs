@@ -29,6 +29,7 @@ fn main() {
     let words: Vec<String> = std::env::args().skip(1).collect();
     let code = match words.first().map(String::as_str) {
         Some("text") => text(),
+        Some("samples") => samples(),
         Some("tape") => write_tape(&words[1..]),
         Some("stored") => {
             print!("{}", stored::file());
@@ -50,6 +51,19 @@ fn standard_input() -> Vec<u8> {
 /// `harness text`: what the tape program must print for the tape on standard input.
 fn text() -> i32 {
     print!("{}", program::text(&program::outcome(&standard_input())));
+    0
+}
+
+/// `harness samples`: the reference's samples for the tape on standard input, as pairs of little-endian f32.
+fn samples() -> i32 {
+    use std::io::Write;
+    let program::Outcome::Run(run) = program::outcome(&standard_input()) else {
+        eprintln!("the tape is refused");
+        return 1;
+    };
+    std::io::stdout()
+        .write_all(&tally::bytes_of(&run.samples))
+        .expect("standard output can be written");
     0
 }
 
