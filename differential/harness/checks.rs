@@ -22,8 +22,8 @@ pub fn worked(tally: &mut Tally, ours: &Ours) {
     text_of_ours(tally, ours, "worked", &bytes, text);
 }
 
-/// The lines of document 01's bench checks that the reference can answer.
-pub fn bench_lines(tally: &mut Tally) {
+/// The lines of document 01's bench checks that the reference can answer; the last one through the tape program too.
+pub fn bench_lines(tally: &mut Tally, ours: &Ours) {
     use reference::simulation::pulse_shape::required_samples_for_apply;
     let required = [0, 43, 52, 128, 240].map(required_samples_for_apply);
     let parity = reference::mode_s::CRC24.checksum(b"123456789");
@@ -45,6 +45,10 @@ pub fn bench_lines(tally: &mut Tally) {
             (!right).then(|| what.to_string()),
         );
     }
+    for start in [6905, 6906] {
+        let tape = make::one_reply_at(start);
+        text(tally, ours, &format!("start {start} of 8,000"), &tape.to_bytes());
+    }
 }
 
 /// What was found about the Rust still holds.
@@ -57,11 +61,7 @@ pub fn findings(tally: &mut Tally) {
 
 /// How many records a run of 8,000 samples has with one reply at that start.
 fn last_start(start: u64) -> usize {
-    let mut t = make::worked();
-    t.draws = vec![t.draws[0], t.draws[2]];
-    // The delay of the worked taps is below 1 sample, so that a whole time is its own start.
-    t.draws[0].gap = start as f64;
-    judge::run(&t).map_or(99, |r| r.records.len() / RECORD_BYTES)
+    judge::run(&make::one_reply_at(start)).map_or(99, |r| r.records.len() / RECORD_BYTES)
 }
 
 /// The sine steps lie within 2^-23 of the original `sin_cos`.

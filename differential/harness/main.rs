@@ -140,7 +140,7 @@ fn compare(words: &[String]) -> i32 {
         checks::stored(&mut tally, file);
     }
     checks::worked(&mut tally, &o.ours);
-    checks::bench_lines(&mut tally);
+    checks::bench_lines(&mut tally, &o.ours);
     checks::findings(&mut tally);
     checks::sines(&mut tally, &mut tape_source(o.seed, u64::MAX));
     checks::damaged(&mut tally, &o.ours, &make::worked(), "worked");

@@ -350,6 +350,15 @@ pub fn tape(r: &mut Random) -> Tape {
     }
 }
 
+/// The worked tape with one reply, at that start, and the draw that ends it.
+pub fn one_reply_at(start: u64) -> Tape {
+    let mut t = worked();
+    t.draws = vec![t.draws[0], t.draws[2]];
+    // The delay of the worked taps is below 1 sample, so that a whole time is its own start.
+    t.draws[0].gap = start as f64;
+    t
+}
+
 /// The tape that document 01 works out.
 pub fn worked() -> Tape {
     let zero = asked(0, 0.0, 0.0);

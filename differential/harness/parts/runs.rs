@@ -18,6 +18,10 @@ pub fn compare(t: &mut Tally, r: &mut Random, tapes: u64) {
             }
         }
     }
+    for start in [6905, 6906] {
+        let tape = make::one_reply_at(start);
+        whole(t, r, &format!("start {start} of 8,000"), &tape);
+    }
     for index in 0..tapes {
         let seed = format!("run {index}");
         let tape = make::tape(r);
