@@ -10,18 +10,12 @@ pub struct Pulses {
     pub len: usize,
 }
 
-fn wide(x: u8) -> usize
-    ensures { λ r. ⌜ r ≡ x ⌝ }
-{
-    x as usize
-}
-
 // Bit k of a byte, highest first.
 fn bit(byte: u8, k: usize) -> usize
     requires { ⌜ k < 8 ⌝ }
     ensures { λ r. ⌜ (r ≡ byteBit byte k) × (r < 2) ⌝ }
 {
-    (wide(byte) >> (7 - k)) % 2
+    ((byte as usize) >> (7 - k)) % 2
 }
 
 fn num_bits(long: bool) -> usize

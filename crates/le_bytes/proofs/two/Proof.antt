@@ -30,8 +30,7 @@ add-result c = search needs
 
 returns : tie.Need-returns
 returns c =
-    let a = c .before .before .before .before .before .args in
-    (
+    let a = c .before .before .before .before .before .args in (
       joined 1 1 (a .s .now) (a .at) (omega arith) (c .before .before .wide .ensures .0 ∙ sym (le-one (a .s .now) (a .at) (omega arith))) (c .wide2 .ensures .0 ∙ sym (le-one (a .s .now) (a .at + 1) (omega arith))),
       search needs,
     )
