@@ -20,7 +20,7 @@ pub extern "C" fn port_narrow(x: f64) -> f32
 pub extern "C" fn port_ceil_to_i64(x: f64) -> i64
     ensures { λ r. ⌜ r ≡ ceilSigned 63 x ⌝ }
 {
-    float_bits::ceil_to_i64(x)
+    float_to_int::ceil_to_i64(x)
 }
 
 // Rust's `x as u64`.
@@ -28,7 +28,7 @@ pub extern "C" fn port_ceil_to_i64(x: f64) -> i64
 pub extern "C" fn port_to_u64(x: f64) -> u64
     ensures { λ r. ⌜ r ≡ toUnsigned 64 x ⌝ }
 {
-    float_bits::to_u64(x)
+    float_to_int::to_u64(x)
 }
 
 // The phase wrapped, wrapped once, its sine and its cosine.

@@ -11,7 +11,7 @@ ghost use Rattle.filterbank.specs.Taps.{one, branchOf, tauOf, branch, be
 fn branch_of(phase: f64) -> usize
     ensures { λ r. ⌜ (r ≡ branchOf four phase) × (r < 256) ⌝ }
 {
-    let a = float_bits::to_usize(phase * 256.0);
+    let a = float_to_int::to_usize(phase * 256.0);
     if a < 256 {
         return a;
     }

@@ -25,7 +25,7 @@ fn ceil_agrees(i: usize) -> bool {
     }
     let points = table::WHOLE_POINTS;
     let answers = table::CEILINGS;
-    float_bits::ceil_to_i64(float_patterns::f64_of(points[i])) == answers[i]
+    float_to_int::ceil_to_i64(float_patterns::f64_of(points[i])) == answers[i]
 }
 
 fn truncate_agrees(i: usize) -> bool {
@@ -34,7 +34,7 @@ fn truncate_agrees(i: usize) -> bool {
     }
     let points = table::WHOLE_POINTS;
     let answers = table::TRUNCATED;
-    float_bits::to_u64(float_patterns::f64_of(points[i])) == answers[i]
+    float_to_int::to_u64(float_patterns::f64_of(points[i])) == answers[i]
 }
 
 fn agrees(cast: u64, i: usize) -> bool {

@@ -43,14 +43,9 @@ pub le-one : (s : List ℕ) (at : ℕ) → at < length s → leAt 1 s at ≡ get
 unfolding leAt leOf
 le-one s at h = ap (λ (l : List ℕ). leOf (take 1 l)) (drop-cons s at 0 h) ∙ add-zero (getD s at 0)
 
-pub le-two : (s : List ℕ) (at : ℕ) → at + 2 ≤ length s → getD s at 0 + 256 * getD s (at + 1) 0 ≡ leAt 2 s at
-le-two s at h = sym (le-halves 1 1 s at (omega arith) ∙ cc (le-one s at (omega arith), le-one s (at + 1) (omega arith)))
-
-pub le-four : (s : List ℕ) (at : ℕ) → at + 4 ≤ length s → leAt 2 s at + 65536 * leAt 2 s (at + 2) ≡ leAt 4 s at
-le-four s at h = sym (le-halves 2 2 s at (omega arith))
-
-pub le-eight : (s : List ℕ) (at : ℕ) → at + 8 ≤ length s → leAt 4 s at + 4294967296 * leAt 4 s (at + 4) ≡ leAt 8 s at
-le-eight s at h = sym (le-halves 4 4 s at (omega arith))
+-- two numbers that were read one after the other are the halves of one
+pub joined : (m n : ℕ) (s : List ℕ) (at : ℕ) {a b : ℕ} → at + m ≤ length s → a ≡ leAt m s at → b ≡ leAt n s (at + m) → a + 256 ^ m * b ≡ leAt (m + n) s at
+joined m n s at h p q = (λ i. p i + 256 ^ m * q i) ∙ sym (le-halves m n s at h)
 
 -- bytes laid one part after the other
 pub laid-append : (s : List ℕ) (at : ℕ) (xs ys : List ℕ) → at + length xs ≤ length s → laid (laid s at xs) (at + length xs) ys ≡ laid s at (xs ++ ys)

@@ -46,7 +46,7 @@ fn unrounded_start(time: f64, delay: f64, e: f64) -> f64
 pub fn start(time: f64, delay: f64, e: f64) -> i64
     ensures { λ r. ⌜ r ≡ startOf time delay e ⌝ }
 {
-    float_bits::ceil_to_i64(unrounded_start(time, delay, e))
+    float_to_int::ceil_to_i64(unrounded_start(time, delay, e))
 }
 
 // The clock error of the filter.

@@ -1,4 +1,3 @@
 pub mod Below
 pub mod DataOfDigits
 pub mod RisingPlaces
-pub mod Shifts

@@ -1,8 +1,7 @@
-// Mode A/C replies: their data, its four digits, refusal 10, and the twelve bits with their places. Assumes nothing.
+// Mode A/C replies: their data, its four digits and refusal 10. Assumes nothing.
 ghost use mathlib.Core.Path.{_≡_};
 ghost use Prim.Native.Nat.{_%_};
-ghost use Rattle.mode_ac.specs.Data.{digitA, digitB, digitC, digitD, digitsOf, bitOf};
-ghost use Rattle.mode_ac.specs.Places.{placeOf};
+ghost use Rattle.mode_ac.specs.Data.{digitA, digitB, digitC, digitD, digitsOf};
 ghost use Rattle.mode_ac.specs.Building.{answerOf, fromData, fromDigits};
 
 pub struct ModeACReply {
@@ -23,43 +22,11 @@ pub enum Built {
     Refused,
 }
 
-fn wide(x: u8) -> u16
-    ensures { λ r. ⌜ r ≡ x ⌝ }
-{
-    x as u16
-}
-
 // The lowest octal digit of a number.
 fn octal(x: u16) -> u8
     ensures { λ r. ⌜ r ≡ x % 8 ⌝ }
 {
     (x % 8) as u8
-}
-
-// The places of the twelve bits, in the order C1 A1 C2 A2 C4 A4 B1 D1 B2 D2 B4 D4.
-const PLACES: [usize; 12] = [3, 6, 9, 12, 15, 18, 24, 27, 30, 33, 36, 39];
-
-// Where each of them stands in the data, counted from the lowest bit.
-const SHIFTS: [u16; 12] = [3, 9, 4, 10, 5, 11, 6, 0, 7, 1, 8, 2];
-
-// The place of the n-th bit.
-pub fn place_of(n: usize) -> usize
-    ensures { λ r. ⌜ r ≡ placeOf n ⌝ }
-{
-    if n < 12 {
-        return PLACES[n];
-    }
-    0
-}
-
-// The n-th bit of the data.
-pub fn bit_of(data: u16, n: usize) -> bool
-    ensures { λ r. ⌜ r ≡ bitOf «data» n ⌝ }
-{
-    if n < 12 {
-        return (data >> (SHIFTS[n] % 16)) % 2 == 1;
-    }
-    false
 }
 
 impl ModeACReply {
@@ -90,7 +57,10 @@ impl ModeACReply {
         if d >= 8 {
             return Built::Refused;
         }
-        ModeACReply::new(wide(a) * 512 + wide(b) * 64 + wide(c) * 8 + wide(d), spi)
+        ModeACReply::new(
+            (a as u16) * 512 + (b as u16) * 64 + (c as u16) * 8 + (d as u16),
+            spi,
+        )
     }
 
     pub fn a(self) -> u8

@@ -10,18 +10,12 @@ pub struct Pulses {
     pub len: usize,
 }
 
-fn wide(x: u8) -> usize
-    ensures { λ r. ⌜ r ≡ x ⌝ }
-{
-    x as usize
-}
-
 // Bit k of a byte, highest first.
 fn bit(byte: u8, k: usize) -> usize
     requires { ⌜ k < 8 ⌝ }
     ensures { λ r. ⌜ (r ≡ byteBit byte k) × (r < 2) ⌝ }
 {
-    (wide(byte) >> (7 - k)) % 2
+    ((byte as usize) >> (7 - k)) % 2
 }
 
 fn num_bits(long: bool) -> usize
@@ -56,8 +50,8 @@ pub fn mode_ac_pulses(data: u16, spi: bool) -> Pulses
     on[0] = true;
     let mut n: usize = 0;
     while n < 12 {
-        if mode_ac::bit_of(data, n) {
-            on[mode_ac::place_of(n)] = true;
+        if mode_ac_bits::bit_of(data, n) {
+            on[mode_ac_bits::place_of(n)] = true;
         }
         n += 1;
     }

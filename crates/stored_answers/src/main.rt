@@ -39,11 +39,11 @@ fn agrees(letter: u8, x: f64, stored: u64) -> bool {
         return float_patterns::bits_of_f32(float_bits::narrow(x)) as u64 == stored;
     }
     if letter == 99 {
-        let n = float_bits::ceil_to_i64(x);
+        let n = float_to_int::ceil_to_i64(x);
         return float_patterns::bits_of(std::num::nearest_i64_to_f64(n)) == stored;
     }
     if letter == 117 {
-        return float_bits::to_u64(x) == stored;
+        return float_to_int::to_u64(x) == stored;
     }
     false
 }

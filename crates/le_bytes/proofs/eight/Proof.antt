@@ -1,5 +1,6 @@
 -- `eight` meets its contract. Two numbers of four bytes are the halves of one. Assumes nothing.
-use Rattle.le_bytes.proofs.Halves.{le-eight}
+use Rattle.le_bytes.proofs.Halves.{joined}
+use native.Mathlib.Omega.{arith}
 use borrow.Author.Needs.{needs}
 use Rattle.le_bytes.proofs.eight.Statement.{statement}
 use Rattle.le_bytes.proofs.eight.Tie as tie
@@ -20,7 +21,9 @@ add-result : tie.Need-add-result
 add-result c = search needs
 
 returns : tie.Need-returns
-returns c = cc (le-eight (c .before .before .before .args .s .now) (c .before .before .before .args .at) (c .before .before .before .pre))
+returns c =
+    let a = c .before .before .before .args in
+    joined 4 4 (a .s .now) (a .at) (omega arith) (c .before .four .ensures .0) (c .four2 .ensures .0)
 
 pub eight-spec : {M : Type 1} → statement M
 eight-spec =

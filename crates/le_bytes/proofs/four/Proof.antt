@@ -1,5 +1,6 @@
 -- `four` meets its contract. Two numbers of two bytes are the halves of one. Assumes nothing.
-use Rattle.le_bytes.proofs.Halves.{le-four}
+use Rattle.le_bytes.proofs.Halves.{joined}
+use native.Mathlib.Omega.{arith}
 use borrow.Author.Needs.{needs}
 use Rattle.le_bytes.proofs.four.Statement.{statement}
 use Rattle.le_bytes.proofs.four.Tie as tie
@@ -20,7 +21,9 @@ add-result : tie.Need-add-result
 add-result c = search needs
 
 returns : tie.Need-returns
-returns c = (cc (le-four (c .before .before .before .args .s .now) (c .before .before .before .args .at) (c .before .before .before .pre)), search needs)
+returns c =
+    let a = c .before .before .before .args in
+    (joined 2 2 (a .s .now) (a .at) (omega arith) (c .before .two .ensures .0) (c .two2 .ensures .0), search needs)
 
 pub four-spec : {M : Type 1} → statement M
 four-spec = tie.close (tie.spec two-requires add-two two-requires-2 mul-result add-result returns)

@@ -1,5 +1,8 @@
 -- `two` meets its contract. Two bytes are the halves of a number. Assumes nothing.
-use Rattle.le_bytes.proofs.Halves.{le-two}
+use Rattle.le_bytes.proofs.Halves.{le-one, joined}
+use Prim.Native.Nat.{_+_}
+use mathlib.Core.Path.{sym, _∙_}
+use native.Mathlib.Omega.{arith}
 use borrow.Author.Needs.{needs}
 use Rattle.le_bytes.proofs.two.Statement.{statement}
 use Rattle.le_bytes.proofs.two.Tie as tie
@@ -26,7 +29,11 @@ add-result : tie.Need-add-result
 add-result c = search needs
 
 returns : tie.Need-returns
-returns c = (cc (le-two (c .before .before .before .before .before .args .s .now) (c .before .before .before .before .before .args .at) (c .before .before .before .before .before .pre)), search needs)
+returns c =
+    let a = c .before .before .before .before .before .args in (
+      joined 1 1 (a .s .now) (a .at) (omega arith) (c .before .before .wide .ensures .0 ∙ sym (le-one (a .s .now) (a .at) (omega arith))) (c .wide2 .ensures .0 ∙ sym (le-one (a .s .now) (a .at + 1) (omega arith))),
+      search needs,
+    )
 
 pub two-spec : {M : Type 1} → statement M
 two-spec =

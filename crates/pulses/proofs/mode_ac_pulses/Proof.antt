@@ -1,9 +1,10 @@
 -- `pulses::mode_ac_pulses` meets its contract: at every turn, marking what is left gives what marking all gives. Assumes nothing.
-use mathlib.Core.Path.{_≡_, refl, sym, _∙_}
-use mathlib.Core.Bool.{true}
+use mathlib.Core.Path.{_≡_, refl, sym, ap, _∙_}
+use mathlib.Core.Bool.{Bool, true}
+use mathlib.Core.List.{List}
 use mathlib.Core.Logic.{⊎-elim}
-use Prim.Native.Nat.{_-_, _≤_}
-use lib.ListN.{length, length-set}
+use Prim.Native.Nat.{ℕ, _+_, _-_, _≤_}
+use lib.ListN.{length, set, length-set}
 use Rattle.mode_ac.proofs.RisingPlaces.{place-below}
 use Rattle.pulses.specs.ModeAC.{dataPlaces}
 use Rattle.pulses.proofs.Marked.{mark}
@@ -47,11 +48,12 @@ loop-again : tie.Need-loop-again Inv-loop μ-loop
 loop-again c =
     let l = c .before .before .before .loop in
     let d = c .before .before .before .before .args .«data» in
-    let h = c .before .before .loop-test .taken in (
+    let h = c .before .before .loop-test .taken in
+    let left : List Bool → List Bool = mark (dataPlaces d (12 - (l .n + 1)) (l .n + 1)) in (
       search needs,
-      ⊎-elim (λ t. cc (length-set (l .on) (t .1 .result) true)) (λ f. cc) (c .if1 .came),
-      ⊎-elim (λ t. cc (turn-set d (l .n) (l .on) h (sym (c .before .bit-of .ensures) ∙ t .0 .taken)))
-          (λ f. cc (turn-clear d (l .n) (l .on) h (sym (c .before .bit-of .ensures) ∙ f .0 .left)))
+      ⊎-elim (λ t. ap length (t .2) ∙ length-set (l .on) (t .1 .result) true ∙ l .inv .1) (λ f. ap length (f .1) ∙ l .inv .1) (c .if1 .came),
+      ⊎-elim (λ t. ap left (t .2 ∙ ap (λ (p : ℕ). set (l .on) p true) (t .1 .ensures)) ∙ turn-set d (l .n) (l .on) h (sym (c .before .bit-of .ensures) ∙ t .0 .taken) ∙ l .inv .2)
+          (λ f. ap left (f .1) ∙ turn-clear d (l .n) (l .on) h (sym (c .before .bit-of .ensures) ∙ f .0 .left) ∙ l .inv .2)
           (c .if1 .came),
     )
 

@@ -3,7 +3,7 @@ use mathlib.Core.Path.{_≡_, refl, sym, ap, _∙_}
 use Prim.Native.Nat.{ℕ, _+_, _-_, _*_, _≤_}
 use native.Mathlib.Nat.{sub-zero}
 use mathlib.Core.Bool.{true}
-use lib.ListN.{length, set}
+use lib.ListN.{length, set, length-set}
 use Rattle.pulses.specs.ModeS.{bitOf, pairPlace, bitPlaces, modeSLength}
 use Rattle.pulses.proofs.Marked.{mark}
 use Rattle.pulses.proofs.ModeSTurns.{pair-place, turn, end, preambled, whole}
@@ -35,7 +35,7 @@ array-write-on-4 : tie.Need-array-write-on-4 Inv-loop μ-loop
 array-write-on-4 c = search needs
 
 loop-holds : tie.Need-loop-holds Inv-loop μ-loop
-loop-holds c = (search needs, refl, cc (sub-zero (c .num-bits .result)))
+loop-holds c = (search needs, refl, rw (sub-zero (c .num-bits .result)))
 
 array-read-bit : tie.Need-array-read-bit Inv-loop μ-loop
 array-read-bit c = search needs
@@ -71,7 +71,7 @@ loop-again c =
     let bytes = c .before .before .before .before .args .t1 in
     let bits = c .before .before .before .num-bits .result in (
       search needs,
-      search needs,
+      length-set (l .on) _ true ∙ l .inv .1,
       ap (λ (p : ℕ). mark (bitPlaces bytes (bits - (l .n + 1)) (l .n + 1)) (set (l .on) p true)) (sym (pair-place (l .n) (c .bit .result) (search needs)) ∙ ap (pairPlace (l .n)) (c .bit .ensures .0))
           ∙ turn bytes bits (l .n) (l .on) (c .before .loop-test .taken)
           ∙ l .inv .2,

@@ -1,4 +1,4 @@
--- `float_bits::ceil_small` meets its contract: the whole part, or the next where x is above it. Assumes nothing.
+-- `ceil_small` meets its contract: the whole part, or the next where x is above it. Assumes nothing.
 use mathlib.Core.Path.{sym, _∙_, subst}
 use mathlib.Core.Bool.{Bool, not}
 use Prim.Native.Nat.{_^_, _<_}
@@ -8,11 +8,11 @@ use lib.Dec.{T, le→leb}
 use lib.Ieee.{inFloat}
 use mir.Syntax.{w64}
 use mir.Facts.{toZ-pos}
-use Rattle.float_bits.proofs.Ceiling.{pos-above-one, small-below-64, whole-part, small}
-use Rattle.float_bits.proofs.ceil_small.Statement.{statement}
-use Rattle.float_bits.proofs.ceil_small.Tie as tie
-use Rattle.float_bits.proofs.ceil_small.Reads as reads
-use Rattle.float_bits.proofs.ceil_small.Lts as lts
+use Rattle.float_to_int.proofs.Ceiling.{pos-above-one, small-below-64, whole-part, small}
+use Rattle.float_to_int.proofs.ceil_small.Statement.{statement}
+use Rattle.float_to_int.proofs.ceil_small.Tie as tie
+use Rattle.float_to_int.proofs.ceil_small.Reads as reads
+use Rattle.float_to_int.proofs.ceil_small.Lts as lts
 use Rattle.std.proofs.num.truncating_f64_to_u64.Reads as truncating-f64-to-u64-reads
 
 truncating-f64-to-u64-requires : tie.Need-truncating-f64-to-u64-requires

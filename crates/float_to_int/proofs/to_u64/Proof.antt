@@ -1,12 +1,12 @@
--- `float_bits::to_u64` meets its contract: each branch is a case of `proofs/Truncation.antt`. Assumes nothing.
+-- `to_u64` meets its contract: each branch is a case of `proofs/Truncation.antt`. Assumes nothing.
 use mathlib.Core.Path.{sym, subst}
 use mathlib.Core.Bool.{Bool, not}
 use lib.Dec.{T}
 use lib.Ieee.{ofBits}
 use borrow.Author.Needs.{needs}
-use Rattle.float_bits.proofs.Truncation.{above-minus-one, at-the-top, below-one}
-use Rattle.float_bits.proofs.to_u64.Statement.{statement}
-use Rattle.float_bits.proofs.to_u64.Tie as tie
+use Rattle.float_to_int.proofs.Truncation.{above-minus-one, at-the-top, below-one}
+use Rattle.float_to_int.proofs.to_u64.Statement.{statement}
+use Rattle.float_to_int.proofs.to_u64.Tie as tie
 
 truncating-f64-to-u64-requires : tie.Need-truncating-f64-to-u64-requires
 unfolding ofBits

@@ -1,4 +1,4 @@
--- `float_bits::ceil_to_i64` meets its contract: each branch is a case of `proofs/Ceiling.antt`. Assumes nothing.
+-- `ceil_to_i64` meets its contract: each branch is a case of `proofs/Ceiling.antt`. Assumes nothing.
 use mathlib.Core.Path.{_≡_, sym, ap, _∙_, subst}
 use mathlib.Core.Bool.{Bool, true, false, not}
 use lib.Dec.{T}
@@ -8,13 +8,13 @@ use lib.Ieee.Casts.{toSigned-in}
 use mir.Syntax.{w64}
 use mir.Val.{toZ, ofZ}
 use mir.Facts.{toZ-ofZ}
-use Rattle.float_bits.proofs.Ceiling.{pos-above-min, nonpos-below-max, large, huge, nonpos, low-end, no-number}
+use Rattle.float_to_int.proofs.Ceiling.{pos-above-min, nonpos-below-max, large, huge, nonpos, low-end, no-number}
 use borrow.Author.Needs.{needs}
-use Rattle.float_bits.proofs.ceil_to_i64.Statement.{statement}
-use Rattle.float_bits.proofs.ceil_to_i64.Tie as tie
-use Rattle.float_bits.proofs.ceil_to_i64.Reads as reads
-use Rattle.float_bits.proofs.ceil_to_i64.Lts as lts
-use Rattle.float_bits.proofs.ceil_small.Reads as ceil-small-reads
+use Rattle.float_to_int.proofs.ceil_to_i64.Statement.{statement}
+use Rattle.float_to_int.proofs.ceil_to_i64.Tie as tie
+use Rattle.float_to_int.proofs.ceil_to_i64.Reads as reads
+use Rattle.float_to_int.proofs.ceil_to_i64.Lts as lts
+use Rattle.float_to_int.proofs.ceil_small.Reads as ceil-small-reads
 use Rattle.std.proofs.num.truncating_f64_to_i64.Reads as truncating-f64-to-i64-reads
 
 yes : {b : Bool} → b ≡ true → T b

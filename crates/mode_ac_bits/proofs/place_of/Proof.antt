@@ -1,10 +1,10 @@
--- `mode_ac::place_of` meets its contract. Assumes nothing.
+-- `place_of` meets its contract. Assumes nothing.
 use borrow.Author.Needs.{needs}
 use mathlib.Core.Path.{refl, sym}
 use lib.ListN.{List·getD-eq-default}
 use Rattle.mode_ac.specs.Places.{places, placeOf}
-use Rattle.mode_ac.proofs.place_of.Statement.{statement}
-use Rattle.mode_ac.proofs.place_of.Tie as tie
+use Rattle.mode_ac_bits.proofs.place_of.Statement.{statement}
+use Rattle.mode_ac_bits.proofs.place_of.Tie as tie
 
 mul-result : tie.Need-mul-result
 mul-result c = search needs

@@ -1,0 +1,2 @@
+mod Ceiling
+mod Truncation
