@@ -170,7 +170,7 @@ module _ (level : Float) (tapsS tapsAC : List Float) where
 
   -- an opened run fills what was lent, a refusal leaves it
   module _ (bytes : List ℕ) (l : Lent) (modeS modeAC memory p q : List Float) (f : p ≡ modeSPrototype four tapsS) (g : q ≡ modeACPrototype four tapsAC) where
-    filled : (b : Bool) (o : Opened) → o ≡ openedOf four level tapsS tapsAC bytes l → b ≡ isRun o
+    pub filled : (b : Bool) (o : Opened) → o ≡ openedOf four level tapsS tapsAC bytes l → b ≡ isRun o
         → modeS ≡ cond b (over p (l .modeS)) (l .modeS) → modeAC ≡ cond b (over q (l .modeAC)) (l .modeAC) → memory ≡ cond b (zeros (length (l .memory))) (l .memory)
         → record { modeS = modeS; modeAC = modeAC; memory = memory } ≡ leftBy four tapsS tapsAC o l
     unfolding leftBy isRun openedOf
