@@ -12,6 +12,7 @@ use Rattle.due_samples.specs.Due.{zeros}
 use Rattle.pulse_shape.specs.declared.Crossing.{Crossing}
 use Rattle.pulse_shape.specs.declared.Crossing.the-variants.{At, Nowhere}
 use Rattle.pulse_shape.specs.Prototype.{modeSPrototype, modeACPrototype}
+use Rattle.pulse_shape.proofs.Whole.{length-prototype}
 use Rattle.pulse_shape.specs.Accepted.{allWithin16, modeSTapsAccepted, modeACTapsAccepted}
 use Rattle.pulse_shape.specs.GroupDelay.{groupDelay, modeACGroupDelay}
 use Rattle.refusals.specs.declared.Refusal.{Refusal}
@@ -23,9 +24,12 @@ use Rattle.settings.specs.declared.Settings.{Settings}
 use Rattle.settings.specs.declared.Checked as Checked
 use Rattle.settings.specs.Settings.{settingsOf}
 use Rattle.settings.specs.Accepted.{acceptedOf}
+use Rattle.filling.specs.Over.{over}
+use Rattle.filling.proofs.Filling.{over-whole}
 use Rattle.opening.specs.declared.Opened.{Opened}
+use Rattle.opening.specs.declared.Prepared.{Prepared}
 use Rattle.opening.specs.declared.Opened.the-variants.{Run, Refused}
-use Rattle.opening.specs.Opening.{Lent, firstState, lentFits, modeSDelay, modeACDelay, delaysThen, delaysOf, tapsOf, settingsThen, openedOf, isRun, leftBy}
+use Rattle.opening.specs.Opening.{Lent, firstState, lentFits, modeSDelay, modeACDelay, delaysThen, delaysOf, tapsOf, settingsThen, openedFor, openedOf, preparedOf, isRun, leftBy}
 
 -- the lengths, from facts and to facts
 pub record Fits (modeS modeAC memory : ℕ) : Type 0 where
@@ -81,11 +85,6 @@ pub a-refusal : (r : Opened) (q : Refusal) → r ≡ Refused q → false ≡ isR
 unfolding isRun
 a-refusal r q e = sym (ap isRun e)
 
--- a refusal leaves what was lent
-pub left-refused : (sps : ℕ) (tapsS tapsAC : List Float) (r : Refusal) (l : Lent) → l ≡ leftBy sps tapsS tapsAC (Refused r) l
-unfolding leftBy
-left-refused sps tapsS tapsAC r l = refl
-
 -- refusal 6, for either delay; or the first state
 module _ (rates : MessagesPerSecond) (total : ℕ) (all : Distributions) (x y : Crossing) where
   pub no-mode-s : x ≡ Nowhere → Refused Cause.Prototype ≡ delaysThen rates total all x y
@@ -102,13 +101,6 @@ module _ (rates : MessagesPerSecond) (total : ℕ) (all : Distributions) (x y : 
 
 module _ (level : Float) (tapsS tapsAC : List Float) where
   module _ (rates : MessagesPerSecond) (total : ℕ) (all : Distributions) where
-    -- the delays, from the values that the calls give
-    pub delays-given : (p q : List Float) (x y : Crossing) (r : Opened) → p ≡ modeSPrototype four tapsS → q ≡ modeACPrototype four tapsAC
-        → x ≡ modeSDelay four level p → y ≡ modeACDelay four level q → r ≡ delaysThen rates total all x y → r ≡ delaysOf four level tapsS tapsAC rates total all
-    unfolding delaysOf
-    delays-given p q x y r e f g h k =
-        k ∙ (λ i. delaysThen rates total all ((g ∙ ap (modeSDelay four level) e) i) ((h ∙ ap (modeACDelay four level) f) i))
-
     -- refusal 5, for either list
     by-taps : (b : Bool) → modeSTapsAccepted four tapsS && modeACTapsAccepted four tapsAC ≡ b → cond b (delaysOf four level tapsS tapsAC rates total all) (Refused Cause.Taps) ≡ tapsOf four level tapsS tapsAC rates total all
     unfolding tapsOf
@@ -123,47 +115,83 @@ module _ (level : Float) (tapsS tapsAC : List Float) where
     pub taps-pass : modeSTapsAccepted four tapsS ≡ true → modeACTapsAccepted four tapsAC ≡ true → delaysOf four level tapsS tapsAC rates total all ≡ tapsOf four level tapsS tapsAC rates total all
     taps-pass e f = by-taps true (ap (λ (x : Bool). x && modeACTapsAccepted four tapsAC) e ∙ f)
 
+    -- refusal 6 or the first state, behind accepted taps
+    pub taps-given : {p q : List Float} {x y : Crossing} {r : Opened} {s ac : Bool} → p ≡ modeSPrototype four tapsS → q ≡ modeACPrototype four tapsAC
+        → s ≡ modeSTapsAccepted four tapsS → s ≡ true → ac ≡ modeACTapsAccepted four tapsAC → ac ≡ true
+        → x ≡ modeSDelay four level p → y ≡ modeACDelay four level q → r ≡ delaysThen rates total all x y → r ≡ tapsOf four level tapsS tapsAC rates total all
+    unfolding delaysOf
+    taps-given e f a b c d g h k =
+        k
+        ∙ (λ i. delaysThen rates total all ((g ∙ ap (modeSDelay four level) e) i) ((h ∙ ap (modeACDelay four level) f) i))
+        ∙ taps-pass (sym a ∙ b) (sym c ∙ d)
+
   -- refusal 9, then 1 to 4
-  module _ (bytes : List ℕ) (l : Lent) where
-    by-lent : (b : Bool) → lentFits four (length (l .modeS)) (length (l .modeAC)) (length (l .memory)) ≡ b
-        → cond b (settingsThen four level tapsS tapsAC (settingsOf bytes .rates) (acceptedOf four (settingsOf bytes))) (Refused Cause.Lent) ≡ openedOf four level tapsS tapsAC bytes l
-    unfolding openedOf
+  module _ (bytes : List ℕ) (modeS modeAC memory : ℕ) where
+    by-lent : (b : Bool) → lentFits four modeS modeAC memory ≡ b
+        → cond b (settingsThen four level tapsS tapsAC (settingsOf bytes .rates) (acceptedOf four (settingsOf bytes))) (Refused Cause.Lent) ≡ openedFor four level tapsS tapsAC bytes modeS modeAC memory
+    unfolding openedFor
     by-lent b e = ap (λ (x : Bool). cond x (settingsThen four level tapsS tapsAC (settingsOf bytes .rates) (acceptedOf four (settingsOf bytes))) (Refused Cause.Lent)) (sym e)
 
-    pub lent-refused : lentFits four (length (l .modeS)) (length (l .modeAC)) (length (l .memory)) ≡ false → Refused Cause.Lent ≡ openedOf four level tapsS tapsAC bytes l
+    pub lent-refused : lentFits four modeS modeAC memory ≡ false → Refused Cause.Lent ≡ openedFor four level tapsS tapsAC bytes modeS modeAC memory
     lent-refused = by-lent false
 
     -- the settings, and what their check gives
-    module _ (s : Settings) (x : Checked.Checked) (held : s ≡ settingsOf bytes) (checks : x ≡ acceptedOf four s) (fit : lentFits four (length (l .modeS)) (length (l .modeAC)) (length (l .memory)) ≡ true) where
-      by-settings : settingsThen four level tapsS tapsAC (s .rates) x ≡ openedOf four level tapsS tapsAC bytes l
+    module _ (s : Settings) (x : Checked.Checked) (held : s ≡ settingsOf bytes) (checks : x ≡ acceptedOf four s) (fit : lentFits four modeS modeAC memory ≡ true) where
+      by-settings : settingsThen four level tapsS tapsAC (s .rates) x ≡ openedFor four level tapsS tapsAC bytes modeS modeAC memory
       by-settings =
           ap (settingsThen four level tapsS tapsAC (s .rates)) checks
           ∙ ap (λ (z : Settings). settingsThen four level tapsS tapsAC (z .rates) (acceptedOf four z)) held
           ∙ by-lent true fit
 
-      pub settings-refused : (r : Refusal) → x ≡ Checked.the-variants.Refused r → Refused r ≡ openedOf four level tapsS tapsAC bytes l
+      pub settings-refused : (r : Refusal) → x ≡ Checked.the-variants.Refused r → Refused r ≡ openedFor four level tapsS tapsAC bytes modeS modeAC memory
       unfolding settingsThen
       settings-refused r e = ap (settingsThen four level tapsS tapsAC (s .rates)) (sym e) ∙ by-settings
 
-      pub settings-pass : (total : ℕ) (all : Distributions) → x ≡ Checked.the-variants.Accepted total all → tapsOf four level tapsS tapsAC (s .rates) total all ≡ openedOf four level tapsS tapsAC bytes l
+      pub settings-pass : (total : ℕ) (all : Distributions) → x ≡ Checked.the-variants.Accepted total all → tapsOf four level tapsS tapsAC (s .rates) total all ≡ openedFor four level tapsS tapsAC bytes modeS modeAC memory
       unfolding settingsThen
       settings-pass total all e = ap (settingsThen four level tapsS tapsAC (s .rates)) (sym e) ∙ by-settings
 
--- an opened run fills what was lent, a refusal leaves it
-pub left-given : (tapsS tapsAC modeS modeAC memory p q : List Float) (r : Opened) (b : Bool) (n : ℕ) (l : Lent)
-    → p ≡ modeSPrototype four tapsS → q ≡ modeACPrototype four tapsAC → n ≡ 2252 → b ≡ isRun r
-    → modeS ≡ cond b p (l .modeS) → modeAC ≡ cond b q (l .modeAC) → memory ≡ cond b (zeros n) (l .memory)
-    → record { modeS = modeS; modeAC = modeAC; memory = memory } ≡ leftBy four tapsS tapsAC r l
-unfolding leftBy isRun
-left-given tapsS tapsAC modeS modeAC memory p q (Run state) b n l e f k t x y z =
-    λ i. record {
-      modeS = (x ∙ ap (λ (c : Bool). cond c p (l .modeS)) t ∙ e) i;
-      modeAC = (y ∙ ap (λ (c : Bool). cond c q (l .modeAC)) t ∙ f) i;
-      memory = (z ∙ ap (λ (c : Bool). cond c (zeros n) (l .memory)) t ∙ ap zeros k) i;
-    }
-left-given tapsS tapsAC modeS modeAC memory p q (Refused refusal) b n l e f k t x y z =
-    λ i. record {
-      modeS = (x ∙ ap (λ (c : Bool). cond c p (l .modeS)) t) i;
-      modeAC = (y ∙ ap (λ (c : Bool). cond c q (l .modeAC)) t) i;
-      memory = (z ∙ ap (λ (c : Bool). cond c (zeros n) (l .memory)) t) i;
-    }
+      pub settings-given : {r : Opened} (total : ℕ) (all : Distributions) → x ≡ Checked.the-variants.Accepted total all → r ≡ tapsOf four level tapsS tapsAC (s .rates) total all → r ≡ openedFor four level tapsS tapsAC bytes modeS modeAC memory
+      settings-given total all e k = k ∙ settings-pass total all e
+
+    -- a run is opened only where what is lent fits
+    pub run-fits : (o : Opened) → o ≡ openedFor four level tapsS tapsAC bytes modeS modeAC memory → isRun o ≡ true → Fits modeS modeAC memory
+    unfolding isRun
+    run-fits o e t = fits-for modeS modeAC memory (go (lentFits four modeS modeAC memory) refl)
+      where
+        go : (b : Bool) → lentFits four modeS modeAC memory ≡ b → b ≡ true
+        go true f = refl
+        go false f = ap isRun (lent-refused f ∙ sym e) ∙ t
+
+    pub prepared : {o : Opened} {p q : List Float} → o ≡ openedFor four level tapsS tapsAC bytes modeS modeAC memory → p ≡ modeSPrototype four tapsS → q ≡ modeACPrototype four tapsAC
+        → record { opened = o; «mode_s» = p; «mode_ac» = q } ≡ preparedOf four level tapsS tapsAC bytes modeS modeAC memory
+    unfolding preparedOf
+    prepared e f g = λ i. record { opened = e i; «mode_s» = f i; «mode_ac» = g i }
+
+  -- an opened run fills what was lent, a refusal leaves it
+  module _ (bytes : List ℕ) (l : Lent) (modeS modeAC memory p q : List Float) (f : p ≡ modeSPrototype four tapsS) (g : q ≡ modeACPrototype four tapsAC) where
+    pub filled : (b : Bool) (o : Opened) → o ≡ openedOf four level tapsS tapsAC bytes l → b ≡ isRun o
+        → modeS ≡ cond b (over p (l .modeS)) (l .modeS) → modeAC ≡ cond b (over q (l .modeAC)) (l .modeAC) → memory ≡ cond b (zeros (length (l .memory))) (l .memory)
+        → record { modeS = modeS; modeAC = modeAC; memory = memory } ≡ leftBy four tapsS tapsAC o l
+    unfolding leftBy isRun openedOf
+    filled b (Run state) e t x y z =
+        let fit = run-fits bytes _ _ _ (Run state) e refl in
+        λ i. record {
+          modeS = (x ∙ ap (λ (c : Bool). cond c (over p (l .modeS)) (l .modeS)) t ∙ over-whole p (l .modeS) (ap length f ∙ length-prototype four _ tapsS ∙ sym (fit .mode-s-is)) ∙ f) i;
+          modeAC = (y ∙ ap (λ (c : Bool). cond c (over q (l .modeAC)) (l .modeAC)) t ∙ over-whole q (l .modeAC) (ap length g ∙ length-prototype four _ tapsAC ∙ sym (fit .mode-ac-is)) ∙ g) i;
+          memory = (z ∙ ap (λ (c : Bool). cond c (zeros (length (l .memory))) (l .memory)) t ∙ ap zeros (fit .memory-is)) i;
+        }
+    filled b (Refused refusal) e t x y z =
+        λ i. record {
+          modeS = (x ∙ ap (λ (c : Bool). cond c (over p (l .modeS)) (l .modeS)) t) i;
+          modeAC = (y ∙ ap (λ (c : Bool). cond c (over q (l .modeAC)) (l .modeAC)) t) i;
+          memory = (z ∙ ap (λ (c : Bool). cond c (zeros (length (l .memory))) (l .memory)) t) i;
+        }
+
+  pub opened-left : (bytes : List ℕ) (l : Lent) {P : Prepared} {b : Bool} {modeS modeAC memory : List Float} → P ≡ preparedOf four level tapsS tapsAC bytes (length (l .modeS)) (length (l .modeAC)) (length (l .memory)) → b ≡ isRun (P .opened)
+      → modeS ≡ cond b (over (P .«mode_s») (l .modeS)) (l .modeS) → modeAC ≡ cond b (over (P .«mode_ac») (l .modeAC)) (l .modeAC) → memory ≡ cond b (zeros (length (l .memory))) (l .memory)
+      → (P .opened ≡ openedOf four level tapsS tapsAC bytes l) × (record { modeS = modeS; modeAC = modeAC; memory = memory } ≡ leftBy four tapsS tapsAC (P .opened) l)
+  unfolding preparedOf openedOf
+  opened-left bytes l {P} {b} {modeS} {modeAC} {memory} e t x y z =
+      let o : P .opened ≡ openedOf four level tapsS tapsAC bytes l = ap (λ (w : Prepared). w .opened) e in
+      (o, filled bytes l modeS modeAC memory (P .«mode_s») (P .«mode_ac») (ap (λ (w : Prepared). w .«mode_s») e) (ap (λ (w : Prepared). w .«mode_ac») e) b (P .opened) o t x y z)

@@ -25,7 +25,7 @@ use Rattle.settings.specs.Accepted.{acceptedOf}
 use Rattle.settings.proofs.FirstCause as Settings
 use Rattle.opening.specs.declared.Opened.{Opened}
 use Rattle.opening.specs.declared.Opened.the-variants.{Run, Refused}
-use Rattle.opening.specs.Opening.{Lent, firstState, lentFits, modeSDelay, modeACDelay, delaysThen, delaysOf, tapsOf, settingsThen, openedOf}
+use Rattle.opening.specs.Opening.{Lent, firstState, lentFits, modeSDelay, modeACDelay, delaysThen, delaysOf, tapsOf, settingsThen, openedFor, openedOf}
 use Rattle.opening.proofs.Decided.{Fits, fits-if, fits-for, mode-s-delay-of, mode-ac-delay-of, no-mode-s, no-mode-ac, both-found, mode-s-taps-refused, mode-ac-taps-refused, taps-pass, lent-refused, settings-refused, settings-pass}
 
 -- ---- what each refusal looks at, as facts
@@ -191,7 +191,7 @@ module _ (level : Float) (tapsS tapsAC : List Float) (bytes : List ℕ) (l : Len
   by-settings f (Checked.the-variants.Refused q) s = refused-1-to-4 f s
 
   pub answered : Right (openedOf four level tapsS tapsAC bytes l)
-  unfolding openedOf
+  unfolding openedOf openedFor
   answered = go (lentFits four (length (l .modeS)) (length (l .modeAC)) (length (l .memory))) (lent-decides (length (l .modeS)) (length (l .modeAC)) (length (l .memory)))
     where
       go : (b : Bool) → Decides b (LentFits l)
@@ -204,7 +204,8 @@ module _ (level : Float) (tapsS tapsAC : List Float) (bytes : List ℕ) (l : Len
   fit = holds _ (lent-decides (length (l .modeS)) (length (l .modeAC)) (length (l .memory)))
 
   passes : (n : ℕ) (d : Distributions) → Passed bytes l n d → openedOf four level tapsS tapsAC bytes l ≡ tapsOf four level tapsS tapsAC (settingsOf bytes .rates) n d
-  passes n d P = sym (settings-pass level tapsS tapsAC bytes l (settingsOf bytes) _ refl refl (fit (P .lent)) n d (Settings.only four (settingsOf bytes) _ (P .settings)))
+  unfolding openedOf
+  passes n d P = sym (settings-pass level tapsS tapsAC bytes _ _ _ (settingsOf bytes) _ refl refl (fit (P .lent)) n d (Settings.only four (settingsOf bytes) _ (P .settings)))
 
   good-taps : BothTaps tapsS tapsAC → (modeSTapsAccepted four tapsS ≡ true) × (modeACTapsAccepted four tapsAC ≡ true)
   unfolding modeSTapsAccepted modeACTapsAccepted
@@ -237,9 +238,9 @@ module _ (level : Float) (tapsS tapsAC : List Float) (bytes : List ℕ) (l : Len
         go Nowhere e f y h g = no-mode-s _ n d _ _ e
 
   pub only : (c : Opened) → Right c → openedOf four level tapsS tapsAC bytes l ≡ c
-  unfolding delaysOf
-  only c (refused-9 f) = sym (lent-refused level tapsS tapsAC bytes l (fails _ (lent-decides (length (l .modeS)) (length (l .modeAC)) (length (l .memory))) f))
-  only c (refused-1-to-4 {q} f s) = sym (settings-refused level tapsS tapsAC bytes l (settingsOf bytes) _ refl refl (fit f) q (Settings.only four (settingsOf bytes) _ s))
+  unfolding delaysOf openedOf
+  only c (refused-9 f) = sym (lent-refused level tapsS tapsAC bytes _ _ _ (fails _ (lent-decides (length (l .modeS)) (length (l .modeAC)) (length (l .memory))) f))
+  only c (refused-1-to-4 {q} f s) = sym (settings-refused level tapsS tapsAC bytes _ _ _ (settingsOf bytes) _ refl refl (fit f) q (Settings.only four (settingsOf bytes) _ s))
   only c (refused-5 {n} {d} P t) = passes n d P ∙ sym (taps-refused n d t)
   only c (refused-6 {n} {d} P t p) = passes n d P ∙ sym (prototype-refused n d p ∙ taps-go-on n d t)
   only c (accepted {n} {d} {a} {b} P t p f g) =

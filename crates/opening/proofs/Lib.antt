@@ -1,4 +1,3 @@
-pub mod Filling
 pub mod Decided
 pub mod FirstCause
 pub mod WhatIsOpened

@@ -20,6 +20,7 @@ use Rattle.settings.specs.declared.Checked as Checked
 use Rattle.settings.specs.Settings.{settingsOf}
 use Rattle.settings.specs.Accepted.{acceptedOf}
 use Rattle.opening.specs.declared.Opened as Opened
+use Rattle.opening.specs.declared.Prepared.{Prepared}
 
 -- what opening is lent to write: the two prototypes and working memory
 pub record Lent : Type 0 where
@@ -75,12 +76,18 @@ module _ (sps : ℕ) (level : Float) (tapsS tapsAC : List Float) where
   settingsThen rates (Checked.the-variants.Accepted total all) = tapsOf rates total all
   settingsThen rates (Checked.the-variants.Refused refusal) = Opened.the-variants.Refused refusal
 
-  -- what opening answers: refusal 9, "working memory not 2,252 f32, a prototype not 1,792 f32"; then the others
+  -- what opening answers, lent prototypes and working memory of these lengths: refusal 9, "working memory not 2,252 f32, a prototype not 1,792 f32"; then the others
+  unfoldable pub openedFor : List ℕ → ℕ → ℕ → ℕ → Opened.Opened
+  openedFor bytes modeS modeAC memory =
+      cond (lentFits sps modeS modeAC memory) (settingsThen (settingsOf bytes .rates) (acceptedOf sps (settingsOf bytes))) (Opened.the-variants.Refused Refusal.the-variants.Lent)
+
   unfoldable pub openedOf : List ℕ → Lent → Opened.Opened
-  openedOf bytes lent =
-      cond (lentFits sps (length (lent .modeS)) (length (lent .modeAC)) (length (lent .memory)))
-      (settingsThen (settingsOf bytes .rates) (acceptedOf sps (settingsOf bytes)))
-      (Opened.the-variants.Refused Refusal.the-variants.Lent)
+  openedOf bytes lent = openedFor bytes (length (lent .modeS)) (length (lent .modeAC)) (length (lent .memory))
+
+  -- the answer, with the prototypes that a run is opened with
+  unfoldable pub preparedOf : List ℕ → ℕ → ℕ → ℕ → Prepared
+  preparedOf bytes modeS modeAC memory =
+      record { opened = openedFor bytes modeS modeAC memory; «mode_s» = modeSPrototype sps tapsS; «mode_ac» = modeACPrototype sps tapsAC }
 
 -- whether a run is opened, and not refused
 unfoldable pub isRun : Opened.Opened → Bool

@@ -1,10 +1,8 @@
 // Opening a run: refusal 9 for what is lent, refusals 1 to 6, and, accepted, the prototypes, the working memory and the state. Assumes nothing.
-ghost use mathlib.Core.Bool.{cond};
 ghost use mathlib.Core.Path.{_≡_};
-ghost use lib.ListN.{length};
 ghost use Rattle.constants.specs.Rate.{four};
-ghost use Rattle.due_samples.specs.Due.{zeros};
-ghost use Rattle.opening.specs.Opening.{half, lentFits, modeSDelay, modeACDelay, firstState, delaysThen, delaysOf, tapsOf, openedOf, isRun, leftBy};
+ghost use Rattle.pulse_shape.specs.Prototype.{modeSPrototype, modeACPrototype};
+ghost use Rattle.opening.specs.Opening.{half, lentFits, modeSDelay, modeACDelay, firstState, delaysThen, tapsOf, openedFor, openedOf, preparedOf, isRun, leftBy};
 use message_config::Delays;
 use pulse_shape::Crossing;
 use refusals::Refusal;
@@ -16,6 +14,13 @@ use settings::MessagesPerSecond;
 pub enum Opened {
     Run(State),
     Refused(Refusal),
+}
+
+// What opening answers, and the prototypes that a run is opened with.
+pub struct Prepared {
+    pub opened: Opened,
+    pub mode_s: [f32; 1792],
+    pub mode_ac: [f32; 1792],
 }
 
 // Whether the prototypes and working memory have their lengths.
@@ -32,27 +37,6 @@ fn lent_fits(mode_s: usize, mode_ac: usize, memory: usize) -> bool
         return false;
     }
     true
-}
-
-fn copy(from: &[f32], to: &mut [f32])
-    requires { ⌜ length (now from) ≡ length (now to) ⌝ }
-    ensures { λ _. ⌜ now (to .exit) ≡ now (from .entry) ⌝ }
-{
-    let mut k: usize = 0;
-    while k < from.len() {
-        to[k] = from[k];
-        k = k + 1;
-    }
-}
-
-fn clear(memory: &mut [f32])
-    ensures { λ _. ⌜ now (memory .exit) ≡ zeros (length (now (memory .entry))) ⌝ }
-{
-    let mut k: usize = 0;
-    while k < memory.len() {
-        memory[k] = 0.0;
-        k = k + 1;
-    }
 }
 
 // The delay of a Mode S prototype; nowhere where a value is not finite or above 16 in size.
@@ -129,51 +113,6 @@ fn is_run(answer: Opened) -> bool
     }
 }
 
-// For a run, fills the prototypes and sets working memory to 0.0.
-fn fill(
-    opened: bool,
-    proto_s: &[f32],
-    proto_ac: &[f32],
-    mode_s: &mut [f32],
-    mode_ac: &mut [f32],
-    memory: &mut [f32],
-)
-    requires { ⌜ (length (now «proto_s») ≡ length (now «mode_s»)) × (length (now «proto_ac») ≡ length (now «mode_ac»)) ⌝ }
-    ensures { λ _. ⌜ (now («mode_s» .exit) ≡ cond opened (now («proto_s» .entry)) (now («mode_s» .entry))) × (now («mode_ac» .exit) ≡ cond opened (now («proto_ac» .entry)) (now («mode_ac» .entry))) × (now (memory .exit) ≡ cond opened (zeros (length (now (memory .entry)))) (now (memory .entry))) ⌝ }
-{
-    if !opened {
-        return;
-    }
-    copy(proto_s, mode_s);
-    copy(proto_ac, mode_ac);
-    clear(memory);
-}
-
-// Refusal 6, or what a run is opened with.
-fn build(
-    rates: MessagesPerSecond,
-    total: u64,
-    all: Distributions,
-    level: f32,
-    taps_s: &[f32],
-    taps_ac: &[f32],
-    mode_s: &mut [f32],
-    mode_ac: &mut [f32],
-    memory: &mut [f32],
-) -> Opened
-    requires { ⌜ (length (now «mode_s») ≡ 1792) × (length (now «mode_ac») ≡ 1792) × (length (now memory) ≡ 2252) ⌝ }
-    ensures { λ r. ⌜ (r ≡ delaysOf four level (now («taps_s» .entry)) (now («taps_ac» .entry)) rates total all) × (record { modeS = now («mode_s» .exit); modeAC = now («mode_ac» .exit); memory = now (memory .exit) } ≡ leftBy four (now («taps_s» .entry)) (now («taps_ac» .entry)) r (record { modeS = now («mode_s» .entry); modeAC = now («mode_ac» .entry); memory = now (memory .entry) })) ⌝ }
-{
-    let proto_s = pulse_shape::mode_s_prototype(taps_s);
-    let proto_ac = pulse_shape::mode_ac_prototype(taps_ac);
-    let delay_s = mode_s_delay(level, &proto_s);
-    let delay_ac = mode_ac_delay(level, &proto_ac);
-    let answer = decide(rates, total, all, delay_s, delay_ac);
-    let opened = is_run(answer);
-    fill(opened, &proto_s, &proto_ac, mode_s, mode_ac, memory);
-    answer
-}
-
 // Refusal 5, then 6.
 fn check_taps(
     rates: MessagesPerSecond,
@@ -182,12 +121,11 @@ fn check_taps(
     level: f32,
     taps_s: &[f32],
     taps_ac: &[f32],
-    mode_s: &mut [f32],
-    mode_ac: &mut [f32],
-    memory: &mut [f32],
+    proto_s: &[f32],
+    proto_ac: &[f32],
 ) -> Opened
-    requires { ⌜ (length (now «mode_s») ≡ 1792) × (length (now «mode_ac») ≡ 1792) × (length (now memory) ≡ 2252) ⌝ }
-    ensures { λ r. ⌜ (r ≡ tapsOf four level (now («taps_s» .entry)) (now («taps_ac» .entry)) rates total all) × (record { modeS = now («mode_s» .exit); modeAC = now («mode_ac» .exit); memory = now (memory .exit) } ≡ leftBy four (now («taps_s» .entry)) (now («taps_ac» .entry)) r (record { modeS = now («mode_s» .entry); modeAC = now («mode_ac» .entry); memory = now (memory .entry) })) ⌝ }
+    requires { ⌜ (now «proto_s» ≡ modeSPrototype four (now «taps_s»)) × (now «proto_ac» ≡ modeACPrototype four (now «taps_ac»)) ⌝ }
+    ensures { λ r. ⌜ r ≡ tapsOf four level (now («taps_s» .entry)) (now («taps_ac» .entry)) rates total all ⌝ }
 {
     if !taps_check::mode_s_taps_accepted(taps_s) {
         return Opened::Refused(Refusal::Taps);
@@ -195,56 +133,71 @@ fn check_taps(
     if !taps_check::mode_ac_taps_accepted(taps_ac) {
         return Opened::Refused(Refusal::Taps);
     }
-    build(
-        rates,
-        total,
-        all,
-        level,
-        taps_s,
-        taps_ac,
-        mode_s,
-        mode_ac,
-        memory,
-    )
+    let delay_s = mode_s_delay(level, proto_s);
+    let delay_ac = mode_ac_delay(level, proto_ac);
+    decide(rates, total, all, delay_s, delay_ac)
 }
 
-// Opens a run: refusal 9, then 1 to 6, or the state. The level is that of the prototypes' crossings.
-fn open_at(
+// Refusal 9, then 1 to 6, or the state. The level is that of the prototypes' crossings.
+fn judge(
     settings: &[u8; 119],
     level: f32,
     taps_s: &[f32],
     taps_ac: &[f32],
-    mode_s: &mut [f32],
-    mode_ac: &mut [f32],
-    memory: &mut [f32],
+    proto_s: &[f32],
+    proto_ac: &[f32],
+    mode_s: usize,
+    mode_ac: usize,
+    memory: usize,
 ) -> Opened
-    ensures { λ r. ⌜ (r ≡ openedOf four level (now («taps_s» .entry)) (now («taps_ac» .entry)) (now (settings .entry)) (record { modeS = now («mode_s» .entry); modeAC = now («mode_ac» .entry); memory = now (memory .entry) })) × (record { modeS = now («mode_s» .exit); modeAC = now («mode_ac» .exit); memory = now (memory .exit) } ≡ leftBy four (now («taps_s» .entry)) (now («taps_ac» .entry)) r (record { modeS = now («mode_s» .entry); modeAC = now («mode_ac» .entry); memory = now (memory .entry) })) ⌝ }
+    requires { ⌜ (now «proto_s» ≡ modeSPrototype four (now «taps_s»)) × (now «proto_ac» ≡ modeACPrototype four (now «taps_ac»)) ⌝ }
+    ensures { λ r. ⌜ r ≡ openedFor four level (now («taps_s» .entry)) (now («taps_ac» .entry)) (now (settings .entry)) «mode_s» «mode_ac» memory ⌝ }
 {
-    if !lent_fits(mode_s.len(), mode_ac.len(), memory.len()) {
+    if !lent_fits(mode_s, mode_ac, memory) {
         return Opened::Refused(Refusal::Lent);
     }
     let s = settings::read(settings);
     let rates = s.rates;
-    let checked = settings_check::check(s);
-    match checked {
+    match settings_check::check(s) {
         Checked::Refused(refusal) => Opened::Refused(refusal),
         Checked::Accepted(total, all) => {
-            check_taps(
-                rates,
-                total,
-                all,
-                level,
-                taps_s,
-                taps_ac,
-                mode_s,
-                mode_ac,
-                memory,
-            )
+            check_taps(rates, total, all, level, taps_s, taps_ac, proto_s, proto_ac)
         }
     }
 }
 
-// Opens a run, as document 01 has it: the prototypes cross 0.5.
+// What opening answers, lent prototypes and working memory of these lengths, and the prototypes that a run is opened with: refusal 9, then 1 to 6, or the state. The prototypes cross 0.5.
+pub fn prepare(
+    settings: &[u8; 119],
+    taps_s: &[f32],
+    taps_ac: &[f32],
+    mode_s: usize,
+    mode_ac: usize,
+    memory: usize,
+) -> Prepared
+    ensures { λ r. ⌜ r ≡ preparedOf four half (now («taps_s» .entry)) (now («taps_ac» .entry)) (now (settings .entry)) «mode_s» «mode_ac» memory ⌝ }
+{
+    let proto_s = pulse_shape::mode_s_prototype(taps_s);
+    let proto_ac = pulse_shape::mode_ac_prototype(taps_ac);
+    let opened = judge(
+        settings,
+        0.5,
+        taps_s,
+        taps_ac,
+        &proto_s,
+        &proto_ac,
+        mode_s,
+        mode_ac,
+        memory,
+    );
+    Prepared {
+        opened: opened,
+        mode_s: proto_s,
+        mode_ac: proto_ac,
+    }
+}
+
+// Opens a run, as document 01 has it.
 pub fn open(
     settings: &[u8; 119],
     taps_s: &[f32],
@@ -255,5 +208,18 @@ pub fn open(
 ) -> Opened
     ensures { λ r. ⌜ (r ≡ openedOf four half (now («taps_s» .entry)) (now («taps_ac» .entry)) (now (settings .entry)) (record { modeS = now («mode_s» .entry); modeAC = now («mode_ac» .entry); memory = now (memory .entry) })) × (record { modeS = now («mode_s» .exit); modeAC = now («mode_ac» .exit); memory = now (memory .exit) } ≡ leftBy four (now («taps_s» .entry)) (now («taps_ac» .entry)) r (record { modeS = now («mode_s» .entry); modeAC = now («mode_ac» .entry); memory = now (memory .entry) })) ⌝ }
 {
-    open_at(settings, 0.5, taps_s, taps_ac, mode_s, mode_ac, memory)
+    let p = prepare(
+        settings,
+        taps_s,
+        taps_ac,
+        mode_s.len(),
+        mode_ac.len(),
+        memory.len(),
+    );
+    let answer = p.opened;
+    let proto_s = p.mode_s;
+    let proto_ac = p.mode_ac;
+    let wanted = is_run(answer);
+    filling::fill(wanted, &proto_s, &proto_ac, mode_s, mode_ac, memory);
+    answer
 }

@@ -21,10 +21,12 @@ use Rattle.running.specs.declared.State.{State}
 use Rattle.opening.specs.Opening.{half, Lent, openedOf, leftBy}
 use Rattle.opening.specs.declared.Opened as Opened
 use Rattle.tape_floats.specs.Floats.{floatsOf}
-use Rattle.tape_head.specs.declared.Counted as Counted
+use Rattle.tape_sections.specs.declared.Counted as Counted
+use Rattle.tape_sections.specs.Sections.{countThen, sectionAt, lengthThen, headLength}
+use Rattle.tape_sections.proofs.Counts.{between, section-of, counted}
+use Rattle.tape_head.specs.declared.Early as Early
 use Rattle.tape_head.specs.declared.Beginning as Beginning
-use Rattle.tape_head.specs.Head.{tapeFault, countThen, sectionAt, noiseThen, faultThen, drawsThen, openedThen, taps, tapsS, tapsAC, settingsBytes, openedFrom, Begun, openThen, tapsThen, checkedThen, settingsThen, headOf, lengthThen, headLength}
-use Rattle.tape_head.proofs.Sections.{between, section-of, counted}
+use Rattle.tape_head.specs.Head.{tapeFault, noiseThen, faultThen, drawsThen, openedThen, taps, tapsS, tapsAC, settingsBytes, openedFrom, tapsThen, checkedThen, settingsThen, earlyOf, earlyThen, leftThen, beginningOf, headOf}
 
 -- ---- a part of the first m is that part
 part-take : {A : Type 0} (at k m : ℕ) (l : List A) → at + k ≤ m → take k (drop at (take m l)) ≡ take k (drop at l)
@@ -134,35 +136,51 @@ module _ (tape : List ℕ) (m : ℕ) (low : 12135 ≤ m) (high : leAt 4 tape 121
   unfolding taps
   taps-same = floats-first tape m 3001 127 (omega arith)
 
-  module _ (lent : Lent) where
-    open-same : (o : Opened.Opened) → openThen four (take m tape) lent o ≡ openThen four tape lent o
-    unfolding openThen tapsS tapsAC
-    open-same o = λ i. record { head = opened-same o i; left = leftBy four (take 1486 (taps-same i)) (drop 1486 (taps-same i)) o lent }
+  taps-then-same : (q : Counted.Counted) → tapsThen four (take m tape) q ≡ tapsThen four tape q
+  unfolding tapsThen
+  taps-then-same (Counted.the-variants.Of n) = refl
+  taps-then-same Counted.the-variants.Wrong = refl
 
+  checked-same : (x : Checked.Checked) → checkedThen four (take m tape) x ≡ checkedThen four tape x
+  unfolding checkedThen
+  checked-same (Checked.the-variants.Accepted samples all) =
+      ap (tapsThen four (take m tape)) (section-first tape m 123 3001 3001 4 (omega arith) (λ g. omega arith)) ∙ taps-then-same (sectionAt tape 123 3001 3001 4)
+  checked-same (Checked.the-variants.Refused refusal) = refl
+
+  first-same : (q : Counted.Counted) → settingsThen four (take m tape) q ≡ settingsThen four tape q
+  unfolding settingsThen
+  first-same (Counted.the-variants.Of n) =
+      ap (λ (l : List ℕ). checkedThen four (take m tape) (acceptedOf four (settingsOf l))) settings-same ∙ checked-same (acceptedOf four (settingsOf (settingsBytes four tape)))
+  first-same Counted.the-variants.Wrong = refl
+
+  early-same : earlyOf four (take m tape) ≡ earlyOf four tape
+  unfolding earlyOf
+  early-same = ap (settingsThen four (take m tape)) (section-first tape m 0 1 1 119 (omega arith) (λ g. omega arith)) ∙ first-same (sectionAt tape 0 1 1 119)
+
+  module _ (lent : Lent) where
     from-same : openedFrom four (take m tape) lent ≡ openedFrom four tape lent
     unfolding openedFrom tapsS tapsAC
     from-same = λ i. openedOf four half (take 1486 (taps-same i)) (drop 1486 (taps-same i)) (settings-same i) lent
 
-    taps-then-same : (q : Counted.Counted) → tapsThen four (take m tape) lent q ≡ tapsThen four tape lent q
-    unfolding tapsThen
-    taps-then-same (Counted.the-variants.Of n) = ap (openThen four (take m tape) lent) from-same ∙ open-same (openedFrom four tape lent)
-    taps-then-same Counted.the-variants.Wrong = refl
+    then-same : (e : Early.Early) → earlyThen four (take m tape) lent e ≡ earlyThen four tape lent e
+    unfolding earlyThen
+    then-same Early.the-variants.Passed = ap (openedThen four (take m tape)) from-same ∙ opened-same (openedFrom four tape lent)
+    then-same (Early.the-variants.Refused number) = refl
 
-    checked-same : (x : Checked.Checked) → checkedThen four (take m tape) lent x ≡ checkedThen four tape lent x
-    unfolding checkedThen
-    checked-same (Checked.the-variants.Accepted samples all) =
-        ap (tapsThen four (take m tape) lent) (section-first tape m 123 3001 3001 4 (omega arith) (λ g. omega arith)) ∙ taps-then-same (sectionAt tape 123 3001 3001 4)
-    checked-same (Checked.the-variants.Refused refusal) = refl
+    beginning-same : beginningOf four (take m tape) lent ≡ beginningOf four tape lent
+    unfolding beginningOf
+    beginning-same = ap (earlyThen four (take m tape) lent) early-same ∙ then-same (earlyOf four tape)
 
-    first-same : (q : Counted.Counted) → settingsThen four (take m tape) lent q ≡ settingsThen four tape lent q
-    unfolding settingsThen
-    first-same (Counted.the-variants.Of n) =
-        ap (λ (l : List ℕ). checkedThen four (take m tape) lent (acceptedOf four (settingsOf l))) settings-same ∙ checked-same (acceptedOf four (settingsOf (settingsBytes four tape)))
-    first-same Counted.the-variants.Wrong = refl
+    left-same : (b : Beginning.Beginning) → leftThen four (take m tape) lent b ≡ leftThen four tape lent b
+    unfolding leftThen tapsS tapsAC
+    left-same (Beginning.the-variants.Run s n count) = λ i. leftBy four (take 1486 (taps-same i)) (drop 1486 (taps-same i)) (Opened.the-variants.Run s) lent
+    left-same (Beginning.the-variants.Refused number) = refl
 
     head-same : headOf four (take m tape) lent ≡ headOf four tape lent
     unfolding headOf
-    head-same = ap (settingsThen four (take m tape) lent) (section-first tape m 0 1 1 119 (omega arith) (λ g. omega arith)) ∙ first-same (sectionAt tape 0 1 1 119)
+    head-same =
+        (λ i. record { head = beginning-same i; left = leftThen four (take m tape) lent (beginning-same i) })
+        ∙ (λ i. record { head = beginningOf four tape lent; left = left-same (beginningOf four tape lent) i })
 
 -- ---- the length that the first bytes tell
 length-low : (q : Counted.Counted) → 12135 ≤ lengthThen four q

@@ -1,24 +1,19 @@
--- What the code's tests of a section decide, and how the parts of a tape's beginning join. Assumes nothing.
-use Prim.Native.Nat.{ℕ, zero, suc, _+_, _-_, _*_, _/_, _≤_, _<_, _^_, min}
+-- How the parts of a tape's beginning join. Assumes nothing.
+use Prim.Native.Nat.{ℕ, _+_, _-_, _*_, _/_, _≤_, _<_, min}
 use mathlib.Core.Path.{_≡_, refl, sym, ap, _∙_, subst}
-use mathlib.Core.Bool.{Bool, true, false, cond, _&&_}
+use mathlib.Core.Bool.{Bool, true, false, cond, false≢true}
 use mathlib.Core.List.{List, [], _∷_, _++_, append-nil}
-use native.Mathlib.Nat.{mul-le-mul-right}
 use native.Mathlib.Numerals.{add-one}
 use native.Mathlib.Omega.{arith}
-use lib.Dec.{leb}
 use lib.Ieee.{Float}
 use lib.ListN.{length, getD, set, take, drop, length-drop}
 use lib.Seq.{take-all, take-suc, take-suc-set, getD-drop, drop-length}
-use borrow.Author.Tests.{le-leb, lt-leb, leb-true, leb-false}
 use Rattle.constants.specs.Rate.{four}
-use Rattle.le_bytes.specs.LeBytes.{leAt, numberAt, readAt, inside}
 use Rattle.le_bytes.specs.Reads.{readU32}
 use Rattle.le_bytes.specs.declared.ReadU32 as U32
-use Rattle.le_bytes.proofs.Decided.{no-sum, read-there, read-past, read-then}
+use Rattle.le_bytes.proofs.Decided.{read-then}
 use Rattle.refusals.specs.Number.{numberOf}
 use Rattle.refusals.specs.declared.Refusal as Refusal
-use Rattle.settings.proofs.Inside.{number-there}
 use Rattle.settings.specs.Settings.{settingsOf}
 use Rattle.settings.specs.Accepted.{acceptedOf}
 use Rattle.settings.specs.declared.Checked as Checked
@@ -26,75 +21,21 @@ use Rattle.settings.specs.declared.Distributions.{Distributions}
 use Rattle.draw.specs.Fault.{firstFault}
 use Rattle.draw.specs.declared.Fault as Fault
 use Rattle.running.specs.declared.State.{State}
-use Rattle.opening.specs.Opening.{half, Lent, openedOf, leftBy}
+use Rattle.pulse_shape.specs.Prototype.{modeSPrototype, modeACPrototype}
+use Rattle.due_samples.specs.Due.{zeros}
+use Rattle.filling.specs.Over.{over}
+use Rattle.opening.specs.Opening.{half, Lent, openedOf, preparedOf, isRun, leftBy}
+use Rattle.opening.specs.declared.Prepared.{Prepared}
+use Rattle.opening.proofs.Decided.{filled}
 use Rattle.opening.specs.declared.Opened as Opened
 use Rattle.tape_floats.specs.Floats.{floatsOf}
 use Rattle.tape_floats.proofs.Rows.{length-floats}
-use Rattle.tape_head.specs.declared.Counted as Counted
+use Rattle.tape_sections.specs.declared.Counted as Counted
+use Rattle.tape_sections.specs.Sections.{sectionAt}
+use Rattle.tape_sections.proofs.Counts.{counted}
+use Rattle.tape_head.specs.declared.Early as Early
 use Rattle.tape_head.specs.declared.Beginning as Beginning
-use Rattle.tape_head.specs.Head.{tapeFault, drawsPlace, noisePlace, countThen, sectionAt, noiseThen, faultThen, drawsThen, openedThen, taps, tapsS, tapsAC, settingsBytes, openedFrom, Begun, openThen, tapsThen, checkedThen, settingsThen, headOf, lengthThen, headLength}
-
--- ---- the tests of a count
-pub product : (size n : ℕ) → size ≤ 119 → n < 0x1_0000_0000 → size * n < 2 ^ 64
-product size n h g = omega (arith, mul-le-mul-right n h)
-
-pub below : (n least most size room : ℕ) → n < least → (leb least n && leb n most && leb (size * n) room) ≡ false
-below n least most size room h = ap (λ (b : Bool). b && leb n most && leb (size * n) room) (lt-leb least n h)
-
-pub above : (n least most size room : ℕ) → least ≤ n → most < n → (leb least n && leb n most && leb (size * n) room) ≡ false
-above n least most size room h g = simp (le-leb least n h, lt-leb n most g)
-
-pub between : (n least most size room : ℕ) → least ≤ n → n ≤ most → (leb least n && leb n most && leb (size * n) room) ≡ leb (size * n) room
-between n least most size room h g = simp (le-leb least n h, le-leb n most g)
-
-module _ (tape : List ℕ) (at least most size : ℕ) where
-  pub section-short : length tape < at + 4 → sectionAt tape at least most size ≡ Counted.the-variants.Wrong
-  unfolding sectionAt
-  section-short h = read-past 4 tape at (sym (lt-leb (at + 4) (length tape) h)) (countThen tape at least most size) Counted.the-variants.Wrong refl
-
-  section-counted : (n : ℕ) (b : Bool) → at + 4 ≤ length tape → n ≡ numberAt 4 tape at → b ≡ (leb least n && leb n most && leb (size * n) (length tape - (at + 4)))
-      → sectionAt tape at least most size ≡ cond b (Counted.the-variants.Of n) Counted.the-variants.Wrong
-  unfolding sectionAt countThen
-  section-counted n b h e t =
-      read-there 4 tape at (sym (le-leb (at + 4) (length tape) h)) (countThen tape at least most size) Counted.the-variants.Wrong refl
-      ∙ ap (countThen tape at least most size) (sym (e ∙ number-there 4 tape at h))
-      ∙ ap (λ (x : Bool). cond (leb least n && leb n most && x) (Counted.the-variants.Of n) Counted.the-variants.Wrong)
-      (ap (λ (k : ℕ). leb k (length tape)) {x = at + 4 + size * n} {y = size * n + (at + 4)} (omega arith) ∙ sym (no-sum (size * n) (at + 4) (length tape) h))
-      ∙ ap (λ (x : Bool). cond x (Counted.the-variants.Of n) Counted.the-variants.Wrong) (sym t)
-
-  pub section-of : (n : ℕ) {b : Bool} → at + 4 ≤ length tape → n ≡ numberAt 4 tape at → b ≡ (leb least n && leb n most && leb (size * n) (length tape - (at + 4))) → b ≡ true
-      → Counted.the-variants.Of n ≡ sectionAt tape at least most size
-  section-of n {b} h e t y = sym (section-counted n b h e t ∙ ap (λ (x : Bool). cond x (Counted.the-variants.Of n) Counted.the-variants.Wrong) y)
-
-  pub section-wrong : (n : ℕ) {b : Bool} → at + 4 ≤ length tape → n ≡ numberAt 4 tape at → b ≡ (leb least n && leb n most && leb (size * n) (length tape - (at + 4))) → b ≡ false
-      → Counted.the-variants.Wrong ≡ sectionAt tape at least most size
-  section-wrong n {b} h e t y = sym (section-counted n b h e t ∙ ap (λ (x : Bool). cond x (Counted.the-variants.Of n) Counted.the-variants.Wrong) y)
-
--- ---- what a section's answer tells
-InSection : List ℕ → ℕ → ℕ → ℕ → ℕ → Counted.Counted → Type 0
-InSection tape at least most size (Counted.the-variants.Of n) = (least ≤ n) × (n ≤ most) × (at + 4 + size * n ≤ length tape)
-InSection tape at least most size Counted.the-variants.Wrong = Unit {0}
-
-count-in : (tape : List ℕ) (at least most size n : ℕ) (a b c : Bool) → leb least n ≡ a → leb n most ≡ b → leb (at + 4 + size * n) (length tape) ≡ c
-    → InSection tape at least most size (cond (a && b && c) (Counted.the-variants.Of n) Counted.the-variants.Wrong)
-unfolding InSection
-count-in tape at least most size n true true true d e f = (leb-true least n d, leb-true n most e, leb-true (at + 4 + size * n) (length tape) f)
-count-in tape at least most size n true true false d e f = tt
-count-in tape at least most size n true false c d e f = tt
-count-in tape at least most size n false b c d e f = tt
-
-section-in : (tape : List ℕ) (at least most size : ℕ) → InSection tape at least most size (sectionAt tape at least most size)
-unfolding sectionAt countThen readAt InSection
-section-in tape at least most size = go (inside 4 tape at)
-  where
-    go : (b : Bool) → InSection tape at least most size (cond b (countThen tape at least most size (leAt 4 tape at)) Counted.the-variants.Wrong)
-    go true = count-in tape at least most size (leAt 4 tape at) (leb least (leAt 4 tape at)) (leb (leAt 4 tape at) most) (leb (at + 4 + size * leAt 4 tape at) (length tape)) refl refl refl
-    go false = tt
-
--- a section's count n is allowed, and its values lie on the tape
-pub counted : (tape : List ℕ) (at least most size n : ℕ) {q : Counted.Counted} → q ≡ sectionAt tape at least most size → q ≡ Counted.the-variants.Of n → (least ≤ n) × (n ≤ most) × (at + 4 + size * n ≤ length tape)
-unfolding InSection
-counted tape at least most size n e f = subst (InSection tape at least most size) (sym e ∙ f) (section-in tape at least most size)
+use Rattle.tape_head.specs.Head.{tapeFault, noiseThen, faultThen, drawsThen, openedThen, taps, tapsS, tapsAC, settingsBytes, openedFrom, tapsThen, checkedThen, settingsThen, earlyOf, begins, Begun, earlyThen, leftThen, beginningOf, headOf}
 
 -- ---- the settings: one more byte, and all of them
 pub byte-next : (tape b : List ℕ) (k : ℕ) → 4 + k < length tape → k < length b → take k b ≡ take k (drop 4 tape) → take (k + 1) (set b k (getD tape (4 + k) 0)) ≡ take (k + 1) (drop 4 tape)
@@ -152,47 +93,107 @@ unfolding tapsS
 taps-before tape e = ap (take 1486) e
 
 -- opening as the code calls it is opening from the tape
-pub opened-from : (tape : List ℕ) (lent left : Lent) {a b : List Float} {bytes : List ℕ} {r : Opened.Opened} → a ≡ tapsS four tape → b ≡ tapsAC four tape → bytes ≡ settingsBytes four tape → r ≡ openedOf four half a b bytes lent → left ≡ leftBy four a b r lent
-    → (r ≡ openedFrom four tape lent) × (left ≡ leftBy four (tapsS four tape) (tapsAC four tape) r lent)
-unfolding openedFrom
-opened-from tape lent left {a} {b} {bytes} {r} p q s e l = (e ∙ (λ i. openedOf four half (p i) (q i) (s i) lent), l ∙ (λ i. leftBy four (p i) (q i) r lent))
+pub prepared-from : (tape : List ℕ) (x y z : ℕ) {a b : List Float} {bytes : List ℕ} {P : Prepared} → a ≡ tapsS four tape → b ≡ tapsAC four tape → bytes ≡ settingsBytes four tape → P ≡ preparedOf four half a b bytes x y z
+    → P ≡ preparedOf four half (tapsS four tape) (tapsAC four tape) (settingsBytes four tape) x y z
+prepared-from tape x y z p q s e = e ∙ (λ i. preparedOf four half (p i) (q i) (s i) x y z)
 
--- ---- the joints
-module _ (tape : List ℕ) (lent : Lent) where
-  pub taps-wrong : {q : Counted.Counted} → q ≡ sectionAt tape 123 3001 3001 4 → q ≡ Counted.the-variants.Wrong → record { head = tapeFault; left = lent } ≡ tapsThen four tape lent (sectionAt tape 123 3001 3001 4)
+-- ---- what stands before the taps' values
+module _ (tape : List ℕ) where
+  pub taps-passed : {q : Counted.Counted} {n : ℕ} → q ≡ sectionAt tape 123 3001 3001 4 → q ≡ Counted.the-variants.Of n → Early.the-variants.Passed ≡ tapsThen four tape (sectionAt tape 123 3001 3001 4)
   unfolding tapsThen
-  taps-wrong e f = sym (ap (tapsThen four tape lent) (sym e ∙ f))
+  taps-passed e f = sym (ap (tapsThen four tape) (sym e ∙ f))
 
-  pub taps-opened : {q : Counted.Counted} {n : ℕ} {o : Opened.Opened} {r : Beginning.Beginning} {left : Lent} → q ≡ sectionAt tape 123 3001 3001 4 → q ≡ Counted.the-variants.Of n
-      → (o ≡ openedFrom four tape lent) × (left ≡ leftBy four (tapsS four tape) (tapsAC four tape) o lent) → r ≡ openedThen four tape o
-      → record { head = r; left = left } ≡ tapsThen four tape lent (sectionAt tape 123 3001 3001 4)
-  unfolding tapsThen openThen
-  taps-opened {q} {n} {o} {r} {left} e f p h = (λ i. record { head = h i; left = p .1 i }) ∙ ap (openThen four tape lent) (p .0) ∙ sym (ap (tapsThen four tape lent) (sym e ∙ f))
+  pub taps-wrong : {q : Counted.Counted} → q ≡ sectionAt tape 123 3001 3001 4 → q ≡ Counted.the-variants.Wrong → Early.the-variants.Refused 11 ≡ tapsThen four tape (sectionAt tape 123 3001 3001 4)
+  unfolding tapsThen
+  taps-wrong e f = sym (ap (tapsThen four tape) (sym e ∙ f))
 
-  pub head-wrong : {q : Counted.Counted} → q ≡ sectionAt tape 0 1 1 119 → q ≡ Counted.the-variants.Wrong → record { head = tapeFault; left = lent } ≡ headOf four tape lent
-  unfolding headOf settingsThen
-  head-wrong e f = sym (ap (settingsThen four tape lent) (sym e ∙ f))
+  pub early-wrong : {q : Counted.Counted} → q ≡ sectionAt tape 0 1 1 119 → q ≡ Counted.the-variants.Wrong → Early.the-variants.Refused 11 ≡ earlyOf four tape
+  unfolding earlyOf settingsThen
+  early-wrong e f = sym (ap (settingsThen four tape) (sym e ∙ f))
 
-  pub head-checked : {q : Counted.Counted} {n : ℕ} {bytes : List ℕ} {x : Checked.Checked} {b : Begun} → q ≡ sectionAt tape 0 1 1 119 → q ≡ Counted.the-variants.Of n → bytes ≡ settingsBytes four tape
-      → x ≡ acceptedOf four (settingsOf bytes) → b ≡ checkedThen four tape lent x → b ≡ headOf four tape lent
-  unfolding headOf settingsThen
-  head-checked {q} {n} {bytes} {x} {b} e f g h p =
-      p ∙ ap (checkedThen four tape lent) (h ∙ ap (λ (l : List ℕ). acceptedOf four (settingsOf l)) g) ∙ sym (ap (settingsThen four tape lent) (sym e ∙ f))
+  pub early-checked : {q : Counted.Counted} {n : ℕ} {bytes : List ℕ} {x : Checked.Checked} {r : Early.Early} → q ≡ sectionAt tape 0 1 1 119 → q ≡ Counted.the-variants.Of n → bytes ≡ settingsBytes four tape
+      → x ≡ acceptedOf four (settingsOf bytes) → r ≡ checkedThen four tape x → r ≡ earlyOf four tape
+  unfolding earlyOf settingsThen
+  early-checked {q} {n} {bytes} {x} {r} e f g h p =
+      p ∙ ap (checkedThen four tape) (h ∙ ap (λ (l : List ℕ). acceptedOf four (settingsOf l)) g) ∙ sym (ap (settingsThen four tape) (sym e ∙ f))
 
-  pub head-refused : {x : Checked.Checked} {k : ℕ} (q : Refusal.Refusal) → x ≡ Checked.the-variants.Refused q → k ≡ numberOf q → record { head = Beginning.the-variants.Refused k; left = lent } ≡ checkedThen four tape lent x
+  pub checked-refused : {x : Checked.Checked} {k : ℕ} (q : Refusal.Refusal) → x ≡ Checked.the-variants.Refused q → k ≡ numberOf q → Early.the-variants.Refused k ≡ checkedThen four tape x
   unfolding checkedThen
-  head-refused q e f = (λ i. record { head = Beginning.the-variants.Refused (f i); left = lent }) ∙ sym (ap (checkedThen four tape lent) e)
+  checked-refused q e f = ap Early.the-variants.Refused f ∙ sym (ap (checkedThen four tape) e)
 
-  pub head-accepted : {x : Checked.Checked} {b : Begun} {m : ℕ} {all : Distributions} → x ≡ Checked.the-variants.Accepted m all → b ≡ tapsThen four tape lent (sectionAt tape 123 3001 3001 4) → b ≡ checkedThen four tape lent x
+  pub checked-accepted : {x : Checked.Checked} {r : Early.Early} {m : ℕ} {all : Distributions} → x ≡ Checked.the-variants.Accepted m all → r ≡ tapsThen four tape (sectionAt tape 123 3001 3001 4) → r ≡ checkedThen four tape x
   unfolding checkedThen
-  head-accepted e p = p ∙ sym (ap (checkedThen four tape lent) e)
+  checked-accepted e p = p ∙ sym (ap (checkedThen four tape) e)
 
--- ---- the bytes before the noise
-module _ (tape : List ℕ) {q : Counted.Counted} (e : q ≡ sectionAt tape 12131 0 400 0) where
-  pub length-counted : {r n : ℕ} → q ≡ Counted.the-variants.Of n → r ≡ 12139 + 65 * n → r ≡ headLength four tape
-  unfolding headLength lengthThen
-  length-counted f h = h ∙ ap (lengthThen four) (sym f ∙ e)
+  -- where nothing is refused, the taps lie on the tape
+  Long : Early.Early → Type 0
+  Long Early.the-variants.Passed = 12131 ≤ length tape
+  Long (Early.the-variants.Refused number) = Unit {0}
 
-  pub length-wrong : {r : ℕ} → q ≡ Counted.the-variants.Wrong → r ≡ 12135 → r ≡ headLength four tape
-  unfolding headLength lengthThen
-  length-wrong f h = h ∙ ap (lengthThen four) (sym f ∙ e)
+  taps-long : (q : Counted.Counted) → q ≡ sectionAt tape 123 3001 3001 4 → Long (tapsThen four tape q)
+  unfolding tapsThen Long
+  taps-long (Counted.the-variants.Of n) e = let t = counted tape 123 3001 3001 4 n e refl in omega (arith, t .0, t .2)
+  taps-long Counted.the-variants.Wrong e = tt
+
+  checked-long : (x : Checked.Checked) → Long (checkedThen four tape x)
+  unfolding checkedThen Long
+  checked-long (Checked.the-variants.Accepted samples all) = taps-long (sectionAt tape 123 3001 3001 4) refl
+  checked-long (Checked.the-variants.Refused refusal) = tt
+
+  settings-long : (q : Counted.Counted) → Long (settingsThen four tape q)
+  unfolding settingsThen Long
+  settings-long (Counted.the-variants.Of n) = checked-long (acceptedOf four (settingsOf (settingsBytes four tape)))
+  settings-long Counted.the-variants.Wrong = tt
+
+  pub passed-long : {e : Early.Early} → e ≡ earlyOf four tape → e ≡ Early.the-variants.Passed → 12131 ≤ length tape
+  unfolding earlyOf Long
+  passed-long e f = subst Long (sym e ∙ f) (settings-long (sectionAt tape 0 1 1 119))
+
+-- ---- the whole
+pub a-run : {b : Beginning.Beginning} {s : State} {n count : ℕ} → b ≡ Beginning.the-variants.Run s n count → true ≡ begins b
+unfolding begins
+a-run e = sym (ap begins e)
+
+pub a-refusal : {b : Beginning.Beginning} {k : ℕ} → b ≡ Beginning.the-variants.Refused k → false ≡ begins b
+unfolding begins
+a-refusal e = sym (ap begins e)
+
+module _ (tape : List ℕ) (lent : Lent) where
+  begun : Beginning.Beginning → Begun
+  begun b = record { head = b; left = leftThen four tape lent b }
+
+  by-early : {e : Early.Early} → e ≡ earlyOf four tape → begun (earlyThen four tape lent e) ≡ headOf four tape lent
+  unfolding headOf beginningOf begun
+  by-early e = ap (λ (x : Early.Early). begun (earlyThen four tape lent x)) e
+
+  pub head-refused : {e : Early.Early} {k : ℕ} → e ≡ earlyOf four tape → e ≡ Early.the-variants.Refused k → record { head = Beginning.the-variants.Refused k; left = lent } ≡ headOf four tape lent
+  unfolding earlyThen leftThen begun
+  head-refused e f = ap (λ (x : Early.Early). begun (earlyThen four tape lent x)) (sym f) ∙ by-early e
+
+  module _ (modeS modeAC memory p q : List Float) (f : p ≡ modeSPrototype four (tapsS four tape)) (g : q ≡ modeACPrototype four (tapsAC four tape)) where
+    -- what is left, by the answer
+    left-given : (w : Bool) (o : Opened.Opened) (b : Beginning.Beginning) → o ≡ openedFrom four tape lent → b ≡ openedThen four tape o → w ≡ begins b
+        → modeS ≡ cond w (over p (lent .modeS)) (lent .modeS) → modeAC ≡ cond w (over q (lent .modeAC)) (lent .modeAC) → memory ≡ cond w (zeros (length (lent .memory))) (lent .memory)
+        → record { modeS = modeS; modeAC = modeAC; memory = memory } ≡ leftThen four tape lent b
+    unfolding leftThen begins openedThen openedFrom isRun leftBy
+    left-given w (Opened.the-variants.Run state) (Beginning.the-variants.Run s n count) e h t x y z = filled half (tapsS four tape) (tapsAC four tape) (settingsBytes four tape) lent modeS modeAC memory p q f g w (Opened.the-variants.Run state) e t x y z
+    left-given w (Opened.the-variants.Refused r) (Beginning.the-variants.Run s n count) e h t x y z = absurd (false≢true (sym (ap begins h)))
+    left-given w o (Beginning.the-variants.Refused k) e h t x y z =
+        λ i. record {
+          modeS = (x ∙ ap (λ (c : Bool). cond c (over p (lent .modeS)) (lent .modeS)) t) i;
+          modeAC = (y ∙ ap (λ (c : Bool). cond c (over q (lent .modeAC)) (lent .modeAC)) t) i;
+          memory = (z ∙ ap (λ (c : Bool). cond c (zeros (length (lent .memory))) (lent .memory)) t) i;
+        }
+
+  pub head-given : {e : Early.Early} {P : Prepared} {b : Beginning.Beginning} {w : Bool} {modeS modeAC memory : List Float} → e ≡ earlyOf four tape → e ≡ Early.the-variants.Passed
+      → P ≡ preparedOf four half (tapsS four tape) (tapsAC four tape) (settingsBytes four tape) (length (lent .modeS)) (length (lent .modeAC)) (length (lent .memory)) → b ≡ openedThen four tape (P .opened) → w ≡ begins b
+      → modeS ≡ cond w (over (P .«mode_s») (lent .modeS)) (lent .modeS) → modeAC ≡ cond w (over (P .«mode_ac») (lent .modeAC)) (lent .modeAC) → memory ≡ cond w (zeros (length (lent .memory))) (lent .memory)
+      → record { head = b; left = record { modeS = modeS; modeAC = modeAC; memory = memory } } ≡ headOf four tape lent
+  unfolding preparedOf openedOf openedFrom earlyThen begun
+  head-given {e} {P} {b} {w} {modeS} {modeAC} {memory} d k h m t x y z =
+      let o : P .opened ≡ openedFrom four tape lent = ap (λ (v : Prepared). v .opened) h in
+      let l = left-given modeS modeAC memory (P .«mode_s») (P .«mode_ac») (ap (λ (v : Prepared). v .«mode_s») h) (ap (λ (v : Prepared). v .«mode_ac») h) w (P .opened) b o m t x y z in
+      (λ i. record { head = b; left = l i })
+      ∙ ap begun (m ∙ ap (openedThen four tape) o)
+      ∙ ap (λ (v : Early.Early). begun (earlyThen four tape lent v)) (sym k)
+      ∙ by-early d

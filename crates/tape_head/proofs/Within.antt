@@ -1,4 +1,4 @@
--- A run that a tape begins has at most 400 draws, all on the tape before the noise (`head-within`). Assumes nothing.
+-- A run that a tape begins has at most 400 draws, all on the tape before the noise (`head-within`); a tape that is refused leaves what was lent (`refused-leaves`). Assumes nothing.
 use Prim.Native.Nat.{ℕ, _+_, _*_, _≤_}
 use mathlib.Core.Path.{_≡_, refl, sym, ap, _∙_, subst}
 use mathlib.Core.Bool.{Bool, true, false, cond}
@@ -8,18 +8,17 @@ use lib.ListN.{length, take, drop}
 use borrow.Author.Tests.{leb-true}
 use Rattle.constants.specs.Rate.{four}
 use Rattle.le_bytes.specs.LeBytes.{leAt, readAt, inside}
-use Rattle.settings.specs.Settings.{settingsOf}
-use Rattle.settings.specs.Accepted.{acceptedOf}
-use Rattle.settings.specs.declared.Checked as Checked
 use Rattle.draw.specs.Fault.{firstFault}
 use Rattle.draw.specs.declared.Fault as Fault
 use Rattle.running.specs.declared.State.{State}
 use Rattle.opening.specs.Opening.{Lent}
 use Rattle.opening.specs.declared.Opened as Opened
-use Rattle.tape_head.specs.declared.Counted as Counted
+use Rattle.tape_sections.specs.declared.Counted as Counted
+use Rattle.tape_sections.specs.Sections.{sectionAt}
+use Rattle.tape_sections.proofs.Counts.{counted}
+use Rattle.tape_head.specs.declared.Early as Early
 use Rattle.tape_head.specs.declared.Beginning as Beginning
-use Rattle.tape_head.specs.Head.{tapeFault, sectionAt, noiseThen, faultThen, drawsThen, openedThen, settingsBytes, openedFrom, Begun, openThen, tapsThen, checkedThen, settingsThen, headOf}
-use Rattle.tape_head.proofs.Sections.{counted}
+use Rattle.tape_head.specs.Head.{tapeFault, noiseThen, faultThen, drawsThen, openedThen, openedFrom, Begun, earlyOf, earlyThen, leftThen, beginningOf, headOf}
 
 module _ (tape : List ℕ) where
   Within : Beginning.Beginning → Type 0
@@ -51,25 +50,20 @@ module _ (tape : List ℕ) where
   opened-within (Opened.the-variants.Refused refusal) = tt
 
   module _ (lent : Lent) where
-    taps-within : (q : Counted.Counted) → Within (tapsThen four tape lent q .head)
-    unfolding tapsThen openThen Within
-    taps-within (Counted.the-variants.Of n) = opened-within (openedFrom four tape lent)
-    taps-within Counted.the-variants.Wrong = tt
-
-    checked-within : (x : Checked.Checked) → Within (checkedThen four tape lent x .head)
-    unfolding checkedThen Within
-    checked-within (Checked.the-variants.Accepted m all) = taps-within (sectionAt tape 123 3001 3001 4)
-    checked-within (Checked.the-variants.Refused refusal) = tt
-
-    settings-within : (q : Counted.Counted) → Within (settingsThen four tape lent q .head)
-    unfolding settingsThen Within
-    settings-within (Counted.the-variants.Of n) = checked-within (acceptedOf four (settingsOf (settingsBytes four tape)))
-    settings-within Counted.the-variants.Wrong = tt
+    early-within : (e : Early.Early) → Within (earlyThen four tape lent e)
+    unfolding earlyThen Within
+    early-within Early.the-variants.Passed = opened-within (openedFrom four tape lent)
+    early-within (Early.the-variants.Refused number) = tt
 
     pub head-within : (s : State) (n count : ℕ) → headOf four tape lent .head ≡ Beginning.the-variants.Run s n count → (n ≤ 400) × (12139 + 65 * n ≤ length tape)
-    unfolding headOf Within
-    head-within s n count e = subst Within e (settings-within (sectionAt tape 0 1 1 119))
+    unfolding headOf beginningOf Within
+    head-within s n count e = subst Within e (early-within (earlyOf four tape))
 
     -- the same, of what the contract of `head` gives
     pub begun-within : (b : Begun) (s : State) (n count : ℕ) → b ≡ headOf four tape lent → b .head ≡ Beginning.the-variants.Run s n count → (n ≤ 400) × (12139 + 65 * n ≤ length tape)
     begun-within b s n count e f = head-within s n count (sym (ap (λ (x : Begun). x .head) e) ∙ f)
+
+    -- "a refusal changes neither state nor any lent buffer"
+    pub refused-leaves : (b : Begun) (k : ℕ) → b ≡ headOf four tape lent → b .head ≡ Beginning.the-variants.Refused k → b .left ≡ lent
+    unfolding headOf leftThen
+    refused-leaves b k e f = ap (λ (x : Begun). x .left) e ∙ ap (leftThen four tape lent) (sym (ap (λ (x : Begun). x .head) e) ∙ f)

@@ -1,58 +1,30 @@
 // A tape up to its noise: its sections in tape order, each section's count and length before its values. Each public function is equal to a definition of specs/ on every input. Assumes nothing.
 ghost use mathlib.Core.Path.{_≡_};
-ghost use Prim.Native.Nat.{_+_, _*_, _≤_, _<_};
-ghost use mathlib.Core.Bool.{_&&_};
-ghost use lib.Dec.{leb};
+ghost use Prim.Native.Nat.{_+_, _*_, _≤_};
 ghost use lib.ListN.{length};
 ghost use Rattle.constants.specs.Rate.{four};
-ghost use Rattle.opening.specs.Opening.{leftBy};
-ghost use Rattle.tape_head.specs.Head.{sectionAt, noiseThen, faultThen, drawsThen, openedThen, taps, tapsS, tapsAC, settingsBytes, openedFrom, tapsThen, checkedThen, headOf, headLength};
+ghost use Rattle.opening.specs.Opening.{half, preparedOf};
+ghost use Rattle.tape_sections.specs.Sections.{sectionAt};
+ghost use Rattle.tape_head.specs.Head.{noiseThen, drawsThen, openedThen, taps, tapsS, tapsAC, settingsBytes, tapsThen, earlyOf, begins, headOf};
 use draw::Fault;
 use le_bytes::ReadU32;
 use opening::Opened;
+use opening::Prepared;
 use running::State;
 use settings::Checked;
+use tape_sections::Counted;
+pub use tape_sections::head_length;
 
-// The count of a section, or that its count or its length is wrong.
-pub enum Counted {
-    Of(u64),
-    Wrong,
+// That nothing before the taps' values is refused, or the refusal's number.
+pub enum Early {
+    Passed,
+    Refused(u64),
 }
 
 // What a tape begins with: a refusal's number; or a run's first state, its count of draws and its count of noise values.
 pub enum Beginning {
     Refused(u64),
     Run(State, u64, u64),
-}
-
-// Whether a count is from least to most, and so many values of a size lie in the room behind it.
-fn fits(n: u64, least: u64, most: u64, size: u64, room: u64) -> bool
-    requires { ⌜ (size ≤ 119) × (n < 0x1_0000_0000) ⌝ }
-    ensures { λ r. ⌜ r ≡ (leb least n && leb n most && leb (size * n) room) ⌝ }
-{
-    if n < least {
-        return false;
-    }
-    if most < n {
-        return false;
-    }
-    size * n <= room
-}
-
-// The count at a place, where it is from least to most and so many values of a size lie behind it.
-fn section(tape: &[u8], at: usize, least: u64, most: u64, size: u64) -> Counted
-    requires { ⌜ (at ≤ 12131) × (size ≤ 119) ⌝ }
-    ensures { λ r. ⌜ r ≡ sectionAt (now (tape .entry)) at least most size ⌝ }
-{
-    if tape.len() < at + 4 {
-        return Counted::Wrong;
-    }
-    let n = le_at::u32_at(tape, at) as u64;
-    let room = (tape.len() - (at + 4)) as u64;
-    if fits(n, least, most, size, room) {
-        return Counted::Of(n);
-    }
-    Counted::Wrong
 }
 
 // The 119 bytes of the settings.
@@ -98,7 +70,7 @@ fn check_draws(state: State, n: u64, tape: &[u8]) -> Beginning
 fn draws_section(state: State, tape: &[u8]) -> Beginning
     ensures { λ r. ⌜ r ≡ openedThen four (now (tape .entry)) (Opened.Run state) ⌝ }
 {
-    match section(tape, 12131, 0, 400, 65) {
+    match tape_sections::section(tape, 12131, 0, 400, 65) {
         Counted::Of(n) => check_draws(state, n, tape),
         Counted::Wrong => Beginning::Refused(11),
     }
@@ -113,71 +85,74 @@ fn read_taps(tape: &[u8]) -> [f32; 3001]
     taps
 }
 
-// Opening, lent the taps of a tape: refusals 5 and 6.
-fn open_taps(
-    settings: &[u8; 119],
-    tape: &[u8],
-    mode_s: &mut [f32],
-    mode_ac: &mut [f32],
-    memory: &mut [f32],
-) -> Opened
-    requires { ⌜ (12131 ≤ length (now tape)) × (now settings ≡ settingsBytes four (now tape)) ⌝ }
-    ensures { λ r. ⌜ (r ≡ openedFrom four (now (tape .entry)) (record { modeS = now («mode_s» .entry); modeAC = now («mode_ac» .entry); memory = now (memory .entry) })) × (record { modeS = now («mode_s» .exit); modeAC = now («mode_ac» .exit); memory = now (memory .exit) } ≡ leftBy four (tapsS four (now (tape .entry))) (tapsAC four (now (tape .entry))) r (record { modeS = now («mode_s» .entry); modeAC = now («mode_ac» .entry); memory = now (memory .entry) })) ⌝ }
+// What opening answers, lent the taps of a tape and buffers of these lengths, and its prototypes.
+fn prepared(tape: &[u8], mode_s: usize, mode_ac: usize, memory: usize) -> Prepared
+    requires { ⌜ 12131 ≤ length (now tape) ⌝ }
+    ensures { λ r. ⌜ r ≡ preparedOf four half (tapsS four (now (tape .entry))) (tapsAC four (now (tape .entry))) (settingsBytes four (now (tape .entry))) «mode_s» «mode_ac» memory ⌝ }
 {
+    let bytes = settings_bytes(tape);
     let taps = read_taps(tape);
     let all: &[f32] = &taps;
-    opening::open(
-        settings,
-        &all[..1486],
-        &all[1486..],
-        mode_s,
-        mode_ac,
-        memory,
-    )
+    opening::prepare(&bytes, &all[..1486], &all[1486..], mode_s, mode_ac, memory)
 }
 
-// The taps' count and length, then the taps.
-fn taps_section(
-    settings: &[u8; 119],
-    tape: &[u8],
-    mode_s: &mut [f32],
-    mode_ac: &mut [f32],
-    memory: &mut [f32],
-) -> Beginning
-    requires { ⌜ now settings ≡ settingsBytes four (now tape) ⌝ }
-    ensures { λ r. ⌜ record { head = r; left = record { modeS = now («mode_s» .exit); modeAC = now («mode_ac» .exit); memory = now (memory .exit) } } ≡ tapsThen four (now (tape .entry)) (record { modeS = now («mode_s» .entry); modeAC = now («mode_ac» .entry); memory = now (memory .entry) }) (sectionAt (now (tape .entry)) 123 3001 3001 4) ⌝ }
+// Refusals 5, 6 and 9 of opening, then the draws.
+fn opened_then(opened: Opened, tape: &[u8]) -> Beginning
+    ensures { λ r. ⌜ r ≡ openedThen four (now (tape .entry)) opened ⌝ }
 {
-    if let Counted::Wrong = section(tape, 123, 3001, 3001, 4) {
-        return Beginning::Refused(11);
-    }
-    match open_taps(settings, tape, mode_s, mode_ac, memory) {
+    match opened {
         Opened::Run(state) => draws_section(state, tape),
         Opened::Refused(q) => Beginning::Refused(refusals::number(q)),
     }
 }
 
-// A tape up to its noise. The prototypes and working memory are those that opening is lent.
-pub fn head(tape: &[u8], mode_s: &mut [f32], mode_ac: &mut [f32], memory: &mut [f32]) -> Beginning
-    ensures { λ r. ⌜ record { head = r; left = record { modeS = now («mode_s» .exit); modeAC = now («mode_ac» .exit); memory = now (memory .exit) } } ≡ headOf four (now (tape .entry)) (record { modeS = now («mode_s» .entry); modeAC = now («mode_ac» .entry); memory = now (memory .entry) }) ⌝ }
+// The taps' count and length.
+fn taps_section(tape: &[u8]) -> Early
+    ensures { λ r. ⌜ r ≡ tapsThen four (now (tape .entry)) (sectionAt (now (tape .entry)) 123 3001 3001 4) ⌝ }
 {
-    if let Counted::Wrong = section(tape, 0, 1, 1, 119) {
-        return Beginning::Refused(11);
+    match tape_sections::section(tape, 123, 3001, 3001, 4) {
+        Counted::Of(_) => Early::Passed,
+        Counted::Wrong => Early::Refused(11),
+    }
+}
+
+// What stands before the taps' values.
+fn before_taps(tape: &[u8]) -> Early
+    ensures { λ r. ⌜ r ≡ earlyOf four (now (tape .entry)) ⌝ }
+{
+    if let Counted::Wrong = tape_sections::section(tape, 0, 1, 1, 119) {
+        return Early::Refused(11);
     }
     let bytes = settings_bytes(tape);
     let s = settings::read(&bytes);
     match settings_check::check(s) {
-        Checked::Refused(q) => Beginning::Refused(refusals::number(q)),
-        Checked::Accepted(_, _) => taps_section(&bytes, tape, mode_s, mode_ac, memory),
+        Checked::Refused(q) => Early::Refused(refusals::number(q)),
+        Checked::Accepted(_, _) => taps_section(tape),
     }
 }
 
-// How many bytes of a tape stand before its noise, as its first 12,135 say.
-pub fn head_length(tape: &[u8]) -> usize
-    ensures { λ r. ⌜ r ≡ headLength four (now (tape .entry)) ⌝ }
-    ensures { λ r. ⌜ (12135 ≤ r) × (r ≤ 38139) ⌝ }
+fn is_begun(answer: Beginning) -> bool
+    ensures { λ r. ⌜ r ≡ begins answer ⌝ }
 {
-    match section(tape, 12131, 0, 400, 0) {
-        Counted::Of(n) => 12139 + 65 * n as usize,
-        Counted::Wrong => 12135,
+    match answer {
+        Beginning::Run(_, _, _) => true,
+        Beginning::Refused(_) => false,
     }
+}
+
+// A tape up to its noise. The prototypes and working memory are those that opening is lent: a run fills them, a refusal leaves them.
+pub fn head(tape: &[u8], mode_s: &mut [f32], mode_ac: &mut [f32], memory: &mut [f32]) -> Beginning
+    ensures { λ r. ⌜ record { head = r; left = record { modeS = now («mode_s» .exit); modeAC = now («mode_ac» .exit); memory = now (memory .exit) } } ≡ headOf four (now (tape .entry)) (record { modeS = now («mode_s» .entry); modeAC = now («mode_ac» .entry); memory = now (memory .entry) }) ⌝ }
+{
+    if let Early::Refused(number) = before_taps(tape) {
+        return Beginning::Refused(number);
+    }
+    let p = prepared(tape, mode_s.len(), mode_ac.len(), memory.len());
+    let opened = p.opened;
+    let proto_s = p.mode_s;
+    let proto_ac = p.mode_ac;
+    let answer = opened_then(opened, tape);
+    let wanted = is_begun(answer);
+    filling::fill(wanted, &proto_s, &proto_ac, mode_s, mode_ac, memory);
+    answer
 }

@@ -4,7 +4,7 @@ use mathlib.Core.Path.{sym, ap, _∙_}
 use native.Mathlib.Omega.{arith}
 use Rattle.constants.specs.Rate.{four}
 use Rattle.tape_head.specs.Head.{drawsThen, openedThen}
-use Rattle.tape_head.proofs.Sections.{counted}
+use Rattle.tape_sections.proofs.Counts.{counted}
 use Rattle.tape_head.proofs.draws_section.Statement.{statement}
 use Rattle.tape_head.proofs.draws_section.Tie as tie
 

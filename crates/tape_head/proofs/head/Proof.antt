@@ -1,48 +1,38 @@
 -- `tape_head::head` meets its contract. Assumes nothing.
+use Rattle.tape_head.proofs.Sections.{passed-long, head-refused, head-given}
 use borrow.Author.Needs.{needs}
-use mathlib.Core.Path.{_≡_, refl, sym, ap, _∙_}
-use native.Mathlib.Omega.{arith}
-use Rattle.constants.specs.Rate.{four}
-use Rattle.settings.specs.Accepted.{acceptedOf}
-use Rattle.tape_head.proofs.Sections.{counted, head-wrong, head-checked, head-refused, head-accepted}
 use Rattle.tape_head.proofs.head.Statement.{statement}
 use Rattle.tape_head.proofs.head.Tie as tie
 
-section-requires : tie.Need-section-requires
-section-requires c κs = search needs
+before-taps-requires : tie.Need-before-taps-requires
+before-taps-requires c κs = search needs
+
+enum-known-number : tie.Need-enum-known-number
+enum-known-number c = search needs
+
+returns : tie.Need-returns
+returns c = head-refused _ _ (c .before .before .before .before-taps .ensures) (c .before .number .given .1)
 
 enum-told : tie.Need-enum-told
 enum-told c = search needs
 
-returns : tie.Need-returns
-returns c = head-wrong _ _ (c .before .before .section .ensures) (c .enum-told .given .1)
+prepared-requires : tie.Need-prepared-requires
+prepared-requires c κs = passed-long _ (c .before .before .before-taps .ensures) (c .enum-told .given .1)
 
-enum-told-2 : tie.Need-enum-told-2
-enum-told-2 c = search needs
+opened-then-requires : tie.Need-opened-then-requires
+opened-then-requires c κs = search needs
 
-settings-bytes-requires : tie.Need-settings-bytes-requires
-settings-bytes-requires c κs = let t = counted _ _ _ _ _ _ (c .before .before .section .ensures) (c .enum-told2 .given .1) in omega (arith, t .0, t .2)
+is-begun-requires : tie.Need-is-begun-requires
+is-begun-requires c κs = search needs
 
-read-requires : tie.Need-read-requires
-read-requires c κs = search needs
+slice-aggregate-fill : tie.Need-slice-aggregate-fill
+slice-aggregate-fill c = search needs
 
-check-requires : tie.Need-check-requires
-check-requires c κs = search needs
+slice-aggregate-fill-2 : tie.Need-slice-aggregate-fill-2
+slice-aggregate-fill-2 c = search needs
 
-enum-known-q : tie.Need-enum-known-q
-enum-known-q c = search needs
-
-number-requires : tie.Need-number-requires
-number-requires c κs = search needs
-
-enum-told-3 : tie.Need-enum-told-3
-enum-told-3 c = search needs
-
-taps-section-requires : tie.Need-taps-section-requires
-taps-section-requires c κs = search needs
-
-returns-2 : tie.Need-returns-2
-returns-2 c = head-checked (c .before .before .before .before .before .before .before .before .before .before .before .before .before .before .before .args .tape .now) _ (c .before .before .before .before .before .before .before .before .before .before .section .ensures) (c .before .before .before .before .before .before .before .before .enum-told2 .given .1) (c .before .before .before .before .before .before .before .settings-bytes .ensures) (c .before .before .before .before .check .ensures ∙ ap (acceptedOf four) (c .before .before .before .before .before .read .ensures)) (head-refused (c .before .before .before .before .before .before .before .before .before .before .before .before .before .before .before .args .tape .now) _ _ (c .before .before .q .given .1) (c .number .ensures))
+fill-requires : tie.Need-fill-requires
+fill-requires c κs = search needs
 
 same-length : tie.Need-same-length
 same-length c = search needs
@@ -53,26 +43,11 @@ same-length-2 c = search needs
 same-length-3 : tie.Need-same-length-3
 same-length-3 c = search needs
 
-returns-3 : tie.Need-returns-3
-returns-3 c = head-checked (c .before .before .before .before .before .before .before .before .before .before .before .before .before .before .before .before .before .before .before .before .before .before .before .before .args .tape .now) _ (c .before .before .before .before .before .before .before .before .before .before .before .before .before .before .before .before .before .before .before .section .ensures) (c .before .before .before .before .before .before .before .before .before .before .before .before .before .before .before .before .before .enum-told2 .given .1) (c .before .before .before .before .before .before .before .before .before .before .before .before .before .before .before .before .settings-bytes .ensures) (c .before .before .before .before .before .before .before .before .before .before .before .before .before .check .ensures ∙ ap (acceptedOf four) (c .before .before .before .before .before .before .before .before .before .before .before .before .before .before .read .ensures)) (head-accepted (c .before .before .before .before .before .before .before .before .before .before .before .before .before .before .before .before .before .before .before .before .before .before .before .before .args .tape .now) _ (c .before .before .before .before .before .before .before .before .before .before .before .enum-told3 .given .1) (c .before .before .before .before .before .before .taps-section .ensures))
+returns-2 : tie.Need-returns-2
+returns-2 c =
+    let a = c .before .before .before .before .before .before .before .before .before .before .before .before .before .before .before .before .before .before .before .before .before .before .before .before .args in
+    let f = c .before .before .before .before .before .before .fill .ensures in
+    head-given (a .tape .now) (record { modeS = a .mode-s .now; modeAC = a .mode-ac .now; memory = a .memory .now }) (c .before .before .before .before .before .before .before .before .before .before .before .before .before .before .before .before .before .before .before .before-taps .ensures) (c .before .before .before .before .before .before .before .before .before .before .before .before .before .before .before .before .before .enum-told .given .1) (c .before .before .before .before .before .before .before .before .before .before .before .before .before .before .before .before .prepared .ensures) (c .before .before .before .before .before .before .before .before .before .before .before .before .before .opened-then .ensures) (c .before .before .before .before .before .before .before .before .before .before .before .before .is-begun .ensures) (f .0) (f .1) (f .2)
 
 pub head-spec : {M : Type 1} → statement M
-head-spec =
-    tie.close
-    (tie.spec
-    section-requires
-    enum-told
-    returns
-    enum-told-2
-    settings-bytes-requires
-    read-requires
-    check-requires
-    enum-known-q
-    number-requires
-    enum-told-3
-    taps-section-requires
-    returns-2
-    same-length
-    same-length-2
-    same-length-3
-    returns-3)
+head-spec = tie.close (tie.spec before-taps-requires enum-known-number returns enum-told prepared-requires opened-then-requires is-begun-requires slice-aggregate-fill slice-aggregate-fill-2 fill-requires same-length same-length-2 same-length-3 returns-2)

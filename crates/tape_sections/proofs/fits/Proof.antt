@@ -1,9 +1,9 @@
--- `tape_head::fits` meets its contract. Assumes nothing.
+-- `tape_sections::fits` meets its contract. Assumes nothing.
 use borrow.Author.Needs.{needs}
 use mathlib.Core.Path.{sym}
-use Rattle.tape_head.proofs.Sections.{product, below, above, between}
-use Rattle.tape_head.proofs.fits.Statement.{statement}
-use Rattle.tape_head.proofs.fits.Tie as tie
+use Rattle.tape_sections.proofs.Counts.{product, below, above, between}
+use Rattle.tape_sections.proofs.fits.Statement.{statement}
+use Rattle.tape_sections.proofs.fits.Tie as tie
 
 returns : tie.Need-returns
 returns c = let a = c .before .args in sym (below (a .n) (a .least) (a .most) (a .size) (a .room) (search needs))

@@ -5,20 +5,21 @@ use mathlib.Core.List.{List}
 use lib.ListN.{length}
 use lib.Ieee.{Float}
 use Rattle.due_samples.specs.Due.{zeros}
+use Rattle.filling.specs.Over.{over}
 use borrow.Author.Tests.{not-true, not-false}
 use borrow.Author.Needs.{needs}
-use Rattle.opening.proofs.fill.Statement.{statement}
-use Rattle.opening.proofs.fill.Tie as tie
+use Rattle.filling.proofs.fill.Statement.{statement}
+use Rattle.filling.proofs.fill.Tie as tie
 
--- what is left, by whether a run is opened
-chosen : (opened b : Bool) (x filled lent : List Float) → opened ≡ b → x ≡ cond b filled lent → x ≡ cond opened filled lent
-chosen opened b x filled lent e h = h ∙ ap (λ (c : Bool). cond c filled lent) (sym e)
+-- what is left, by whether it is wanted
+chosen : (wanted b : Bool) (x filled lent : List Float) → wanted ≡ b → x ≡ cond b filled lent → x ≡ cond wanted filled lent
+chosen wanted b x filled lent e h = h ∙ ap (λ (c : Bool). cond c filled lent) (sym e)
 
 returns : tie.Need-returns
 returns c =
     let a = c .before .before .before .before .before .before .args in
-    let e = not-true (a .opened) (c .if1 .taken) in
-    (chosen (a .opened) false _ (a .proto-s .now) _ e refl, chosen (a .opened) false _ (a .proto-ac .now) _ e refl, chosen (a .opened) false _ (zeros (length (a .memory .now))) _ e refl)
+    let e = not-true (a .wanted) (c .if1 .taken) in
+    (chosen (a .wanted) false _ (over (a .proto-s .now) (a .mode-s .now)) _ e refl, chosen (a .wanted) false _ (over (a .proto-ac .now) (a .mode-ac .now)) _ e refl, chosen (a .wanted) false _ (zeros (length (a .memory .now))) _ e refl)
 
 copy-requires : tie.Need-copy-requires
 copy-requires c κs = search needs
@@ -41,8 +42,8 @@ same-length-3 c = search needs
 returns-2 : tie.Need-returns-2
 returns-2 c =
     let a = c .before .before .before .before .before .before .before .before .before .before .before .before .before .before .before .before .before .before .args in
-    let e = not-false (a .opened) (c .before .before .before .before .before .before .before .before .before .before .before .before .if1 .left) in
-    (chosen (a .opened) true _ _ (a .mode-s .now) e (c .before .before .before .before .before .before .before .before .before .before .copy .ensures), chosen (a .opened) true _ _ (a .mode-ac .now) e (c .before .before .before .before .before .before .copy2 .ensures), chosen (a .opened) true _ _ (a .memory .now) e (c .before .before .clear .ensures))
+    let e = not-false (a .wanted) (c .before .before .before .before .before .before .before .before .before .before .before .before .if1 .left) in
+    (chosen (a .wanted) true _ _ (a .mode-s .now) e (c .before .before .before .before .before .before .before .before .before .before .copy .ensures), chosen (a .wanted) true _ _ (a .mode-ac .now) e (c .before .before .before .before .before .before .copy2 .ensures), chosen (a .wanted) true _ _ (a .memory .now) e (c .before .before .clear .ensures))
 
 pub fill-spec : {M : Type 1} → statement M
 fill-spec =

@@ -1,9 +1,9 @@
--- `tape_head::head_length` meets its contract. Assumes nothing.
+-- `tape_sections::head_length` meets its contract. Assumes nothing.
 use borrow.Author.Needs.{needs}
 use native.Mathlib.Omega.{arith}
-use Rattle.tape_head.proofs.Sections.{counted, length-counted, length-wrong}
-use Rattle.tape_head.proofs.head_length.Statement.{statement}
-use Rattle.tape_head.proofs.head_length.Tie as tie
+use Rattle.tape_sections.proofs.Counts.{counted, length-counted, length-wrong}
+use Rattle.tape_sections.proofs.head_length.Statement.{statement}
+use Rattle.tape_sections.proofs.head_length.Tie as tie
 
 section-requires : tie.Need-section-requires
 section-requires c κs = search needs

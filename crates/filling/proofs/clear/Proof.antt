@@ -4,10 +4,10 @@ use mathlib.Core.Path.{_≡_}
 use lib.ListN.{length, take, length-set}
 use lib.Ieee.{ofBits}
 use Rattle.due_samples.specs.Due.{zeros}
-use Rattle.opening.proofs.Filling.{clear-next, clear-end}
+use Rattle.filling.proofs.Filling.{clear-next, clear-end}
 use borrow.Author.Needs.{needs}
-use Rattle.opening.proofs.clear.Statement.{statement}
-use Rattle.opening.proofs.clear.Tie as tie
+use Rattle.filling.proofs.clear.Statement.{statement}
+use Rattle.filling.proofs.clear.Tie as tie
 
 abbrev Inv-loop : tie.InvT-loop
 Inv-loop memory₀ k₀ memory k = (k ≤ length memory₀) × (length memory ≡ length memory₀) × (take k memory ≡ zeros k)

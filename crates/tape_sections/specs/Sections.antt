@@ -1,0 +1,42 @@
+-- Document 01's tape: "Four sections in this order, each after its 32-bit count". Where the counts stand, when a section is right, and what stands before the noise. Definitions only.
+use Prim.Native.Nat.{ℕ, _+_, _*_}
+use mathlib.Core.Bool.{cond, _&&_}
+use mathlib.Core.List.{List}
+use lib.Dec.{leb}
+use lib.ListN.{length}
+use Rattle.constants.specs.Rate.{modeSTaps, modeACTaps}
+use Rattle.le_bytes.specs.LeBytes.{readAt}
+use Rattle.tape_sections.specs.declared.Counted as Counted
+
+-- "over 400 draws"
+abbrev pub mostDraws : ℕ
+mostDraws = 400
+
+-- where the counts stand: that of the settings at 0, 119 bytes behind it that of the taps, and so on
+abbrev pub tapsPlace : ℕ
+tapsPlace = 4 + 119
+
+abbrev pub tapsCount : ℕ → ℕ
+tapsCount sps = modeSTaps sps + modeACTaps sps
+
+abbrev pub drawsPlace : ℕ → ℕ
+drawsPlace sps = tapsPlace + 4 + 4 * tapsCount sps
+
+abbrev pub noisePlace : ℕ → ℕ → ℕ
+noisePlace sps n = drawsPlace sps + 4 + 65 * n
+
+-- a count n at a place, and so many values of a size behind it
+unfoldable pub countThen : List ℕ → ℕ → ℕ → ℕ → ℕ → ℕ → Counted.Counted
+countThen tape at least most size n = cond (leb least n && leb n most && leb (at + 4 + size * n) (length tape)) (Counted.the-variants.Of n) Counted.the-variants.Wrong
+
+-- the section whose count is at a place: its count is from least to most, and its values lie on the tape
+unfoldable pub sectionAt : List ℕ → ℕ → ℕ → ℕ → ℕ → Counted.Counted
+sectionAt tape at least most size = readAt 4 (countThen tape at least most size) Counted.the-variants.Wrong tape at
+
+-- how many bytes of a tape stand before its noise, as the first 12,135 say
+unfoldable pub lengthThen : ℕ → Counted.Counted → ℕ
+lengthThen sps (Counted.the-variants.Of n) = drawsPlace sps + 8 + 65 * n
+lengthThen sps Counted.the-variants.Wrong = drawsPlace sps + 4
+
+unfoldable pub headLength : ℕ → List ℕ → ℕ
+headLength sps tape = lengthThen sps (sectionAt tape (drawsPlace sps) 0 mostDraws 0)

@@ -1,0 +1,56 @@
+// The counts of a tape's sections: a section's count and length, and how many bytes stand before the noise. Each public function is equal to a definition of specs/ on every input. Assumes nothing.
+ghost use mathlib.Core.Path.{_≡_};
+ghost use Prim.Native.Nat.{_+_, _*_, _≤_, _<_};
+ghost use mathlib.Core.Bool.{_&&_};
+ghost use lib.Dec.{leb};
+ghost use Rattle.constants.specs.Rate.{four};
+ghost use Rattle.tape_sections.specs.Sections.{sectionAt, headLength};
+
+// The count of a section, or that its count or its length is wrong.
+pub enum Counted {
+    Of(u64),
+    Wrong,
+}
+
+// Whether a count is from least to most, and so many values of a size lie in the room behind it.
+fn fits(n: u64, least: u64, most: u64, size: u64, room: u64) -> bool
+    requires { ⌜ (size < 0x1_0000_0000) × (n < 0x1_0000_0000) ⌝ }
+    ensures { λ r. ⌜ r ≡ (leb least n && leb n most && leb (size * n) room) ⌝ }
+{
+    if n < least {
+        return false;
+    }
+    if most < n {
+        return false;
+    }
+    size * n <= room
+}
+
+// The count at a place, where it is from least to most and so many values of a size lie behind it.
+pub fn section(tape: &[u8], at: usize, least: u64, most: u64, size: u32) -> Counted
+    ensures { λ r. ⌜ r ≡ sectionAt (now (tape .entry)) at least most size ⌝ }
+{
+    if tape.len() < 4 {
+        return Counted::Wrong;
+    }
+    if tape.len() - 4 < at {
+        return Counted::Wrong;
+    }
+    let n = le_at::u32_at(tape, at) as u64;
+    let room = (tape.len() - (at + 4)) as u64;
+    if fits(n, least, most, size as u64, room) {
+        return Counted::Of(n);
+    }
+    Counted::Wrong
+}
+
+// How many bytes of a tape stand before its noise, as its first 12,135 say.
+pub fn head_length(tape: &[u8]) -> usize
+    ensures { λ r. ⌜ r ≡ headLength four (now (tape .entry)) ⌝ }
+    ensures { λ r. ⌜ (12135 ≤ r) × (r ≤ 38139) ⌝ }
+{
+    match section(tape, 12131, 0, 400, 0) {
+        Counted::Of(n) => 12139 + 65 * n as usize,
+        Counted::Wrong => 12135,
+    }
+}
