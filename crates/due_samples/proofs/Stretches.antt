@@ -91,14 +91,14 @@ pub goes-on : (m₀ noise out₀ : List Float) (w from at values : ℕ) (m out m
     → out′ ≡ laid (at + done) (mix (drop p m) (take len (drop (from + done) noise))) out → m′ ≡ laid p (zeros len) m
     → length m′ ≡ length m → length out′ ≡ length out
     → Writing m₀ noise out₀ w from at values m out p done
-    → Writing m₀ noise out₀ w from at values m′ out′ 0 (done + len)
+    → (p′ : ℕ) → p′ ≡ 0 → Writing m₀ noise out₀ w from at values m′ out′ p′ (done + len)
 unfolding samplesOf clearOf
-goes-on m₀ noise out₀ w from at values m out m′ out′ p done len hm ev hn ho lt el eo em lm lo g = record {
+goes-on m₀ noise out₀ w from at values m out m′ out′ p done len hm ev hn ho lt el eo em lm lo g p′ first = record {
   k = k + j;
   so-far = omega (arith, g .so-far, len-is);
   most = omega (arith, len-is, place-is);
-  below = omega arith;
-  place = λ more. wraps (omega (arith, g .so-far, len-is, place-is, q-lt));
+  below = omega (arith, first);
+  place = λ more. first ∙ wraps (omega (arith, g .so-far, len-is, place-is, q-lt));
   same-memory = lm ∙ g .same-memory;
   same-output = lo ∙ g .same-output;
   output = eo ∙ written-out;

@@ -38,9 +38,9 @@ pub state-read : (f : FlatState) (rates : MessagesPerSecond) (all : Distribution
 unfolding stateFrom
 state-read f rates all r d = λ i. record { written = f .written; total = f .total; time = f .time; latest = f .latest; ended = not (eqb (f .ended) 0); rates = r i; delays = record { «mode_s» = f .«mode_s_delay»; «mode_ac» = f .«mode_ac_delay» }; distributions = d i }
 
-pub no-state : (r : FlatRates) → r ≡ noRates → (d : FlatDistribution) → d ≡ distributionOf 0 zero64 zero64 → record { written = 0; total = 0; time = zero64; latest = zero64; rates = r; «mode_s_delay» = zero64; «mode_ac_delay» = zero64; carrier = d; phase = d; clock = d; ended = 0 } ≡ noState
+pub no-state : (r : FlatRates) → r ≡ noRates → record { written = 0; total = 0; time = zero64; latest = zero64; rates = r; «mode_s_delay» = zero64; «mode_ac_delay» = zero64; carrier = distributionOf 0 zero64 zero64; phase = distributionOf 0 zero64 zero64; clock = distributionOf 0 zero64 zero64; ended = 0 } ≡ noState
 unfolding noState
-no-state r a d e = λ i. record { written = 0; total = 0; time = zero64; latest = zero64; rates = a i; «mode_s_delay» = zero64; «mode_ac_delay» = zero64; carrier = e i; phase = e i; clock = e i; ended = 0 }
+no-state r a = λ i. record { written = 0; total = 0; time = zero64; latest = zero64; rates = a i; «mode_s_delay» = zero64; «mode_ac_delay» = zero64; carrier = distributionOf 0 zero64 zero64; phase = distributionOf 0 zero64 zero64; clock = distributionOf 0 zero64 zero64; ended = 0 }
 
 opened : FlatState → ℕ → ℕ → FlatOpened
 opened f n v = record { state = f; refusal = n; value = v }

@@ -3,7 +3,7 @@ ghost use mathlib.Core.Path.{_≡_};
 ghost use mathlib.Core.Bool.{cond};
 ghost use Rattle.constants.specs.Rate.{four};
 ghost use Rattle.opening.specs.Opening.{half, openedOf, leftBy};
-ghost use Rattle.more1090_generator.specs.States.{distributionOf, carrierFlat, phaseFlat, clockFlat, carrierFrom, phaseFrom, clockFrom, ratesFlat, ratesFrom, flatOf, stateFrom, noRates, noState};
+ghost use Rattle.more1090_generator.specs.States.{carrierFlat, phaseFlat, clockFlat, carrierFrom, phaseFrom, clockFrom, ratesFlat, ratesFrom, flatOf, stateFrom, noRates, noState};
 ghost use Rattle.running.specs.Ended.{stopNumber};
 ghost use Rattle.more1090_generator.specs.Answers.{valuesFlat, openedFlat, answered, ranFlat, flatRunLeft};
 use distributions::CarrierOffset;
@@ -82,22 +82,20 @@ pub struct FlatRan {
     pub answer: FlatAnswer,
 }
 
-fn distribution(kind: u64, first: f64, second: f64) -> FlatDistribution
-    ensures { λ r. ⌜ r ≡ distributionOf kind first second ⌝ }
-{
-    FlatDistribution {
-        kind: kind,
-        first: first,
-        second: second,
-    }
-}
-
 fn carrier_out(d: CarrierOffset) -> FlatDistribution
     ensures { λ r. ⌜ r ≡ carrierFlat d ⌝ }
 {
     match d {
-        CarrierOffset::Constant(x) => distribution(0, x, 0.0),
-        CarrierOffset::ClampedNormal(sigma, max) => distribution(1, sigma, max),
+        CarrierOffset::Constant(x) => FlatDistribution {
+            kind: 0,
+            first: x,
+            second: 0.0,
+        },
+        CarrierOffset::ClampedNormal(sigma, max) => FlatDistribution {
+            kind: 1,
+            first: sigma,
+            second: max,
+        },
     }
 }
 
@@ -105,8 +103,16 @@ fn phase_out(d: CarrierPhase) -> FlatDistribution
     ensures { λ r. ⌜ r ≡ phaseFlat d ⌝ }
 {
     match d {
-        CarrierPhase::Constant(x) => distribution(0, x, 0.0),
-        CarrierPhase::Uniform => distribution(1, 0.0, 0.0),
+        CarrierPhase::Constant(x) => FlatDistribution {
+            kind: 0,
+            first: x,
+            second: 0.0,
+        },
+        CarrierPhase::Uniform => FlatDistribution {
+            kind: 1,
+            first: 0.0,
+            second: 0.0,
+        },
     }
 }
 
@@ -114,8 +120,16 @@ fn clock_out(d: ClockError) -> FlatDistribution
     ensures { λ r. ⌜ r ≡ clockFlat d ⌝ }
 {
     match d {
-        ClockError::Constant(x) => distribution(0, x, 0.0),
-        ClockError::Uniform(max) => distribution(1, max, 0.0),
+        ClockError::Constant(x) => FlatDistribution {
+            kind: 0,
+            first: x,
+            second: 0.0,
+        },
+        ClockError::Uniform(max) => FlatDistribution {
+            kind: 1,
+            first: max,
+            second: 0.0,
+        },
     }
 }
 
@@ -272,7 +286,11 @@ fn no_state() -> FlatState
     ensures { λ r. ⌜ r ≡ noState ⌝ }
 {
     let rates = no_rates();
-    let none = distribution(0, 0.0, 0.0);
+    let none = FlatDistribution {
+        kind: 0,
+        first: 0.0,
+        second: 0.0,
+    };
     FlatState {
         written: 0,
         total: 0,
@@ -294,28 +312,31 @@ pub struct Values {
     pub field: u64,
 }
 
-fn pair(value: u64, field: u64) -> Values
-    ensures { λ r. ⌜ r ≡ record { value = value; field = field } ⌝ }
-{
-    Values {
-        value: value,
-        field: field,
-    }
-}
-
 fn values_of(q: Refusal) -> Values
     ensures { λ r. ⌜ r ≡ valuesFlat q ⌝ }
 {
     match q {
-        Refusal::Duration => pair(0, 0),
-        Refusal::Rate(rate) => pair(rate, 0),
-        Refusal::Total => pair(0, 0),
-        Refusal::Distribution(distribution) => pair(distribution, 0),
-        Refusal::Taps => pair(0, 0),
-        Refusal::Prototype => pair(0, 0),
-        Refusal::Draw(draw, field) => pair(draw, field),
-        Refusal::Noise(place) => pair(place, 0),
-        Refusal::Lent => pair(0, 0),
+        Refusal::Duration => Values { value: 0, field: 0 },
+        Refusal::Rate(rate) => Values {
+            value: rate,
+            field: 0,
+        },
+        Refusal::Total => Values { value: 0, field: 0 },
+        Refusal::Distribution(distribution) => Values {
+            value: distribution,
+            field: 0,
+        },
+        Refusal::Taps => Values { value: 0, field: 0 },
+        Refusal::Prototype => Values { value: 0, field: 0 },
+        Refusal::Draw(draw, field) => Values {
+            value: draw,
+            field: field,
+        },
+        Refusal::Noise(place) => Values {
+            value: place,
+            field: 0,
+        },
+        Refusal::Lent => Values { value: 0, field: 0 },
     }
 }
 

@@ -1,4 +1,5 @@
 -- `write_all` meets its contract: each turn writes one stretch more (`Writing`). Assumes nothing.
+use mathlib.Core.Path.{refl}
 use Prim.Native.Nat.{_-_}
 use Rattle.due_samples.proofs.Stretches.{Writing, starts, goes-on, all-written}
 use borrow.Author.Needs.{needs}
@@ -65,7 +66,7 @@ loop-less c = search needs
 loop-again : tie.Need-loop-again Inv-loop μ-loop
 loop-again c =
     let z = c .before .before .before .before in
-    goes-on _ _ _ _ _ _ _ _ _ _ _ _ _ _ (search needs) (search needs) (search needs) (search needs) (search needs) (c .before .before .before .before .before .before .before .least .ensures) (z .stretch .ensures .0) (z .stretch .ensures .1) (search needs) (search needs) (c .before .before .before .before .before .before .before .before .before .loop .inv)
+    goes-on _ _ _ _ _ _ _ _ _ _ _ _ _ _ (search needs) (search needs) (search needs) (search needs) (search needs) (c .before .before .before .before .before .before .before .least .ensures) (z .stretch .ensures .0) (z .stretch .ensures .1) (search needs) (search needs) (c .before .before .before .before .before .before .before .before .before .loop .inv) _ refl
 
 -- src/lib.rt:43:1
 same-length : tie.Need-same-length Inv-loop μ-loop

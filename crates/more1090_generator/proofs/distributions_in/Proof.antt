@@ -13,7 +13,7 @@ clock-in-requires : tie.Need-clock-in-requires
 clock-in-requires c κs = search needs
 
 returns : tie.Need-returns
-returns c = cc
+returns c = λ i. record { carrier = c .before .before .carrier-in .ensures i; phase = c .before .phase-in .ensures i; clock = c .clock-in .ensures i }
 
 pub distributions-in-spec : {M : Type 1} → statement M
 distributions-in-spec =

@@ -1,6 +1,6 @@
 -- `values_of` meets its contract. Assumes nothing.
 use borrow.Author.Needs.{needs}
-use mathlib.Core.Path.{sym, ap, _∙_}
+use mathlib.Core.Path.{sym, ap}
 use Rattle.refusals.specs.Number.{valuesOf}
 use Rattle.more1090_generator.specs.Answers.{valuesFlat}
 use Rattle.more1090_generator.proofs.values_of.Statement.{statement}
@@ -9,115 +9,79 @@ use Rattle.more1090_generator.proofs.values_of.Tie as tie
 enum-told : tie.Need-enum-told
 enum-told c = search needs
 
-pair-requires : tie.Need-pair-requires
-pair-requires c κs = search needs
-
 enum-known-q : tie.Need-enum-known-q
 enum-known-q c = search needs
-
-pair-requires-2 : tie.Need-pair-requires-2
-pair-requires-2 c κs = search needs
 
 enum-told-2 : tie.Need-enum-told-2
 enum-told-2 c = search needs
 
-pair-requires-3 : tie.Need-pair-requires-3
-pair-requires-3 c κs = search needs
-
 enum-known-q-2 : tie.Need-enum-known-q-2
 enum-known-q-2 c = search needs
-
-pair-requires-4 : tie.Need-pair-requires-4
-pair-requires-4 c κs = search needs
 
 enum-told-3 : tie.Need-enum-told-3
 enum-told-3 c = search needs
 
-pair-requires-5 : tie.Need-pair-requires-5
-pair-requires-5 c κs = search needs
-
 enum-told-4 : tie.Need-enum-told-4
 enum-told-4 c = search needs
-
-pair-requires-6 : tie.Need-pair-requires-6
-pair-requires-6 c κs = search needs
 
 enum-known-q-3 : tie.Need-enum-known-q-3
 enum-known-q-3 c = search needs
 
-pair-requires-7 : tie.Need-pair-requires-7
-pair-requires-7 c κs = search needs
-
 enum-known-q-4 : tie.Need-enum-known-q-4
 enum-known-q-4 c = search needs
-
-pair-requires-8 : tie.Need-pair-requires-8
-pair-requires-8 c κs = search needs
 
 enum-told-5 : tie.Need-enum-told-5
 enum-told-5 c = search needs
 
-pair-requires-9 : tie.Need-pair-requires-9
-pair-requires-9 c κs = search needs
-
 returns : tie.Need-returns
 unfolding valuesFlat valuesOf
-returns c = c .pair .ensures ∙ sym (ap valuesFlat (c .before .enum-told .given .1))
+returns c = sym (ap valuesFlat (c .enum-told .given .1))
 
 returns-2 : tie.Need-returns-2
 unfolding valuesFlat valuesOf
-returns-2 c = c .pair2 .ensures ∙ sym (ap valuesFlat (c .before .before .q .given .1))
+returns-2 c = sym (ap valuesFlat (c .before .q .given .1))
 
 returns-3 : tie.Need-returns-3
 unfolding valuesFlat valuesOf
-returns-3 c = c .pair3 .ensures ∙ sym (ap valuesFlat (c .before .enum-told2 .given .1))
+returns-3 c = sym (ap valuesFlat (c .enum-told2 .given .1))
 
 returns-4 : tie.Need-returns-4
 unfolding valuesFlat valuesOf
-returns-4 c = c .pair4 .ensures ∙ sym (ap valuesFlat (c .before .before .q2 .given .1))
+returns-4 c = sym (ap valuesFlat (c .before .q2 .given .1))
 
 returns-5 : tie.Need-returns-5
 unfolding valuesFlat valuesOf
-returns-5 c = c .pair5 .ensures ∙ sym (ap valuesFlat (c .before .enum-told3 .given .1))
+returns-5 c = sym (ap valuesFlat (c .enum-told3 .given .1))
 
 returns-6 : tie.Need-returns-6
 unfolding valuesFlat valuesOf
-returns-6 c = c .pair6 .ensures ∙ sym (ap valuesFlat (c .before .enum-told4 .given .1))
+returns-6 c = sym (ap valuesFlat (c .enum-told4 .given .1))
 
 returns-7 : tie.Need-returns-7
 unfolding valuesFlat valuesOf
-returns-7 c = c .pair7 .ensures ∙ sym (ap valuesFlat (c .before .before .q3 .given .1))
+returns-7 c = sym (ap valuesFlat (c .before .q3 .given .1))
 
 returns-8 : tie.Need-returns-8
 unfolding valuesFlat valuesOf
-returns-8 c = c .pair8 .ensures ∙ sym (ap valuesFlat (c .before .before .q4 .given .1))
+returns-8 c = sym (ap valuesFlat (c .before .q4 .given .1))
 
 returns-9 : tie.Need-returns-9
 unfolding valuesFlat valuesOf
-returns-9 c = c .pair9 .ensures ∙ sym (ap valuesFlat (c .before .enum-told5 .given .1))
+returns-9 c = sym (ap valuesFlat (c .enum-told5 .given .1))
 
 pub values-of-spec : {M : Type 1} → statement M
 values-of-spec =
     tie.close
     (tie.spec
     enum-told
-    pair-requires
     enum-known-q
-    pair-requires-2
     enum-told-2
-    pair-requires-3
     enum-known-q-2
-    pair-requires-4
     enum-told-3
-    pair-requires-5
     enum-told-4
-    pair-requires-6
     enum-known-q-3
-    pair-requires-7
     enum-known-q-4
-    pair-requires-8
     enum-told-5
-    pair-requires-9
     returns
     returns-2
     returns-3

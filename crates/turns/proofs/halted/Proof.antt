@@ -1,0 +1,12 @@
+-- `halted` meets its contract. Assumes nothing.
+use mathlib.Core.Path.{refl}
+use Rattle.turns.specs.Moved.{haltedBy}
+use Rattle.turns.proofs.halted.Statement.{statement}
+use Rattle.turns.proofs.halted.Tie as tie
+
+returns : tie.Need-returns
+unfolding haltedBy
+returns c = refl
+
+pub halted-spec : {M : Type 1} → statement M
+halted-spec = tie.close (tie.spec returns)
