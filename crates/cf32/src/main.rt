@@ -67,59 +67,27 @@ fn write_samples(before: u64, after: u64, output: &[f32]) -> bool {
     io::write_all(STDOUT_FILENO, &all[..size])
 }
 
-// As many noise values as the bytes have room for, read and fed to the run; then its samples.
-fn chunk(
-    f: Feed,
-    mode_s: &[f32],
-    mode_ac: &[f32],
-    memory: &mut [f32],
-    draws: &[u8],
-    bytes: &mut [u8],
-    row: &mut [f32],
-    output: &mut [f32],
-    records: &mut [u8],
-) -> Fed {
-    let got = io::read_full(STDIN_FILENO, bytes);
-    if got < bytes.len() {
-        return Fed {
-            feed: f,
-            short: true,
-            stop: true,
-        };
-    }
-    let g = tape_feed::feed_bytes(
-        f,
-        mode_s,
-        mode_ac,
-        memory,
-        draws,
-        bytes,
-        row,
-        output,
-        records,
-    );
-    Fed {
-        feed: g,
-        short: false,
-        stop: false,
-    }
-}
-
 // The run after its samples are written out.
-fn written(before: u64, f: Fed, output: &[f32]) -> Fed {
-    let g = f.feed;
+fn written(before: u64, g: Feed, output: &[f32]) -> Fed {
     let state = g.state;
     let after = state.written;
     let taken = write_samples(before, after, output);
     progress(before, after);
     Fed {
         feed: g,
-        short: f.short,
-        stop: f.stop || !taken,
+        short: false,
+        stop: !taken,
     }
 }
 
-// The next so many noise values, and the samples that come of them.
+// So many bytes read; whether there were fewer.
+fn read_short(size: usize, bytes: &mut [u8]) -> bool
+    requires { ⌜ size ≤ length (now bytes) ⌝ }
+{
+    io::read_full(STDIN_FILENO, &mut bytes[..size]) < size
+}
+
+// The next so many noise values, read and fed to the run, and the samples that come of them written out.
 fn turn(
     f: Feed,
     want: u64,
@@ -127,28 +95,33 @@ fn turn(
     mode_ac: &[f32],
     memory: &mut [f32],
     draws: &[u8],
-    bytes: &mut [u8],
-    row: &mut [f32],
-    output: &mut [f32],
     records: &mut [u8],
 ) -> Fed
-    requires { ⌜ (want ≤ 16384) × (65536 ≤ length (now bytes)) ⌝ }
+    requires { ⌜ want ≤ 16384 ⌝ }
 {
     let size = 4 * want as usize;
+    let mut bytes = [0u8; 65536];
+    if read_short(size, &mut bytes) {
+        return Fed {
+            feed: f,
+            short: true,
+            stop: true,
+        };
+    }
     let state = f.state;
     let before = state.written;
-    let g = chunk(
+    let mut output = [0.0f32; 16386];
+    let g = tape_feed::feed_bytes(
         f,
         mode_s,
         mode_ac,
         memory,
         draws,
-        &mut bytes[..size],
-        row,
-        output,
+        &bytes[..size],
+        &mut output,
         records,
     );
-    written(before, g, output)
+    written(before, g, &output)
 }
 
 // The values left after so many; none once the run stops.
@@ -169,42 +142,22 @@ fn noise_section(
     mode_ac: &[f32],
     memory: &mut [f32],
     draws: &[u8],
-    bytes: &mut [u8],
-    row: &mut [f32],
-    output: &mut [f32],
     records: &mut [u8],
-) -> Fed
-    requires { ⌜ 65536 ≤ length (now bytes) ⌝ }
-{
-    let mut f = turn(
-        first,
-        0,
-        mode_s,
-        mode_ac,
-        memory,
-        draws,
-        bytes,
-        row,
-        output,
-        records,
-    );
+) -> Fed {
+    let mut f = Fed {
+        feed: first,
+        short: false,
+        stop: false,
+    };
     let mut left = count;
-    while 0 < left {
-        let want = least(left, 16384);
+    let mut want: u64 = 0;
+    let mut turns: u64 = 1;
+    while 0 < turns {
         let g = f.feed;
-        f = turn(
-            g,
-            want,
-            mode_s,
-            mode_ac,
-            memory,
-            draws,
-            bytes,
-            row,
-            output,
-            records,
-        );
+        f = turn(g, want, mode_s, mode_ac, memory, draws, records);
         left = left_after(left, want, f.stop);
+        want = least(left, 16384);
+        turns = least(want, 1);
     }
     f
 }
@@ -239,9 +192,6 @@ fn run(
     requires { ⌜ (n ≤ 400) × (38139 ≤ length (now head)) ⌝ }
 {
     let end = 12135 + 65 * n as usize;
-    let mut bytes = [0u8; 65536];
-    let mut row = [0.0f32; 16384];
-    let mut output = [0.0f32; 16386];
     let mut records = [0u8; 26400];
     let f = noise_section(
         count,
@@ -250,9 +200,6 @@ fn run(
         mode_ac,
         memory,
         &head[12135..end],
-        &mut bytes,
-        &mut row,
-        &mut output,
         &mut records,
     );
     finish(fd, f, &records);

@@ -40,43 +40,14 @@ fn left_over() -> bool {
     0 < io::read_full(STDIN_FILENO, &mut b)
 }
 
-// As many noise values as the bytes have room for, read and fed to the run.
-fn chunk(
-    f: Feed,
-    mode_s: &[f32],
-    mode_ac: &[f32],
-    memory: &mut [f32],
-    draws: &[u8],
-    bytes: &mut [u8],
-    row: &mut [f32],
-    output: &mut [f32],
-    records: &mut [u8],
-) -> Fed {
-    let got = io::read_full(STDIN_FILENO, bytes);
-    if got < bytes.len() {
-        return Fed {
-            feed: f,
-            short: true,
-        };
-    }
-    let g = tape_feed::feed_bytes(
-        f,
-        mode_s,
-        mode_ac,
-        memory,
-        draws,
-        bytes,
-        row,
-        output,
-        records,
-    );
-    Fed {
-        feed: g,
-        short: false,
-    }
+// So many bytes read; whether there were fewer.
+fn read_short(size: usize, bytes: &mut [u8]) -> bool
+    requires { ⌜ size ≤ length (now bytes) ⌝ }
+{
+    io::read_full(STDIN_FILENO, &mut bytes[..size]) < size
 }
 
-// The next so many noise values.
+// The next so many noise values, read and fed to the run.
 fn turn(
     f: Feed,
     want: u64,
@@ -84,25 +55,33 @@ fn turn(
     mode_ac: &[f32],
     memory: &mut [f32],
     draws: &[u8],
-    bytes: &mut [u8],
-    row: &mut [f32],
-    output: &mut [f32],
     records: &mut [u8],
 ) -> Fed
-    requires { ⌜ (want ≤ 16384) × (65536 ≤ length (now bytes)) ⌝ }
+    requires { ⌜ want ≤ 16384 ⌝ }
 {
     let size = 4 * want as usize;
-    chunk(
+    let mut bytes = [0u8; 65536];
+    if read_short(size, &mut bytes) {
+        return Fed {
+            feed: f,
+            short: true,
+        };
+    }
+    let mut output = [0.0f32; 16386];
+    let g = tape_feed::feed_bytes(
         f,
         mode_s,
         mode_ac,
         memory,
         draws,
-        &mut bytes[..size],
-        row,
-        output,
+        &bytes[..size],
+        &mut output,
         records,
-    )
+    );
+    Fed {
+        feed: g,
+        short: false,
+    }
 }
 
 // The values left after so many; none once the section was short.
@@ -126,42 +105,21 @@ fn noise_section(
     mode_ac: &[f32],
     memory: &mut [f32],
     draws: &[u8],
-    bytes: &mut [u8],
-    row: &mut [f32],
-    output: &mut [f32],
     records: &mut [u8],
-) -> Fed
-    requires { ⌜ 65536 ≤ length (now bytes) ⌝ }
-{
-    let mut f = turn(
-        first,
-        0,
-        mode_s,
-        mode_ac,
-        memory,
-        draws,
-        bytes,
-        row,
-        output,
-        records,
-    );
+) -> Fed {
+    let mut f = Fed {
+        feed: first,
+        short: false,
+    };
     let mut left = count;
-    while 0 < left {
-        let want = least(left, 16384);
+    let mut want: u64 = 0;
+    let mut turns: u64 = 1;
+    while 0 < turns {
         let g = f.feed;
-        f = turn(
-            g,
-            want,
-            mode_s,
-            mode_ac,
-            memory,
-            draws,
-            bytes,
-            row,
-            output,
-            records,
-        );
+        f = turn(g, want, mode_s, mode_ac, memory, draws, records);
         left = left_after(left, want, f.short);
+        want = least(left, 16384);
+        turns = least(want, 1);
     }
     f
 }
@@ -192,9 +150,6 @@ fn run(
     requires { ⌜ (n ≤ 400) × (38139 ≤ length (now head)) ⌝ }
 {
     let end = 12135 + 65 * n as usize;
-    let mut bytes = [0u8; 65536];
-    let mut row = [0.0f32; 16384];
-    let mut output = [0.0f32; 16386];
     let mut records = [0u8; 26400];
     let f = noise_section(
         count,
@@ -203,9 +158,6 @@ fn run(
         mode_ac,
         memory,
         &head[12135..end],
-        &mut bytes,
-        &mut row,
-        &mut output,
         &mut records,
     );
     finish(f, &records);

@@ -1,12 +1,12 @@
--- The parts that a call is lent are the rest of the draws and of the room, and what it leaves joins the records (`called`); and the joints of a verdict. Assumes nothing.
-use Prim.Native.Nat.{ℕ, _+_, _-_, _*_, _/_, _≤_, _<_, min}
+-- The parts that a call is lent are the rest of the draws and of the room and the noise in the bytes, and what it leaves joins the records (`called`); and the joints of a verdict. Assumes nothing.
+use Prim.Native.Nat.{ℕ, _+_, _-_, _*_, _/_, _%_, _^_, _≤_, _<_, min}
 use mathlib.Core.Path.{_≡_, refl, sym, ap, _∙_}
 use mathlib.Core.Bool.{Bool, true, false, cond}
 use mathlib.Core.List.{List, [], _++_, append-nil}
 use native.Mathlib.Nat.{le-div-iff-mul-le, div-lt-iff-lt-mul, mul-comm}
 use native.Mathlib.Omega.{arith}
 use lib.Dec.{leb}
-use lib.ListN.{length, take, drop, length-drop}
+use lib.ListN.{length, take, drop, length-append, length-take, length-drop}
 use lib.Seq.{take-all, take-at, drop-nil, drop-drop, drop-length}
 use lib.Ieee.{Float}
 use borrow.Author.Tests.{leb-true, leb-false}
@@ -18,7 +18,7 @@ use Rattle.running.specs.Calls.{runLeft}
 use Rattle.tape_floats.specs.Floats.{floatsOf}
 use Rattle.tape_floats.proofs.Rows.{length-floats}
 use Rattle.tape_feed.specs.declared.Feed.{Feed}
-use Rattle.tape_feed.specs.Feeding.{Fed, feedAfter, fedAfter, calledOf, fedThen, fedOf, noiseOf, rowAfter, answerThen, verdictOf}
+use Rattle.tape_feed.specs.Feeding.{Fed, feedAfter, fedAfter, calledOf, fedThen, fedOf, noiseOf, answerThen, verdictOf}
 
 -- ---- places
 pub inside-place : (k size len : ℕ) → 0 < size → k ≤ len / size → size * k ≤ len
@@ -26,6 +26,9 @@ inside-place k size len h g = let p : k * size ≤ len = le-div-iff-mul-le h .0 
 
 pub past-place : (k size len : ℕ) → 0 < size → len / size < k → len ≤ size * k
 past-place k size len h g = let p : len < k * size = div-lt-iff-lt-mul h .0 g in omega (arith, mul-comm k size)
+
+pub within : (n m : ℕ) {a : ℕ} → a ≡ min n m → a ≤ m
+within n m e = omega (arith, e)
 
 module _ {A : Type 0} where
   drop-past : (n : ℕ) (l : List A) → length l ≤ n → drop n l ≡ []
@@ -58,17 +61,35 @@ module _ {A : Type 0} where
       ∙ ap (λ (z : List A). take a l ++ z) (append-nil ys)
       ∙ ap (λ (z : List A). z ++ ys) (take-within n a l e)
 
+  pub part-kept : (a : ℕ) (l ys : List A) → a ≤ length l → length ys ≡ length (take (length l - a) (drop a l)) → length (take a l ++ (ys ++ drop (length l - a) (drop a l))) ≡ length l
+  part-kept a l ys h e =
+      simp (length-append, length-take, length-drop, e) (omega arith)
+
 -- ---- a call
-pub called : (f : Feed) (modeS modeAC memory : List Float) (draws : List ℕ) (noise output : List Float) (records : List ℕ) {a b : ℕ} {r : Ran} {m o : List Float} {ys : List ℕ} {q : Feed} → a ≡ min (65 * f .taken) (length draws)
-    → b ≡ min (66 * f .records) (length records)
-    → record { ran = r; memory = m; output = o; records = ys } ≡ runLeft (f .state) modeS modeAC memory (take (length draws - a) (drop a draws)) noise output (take (length records - b) (drop b records)) → q ≡ feedAfter f r
+pub next-feed : (f : Feed) (r : Ran) {x y : ℕ} → x ≡ (f .taken + r .counts .taken) % 2 ^ 64 → y ≡ (f .records + r .counts .records) % 2 ^ 64
+    → record { state = r .state; taken = x; records = y; answer = r .answer } ≡ feedAfter f r
+unfolding feedAfter
+next-feed f r p q = λ i. record { state = r .state; taken = p i; records = q i; answer = r .answer }
+
+-- the noise read from bytes, as the call is lent it
+noise-read : (bytes : List ℕ) (row t : List Float) {n : ℕ} → length row ≡ 16384 → n ≡ min (length bytes / 4) (length row) → t ≡ floatsOf n bytes ++ drop n row → take n t ≡ noiseOf bytes
+unfolding noiseOf
+noise-read bytes row t {n} h e p =
+    ap (take n) p
+    ∙ take-at (floatsOf n bytes) (drop n row) n (length-floats n bytes)
+    ∙ ap (λ (k : ℕ). floatsOf k bytes) (e ∙ ap (min (length bytes / 4)) h)
+
+pub called : (f : Feed) (modeS modeAC memory : List Float) (draws bytes : List ℕ) (output : List Float) (records : List ℕ) (row t : List Float) {n a b : ℕ} {r : Ran} {m o : List Float} {ys : List ℕ} {q : Feed}
+    → length row ≡ 16384 → n ≡ min (length bytes / 4) (length row) → t ≡ floatsOf n bytes ++ drop n row
+    → a ≡ min (65 * f .taken) (length draws) → b ≡ min (66 * f .records) (length records)
+    → record { ran = r; memory = m; output = o; records = ys } ≡ runLeft (f .state) modeS modeAC memory (take (length draws - a) (drop a draws)) (take n t) output (take (length records - b) (drop b records)) → q ≡ feedAfter f r
     → record { feed = q; memory = m; output = o; records = take b records ++ (ys ++ drop (length records - b) (drop b records)) }
-    ≡ calledOf modeS modeAC draws noise (record { feed = f; memory = memory; output = output; records = records })
+    ≡ calledOf modeS modeAC draws (noiseOf bytes) (record { feed = f; memory = memory; output = output; records = records })
 unfolding calledOf fedAfter
-called f modeS modeAC memory draws noise output records {a} {b} {r} {m} {o} {ys} {q} ha hb e z =
+called f modeS modeAC memory draws bytes output records row t {n} {a} {b} {r} {m} {o} {ys} {q} h hn ht ha hb e z =
     (λ i. record { feed = z i; memory = m; output = o; records = part-back (66 * f .records) b records ys hb i })
     ∙ ap (fedAfter f records)
-    (e ∙ (λ i. runLeft (f .state) modeS modeAC memory (part-from (65 * f .taken) a draws ha i) noise output (part-from (66 * f .records) b records hb i)))
+    (e ∙ (λ i. runLeft (f .state) modeS modeAC memory (part-from (65 * f .taken) a draws ha i) (noise-read bytes row t h hn ht i) output (part-from (66 * f .records) b records hb i)))
 
 -- ---- a chunk
 module _ (modeS modeAC : List Float) (draws : List ℕ) (noise : List Float) (d : Fed) where
@@ -84,12 +105,3 @@ module _ (modeS modeAC : List Float) (draws : List ℕ) (noise : List Float) (d 
 pub not-short : (over : Bool) (answer : Answer.Answer) {short : Bool} {r : ℕ} → short ≡ false → r ≡ answerThen over answer → r ≡ verdictOf short answer over
 unfolding verdictOf
 not-short over answer e p = p ∙ sym (ap (λ (b : Bool). cond b 11 (answerThen over answer)) e)
-
--- ---- noise as bytes
-pub row-read : (bytes : List ℕ) (row t : List Float) {n : ℕ} → n ≡ min (length bytes / 4) (length row) → t ≡ floatsOf n bytes ++ drop n row → (take n t ≡ noiseOf bytes (length row)) × (t ≡ rowAfter bytes row)
-unfolding noiseOf rowAfter
-row-read bytes row t {n} e p =
-    (ap (take n) p ∙ take-at (floatsOf n bytes) (drop n row) n (length-floats n bytes) ∙ ap (λ (k : ℕ). floatsOf k bytes) e, p ∙ ap (λ (k : ℕ). floatsOf k bytes ++ drop k row) e)
-
-pub fed-with : (modeS modeAC : List Float) (draws : List ℕ) (d : Fed) {x y : List Float} {r : Fed} → x ≡ y → r ≡ fedOf modeS modeAC draws x d → r ≡ fedOf modeS modeAC draws y d
-fed-with modeS modeAC draws d e p = p ∙ ap (λ (z : List Float). fedOf modeS modeAC draws z d) e

@@ -52,12 +52,9 @@ module _ (modeS modeAC : List Float) (draws : List ℕ) (noise : List Float) whe
   unfoldable pub fedOf : Fed → Fed
   fedOf d = fedThen d (d .feed .answer)
 
--- the noise values in bytes, as many as there is room for; and the row that they are put into
-unfoldable pub noiseOf : List ℕ → ℕ → List Float
-noiseOf bytes room = floatsOf (min (length bytes / 4) room) bytes
-
-unfoldable pub rowAfter : List ℕ → List Float → List Float
-rowAfter bytes row = noiseOf bytes (length row) ++ drop (min (length bytes / 4) (length row)) row
+-- the noise values in a chunk's bytes, 16,384 at most
+unfoldable pub noiseOf : List ℕ → List Float
+noiseOf bytes = floatsOf (min (length bytes / 4) 16384) bytes
 
 -- the verdict on a tape whose noise is read: a refusal's number, or 0. "noise value by value to the last, used or not; then a run not Done, then bytes left over"; and a section's length before its values
 unfoldable pub stopThen : Bool → Stop.Stop → ℕ

@@ -1,9 +1,8 @@
 // A run that is fed its noise chunk by chunk, and the verdict on it. Each public function is equal to a definition of specs/ on every input. Assumes nothing.
 ghost use mathlib.Core.Path.{_≡_};
 ghost use Prim.Native.Nat.{_*_, _≤_, _<_, min};
-ghost use lib.ListN.{length};
 ghost use mathlib.Core.Bool.{cond};
-ghost use Rattle.tape_feed.specs.Feeding.{startOf, feedAfter, calledOf, fedOf, noiseOf, rowAfter, stopThen, verdictOf};
+ghost use Rattle.tape_feed.specs.Feeding.{startOf, feedAfter, calledOf, fedOf, noiseOf, stopThen, verdictOf};
 use run_plans::Stop;
 use running::Answer;
 use running::Ran;
@@ -55,19 +54,21 @@ fn after(f: Feed, r: Ran) -> Feed
     }
 }
 
-// One run call, lent the draws that are not taken and the room behind the records.
+// One run call on the noise in bytes, 16,384 values at most, lent the draws that are not taken and the room behind the records.
 fn call(
     f: Feed,
     mode_s: &[f32],
     mode_ac: &[f32],
     memory: &mut [f32],
     draws: &[u8],
-    noise: &[f32],
+    bytes: &[u8],
     output: &mut [f32],
     records: &mut [u8],
 ) -> Feed
-    ensures { λ r. ⌜ record { feed = r; memory = now (memory .exit); output = now (output .exit); records = now (records .exit) } ≡ calledOf (now («mode_s» .entry)) (now («mode_ac» .entry)) (now (draws .entry)) (now (noise .entry)) (record { feed = f; memory = now (memory .entry); output = now (output .entry); records = now (records .entry) }) ⌝ }
+    ensures { λ r. ⌜ record { feed = r; memory = now (memory .exit); output = now (output .exit); records = now (records .exit) } ≡ calledOf (now («mode_s» .entry)) (now («mode_ac» .entry)) (now (draws .entry)) (noiseOf (now (bytes .entry))) (record { feed = f; memory = now (memory .entry); output = now (output .entry); records = now (records .entry) }) ⌝ }
 {
+    let mut row = [0.0f32; 16384];
+    let n = tape_floats::floats(bytes, &mut row);
     let a = place(f.taken, 65, draws.len());
     let b = place(f.records, 66, records.len());
     let s = f.state;
@@ -77,34 +78,14 @@ fn call(
         mode_ac,
         memory,
         &draws[a..],
-        noise,
+        &row[..n],
         output,
         &mut records[b..],
     );
     after(f, r)
 }
 
-// The run after a chunk of noise; once refused, it stays as it is.
-pub fn feed_noise(
-    f: Feed,
-    mode_s: &[f32],
-    mode_ac: &[f32],
-    memory: &mut [f32],
-    draws: &[u8],
-    noise: &[f32],
-    output: &mut [f32],
-    records: &mut [u8],
-) -> Feed
-    ensures { λ r. ⌜ record { feed = r; memory = now (memory .exit); output = now (output .exit); records = now (records .exit) } ≡ fedOf (now («mode_s» .entry)) (now («mode_ac» .entry)) (now (draws .entry)) (now (noise .entry)) (record { feed = f; memory = now (memory .entry); output = now (output .entry); records = now (records .entry) }) ⌝ }
-{
-    let answer = f.answer;
-    match answer {
-        Answer::Refused(_) => f,
-        Answer::Stopped(_) => call(f, mode_s, mode_ac, memory, draws, noise, output, records),
-    }
-}
-
-// The same, the noise as bytes; the values are put into a lent row, as many as it has room for.
+// The run after a chunk of noise, as bytes; once refused, it stays as it is.
 pub fn feed_bytes(
     f: Feed,
     mode_s: &[f32],
@@ -112,24 +93,16 @@ pub fn feed_bytes(
     memory: &mut [f32],
     draws: &[u8],
     bytes: &[u8],
-    row: &mut [f32],
     output: &mut [f32],
     records: &mut [u8],
 ) -> Feed
-    ensures { λ r. ⌜ record { feed = r; memory = now (memory .exit); output = now (output .exit); records = now (records .exit) } ≡ fedOf (now («mode_s» .entry)) (now («mode_ac» .entry)) (now (draws .entry)) (noiseOf (now (bytes .entry)) (length (now (row .entry)))) (record { feed = f; memory = now (memory .entry); output = now (output .entry); records = now (records .entry) }) ⌝ }
-    ensures { λ r. ⌜ now (row .exit) ≡ rowAfter (now (bytes .entry)) (now (row .entry)) ⌝ }
+    ensures { λ r. ⌜ record { feed = r; memory = now (memory .exit); output = now (output .exit); records = now (records .exit) } ≡ fedOf (now («mode_s» .entry)) (now («mode_ac» .entry)) (now (draws .entry)) (noiseOf (now (bytes .entry))) (record { feed = f; memory = now (memory .entry); output = now (output .entry); records = now (records .entry) }) ⌝ }
 {
-    let n = tape_floats::floats(bytes, row);
-    feed_noise(
-        f,
-        mode_s,
-        mode_ac,
-        memory,
-        draws,
-        &row[..n],
-        output,
-        records,
-    )
+    let answer = f.answer;
+    match answer {
+        Answer::Refused(_) => f,
+        Answer::Stopped(_) => call(f, mode_s, mode_ac, memory, draws, bytes, output, records),
+    }
 }
 
 fn left_over(over: bool) -> u64

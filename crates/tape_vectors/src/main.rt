@@ -48,7 +48,30 @@ fn finish(short: bool, over: bool, f: Feed, records: &[u8]) {
     }
 }
 
-// The noise in the bytes, fed to the run in chunks of up to 100 values.
+// The run after a chunk of noise.
+fn feed(
+    f: Feed,
+    mode_s: &[f32],
+    mode_ac: &[f32],
+    memory: &mut [f32],
+    draws: &[u8],
+    bytes: &[u8],
+    records: &mut [u8],
+) -> Feed {
+    let mut output = [0.0f32; 102];
+    tape_feed::feed_bytes(
+        f,
+        mode_s,
+        mode_ac,
+        memory,
+        draws,
+        bytes,
+        &mut output,
+        records,
+    )
+}
+
+// The noise in the bytes, fed to the run in chunks of up to 100 values; first none, so that a run of no samples is done.
 fn feed_all(
     first: Feed,
     mode_s: &[f32],
@@ -56,64 +79,19 @@ fn feed_all(
     memory: &mut [f32],
     draws: &[u8],
     bytes: &[u8],
-    row: &mut [f32],
-    output: &mut [f32],
     records: &mut [u8],
 ) -> Feed {
     let mut f = first;
     let mut rest = bytes;
-    while 0 < rest.len() {
-        let n = least(rest.len() as u64, 400) as usize;
-        f = tape_feed::feed_bytes(
-            f,
-            mode_s,
-            mode_ac,
-            memory,
-            draws,
-            &rest[..n],
-            row,
-            output,
-            records,
-        );
+    let mut n: usize = 0;
+    let mut turns: usize = 1;
+    while 0 < turns {
+        f = feed(f, mode_s, mode_ac, memory, draws, &rest[..n], records);
         rest = &rest[n..];
+        n = least(rest.len() as u64, 400) as usize;
+        turns = least(n as u64, 1) as usize;
     }
     f
-}
-
-// The same, after a chunk of no values, so that a run of no samples is done.
-fn feed_from_none(
-    first: Feed,
-    mode_s: &[f32],
-    mode_ac: &[f32],
-    memory: &mut [f32],
-    draws: &[u8],
-    bytes: &[u8],
-    row: &mut [f32],
-    output: &mut [f32],
-    records: &mut [u8],
-) -> Feed {
-    let f = tape_feed::feed_bytes(
-        first,
-        mode_s,
-        mode_ac,
-        memory,
-        draws,
-        &bytes[..0],
-        row,
-        output,
-        records,
-    );
-    feed_all(
-        f,
-        mode_s,
-        mode_ac,
-        memory,
-        draws,
-        bytes,
-        row,
-        output,
-        records,
-    )
 }
 
 // A run of n draws and so many noise values, of a tape whose noise begins at a place.
@@ -133,18 +111,14 @@ fn run(
     let room = (tape.len() - begin) as u64;
     let used = least(room / 4, count);
     let last = begin + 4 * used as usize;
-    let mut row = [0.0f32; 100];
-    let mut output = [0.0f32; 102];
     let mut records = [0u8; 26400];
-    let f = feed_from_none(
+    let f = feed_all(
         tape_feed::start(state),
         mode_s,
         mode_ac,
         memory,
         &tape[12135..end],
         &tape[begin..last],
-        &mut row,
-        &mut output,
         &mut records,
     );
     finish(used < count, last < tape.len(), f, &records);

@@ -1,57 +1,48 @@
 -- `tape::noise_section` is safe and ends: the lent rows keep their lengths, and the values left fall. Assumes nothing.
-use borrow.Author.Needs.{needs}
-use Prim.Native.Nat.{_≤_}
-use mathlib.Core.Path.{_≡_}
+use Prim.Native.Nat.{_+_, _-_, _*_, _≤_, zero-le}
+use mathlib.Core.Path.{_≡_, refl, _∙_}
+use native.Mathlib.Omega.{arith}
 use lib.ListN.{length}
 use Rattle.tape.proofs.noise_section.Statement.{statement}
 use Rattle.tape.proofs.noise_section.Tie as tie
 
 abbrev Inv-loop : tie.InvT-loop
-Inv-loop count mode-s mode-ac memory₀ draws bytes₀ row₀ output₀ records₀ f₀ left₀ memory bytes row output records f left =
-    (65536 ≤ length bytes) × (length memory ≡ length memory₀) × (length bytes ≡ length bytes₀) × (length row ≡ length row₀) × (length output ≡ length output₀) × (length records ≡ length records₀)
+Inv-loop count mode-s mode-ac memory₀ draws records₀ f₀ left₀ want₀ turns₀ memory records f left want turns =
+    (want ≤ left) × (want ≤ 16384) × (length memory ≡ length memory₀) × (length records ≡ length records₀)
 
 abbrev μ-loop : tie.MeasureT-loop
-μ-loop count mode-s mode-ac memory₀ draws bytes₀ row₀ output₀ records₀ f₀ left₀ memory bytes row output records f left =
-    left
-
-turn-requires : tie.Need-turn-requires Inv-loop μ-loop
-turn-requires c κs = search needs
+μ-loop count mode-s mode-ac memory₀ draws records₀ f₀ left₀ want₀ turns₀ memory records f left want turns =
+    2 * left + turns + (1 - want)
 
 loop-holds : tie.Need-loop-holds Inv-loop μ-loop
-loop-holds c = search needs
+loop-holds c = (zero-le, zero-le, refl, refl)
 
-least-requires : tie.Need-least-requires Inv-loop μ-loop
-least-requires c κs = search needs
-
-turn-requires-2 : tie.Need-turn-requires-2 Inv-loop μ-loop
-turn-requires-2 c κs = search needs
+turn-requires : tie.Need-turn-requires Inv-loop μ-loop
+turn-requires c κs = c .before .before .before .before .loop .inv .1
 
 left-after-requires : tie.Need-left-after-requires Inv-loop μ-loop
-left-after-requires c κs = search needs
+left-after-requires c κs = tt
+
+least-requires : tie.Need-least-requires Inv-loop μ-loop
+least-requires c κs = tt
+
+least-requires-2 : tie.Need-least-requires-2 Inv-loop μ-loop
+least-requires-2 c κs = tt
 
 loop-less : tie.Need-loop-less Inv-loop μ-loop
-loop-less c = search needs
+loop-less c = omega (arith, c .before .before .before .before .before .before .before .before .before .before .before .before .loop .inv .0, c .before .before .before .before .before .before .before .before .before .before .before .loop-test .taken, c .before .before .left-after .ensures, c .before .least .ensures, c .least2 .ensures)
 
 loop-again : tie.Need-loop-again Inv-loop μ-loop
-loop-again c = search needs
+loop-again c = (omega (arith, c .before .least .ensures), omega (arith, c .before .least .ensures), c .before .before .before .before .before .before .before .turn .kept .1 .1 .1 .1 .0 ∙ c .before .before .before .before .before .before .before .before .before .before .before .before .loop .inv .2, c .before .before .before .before .before .before .before .turn .kept .1 .1 .1 .1 .1 .1 .0 ∙ c .before .before .before .before .before .before .before .before .before .before .before .before .loop .inv .3)
 
 same-length : tie.Need-same-length Inv-loop μ-loop
-same-length c = search needs
+same-length c = c .before .loop .inv .2
 
 same-length-2 : tie.Need-same-length-2 Inv-loop μ-loop
-same-length-2 c = search needs
-
-same-length-3 : tie.Need-same-length-3 Inv-loop μ-loop
-same-length-3 c = search needs
-
-same-length-4 : tie.Need-same-length-4 Inv-loop μ-loop
-same-length-4 c = search needs
-
-same-length-5 : tie.Need-same-length-5 Inv-loop μ-loop
-same-length-5 c = search needs
+same-length-2 c = c .before .loop .inv .3
 
 returns : tie.Need-returns Inv-loop μ-loop
-returns c = search needs
+returns c = tt
 
 pub noise-section-spec : {M : Type 1} → statement M
 noise-section-spec =
@@ -59,16 +50,13 @@ noise-section-spec =
     (tie.spec
     Inv-loop
     μ-loop
-    turn-requires
     loop-holds
-    least-requires
-    turn-requires-2
+    turn-requires
     left-after-requires
+    least-requires
+    least-requires-2
     loop-less
     loop-again
     same-length
     same-length-2
-    same-length-3
-    same-length-4
-    same-length-5
     returns)

@@ -8,44 +8,48 @@ use Rattle.tape.proofs.turn.Tie as tie
 mul-size : tie.Need-mul-size
 mul-size c = search needs
 
-slice-relend-prefix-chunk : tie.Need-slice-relend-prefix-chunk
-slice-relend-prefix-chunk c = search needs
+slice-aggregate-read-short : tie.Need-slice-aggregate-read-short
+slice-aggregate-read-short c = search needs
 
-slice-aggregate-chunk : tie.Need-slice-aggregate-chunk
-slice-aggregate-chunk c = simp length-take (omega arith)
-
-chunk-requires : tie.Need-chunk-requires
-chunk-requires c κs = search needs
-
-same-length : tie.Need-same-length
-same-length c = search needs
-
-same-length-2 : tie.Need-same-length-2
-same-length-2 c = search needs
-
-same-length-3 : tie.Need-same-length-3
-same-length-3 c = search needs
-
-same-length-4 : tie.Need-same-length-4
-same-length-4 c = search needs
-
-same-length-5 : tie.Need-same-length-5
-same-length-5 c = search needs
+read-short-requires : tie.Need-read-short-requires
+read-short-requires c κs = search needs
 
 returns : tie.Need-returns
-returns c = search needs
+returns c = tt
+
+array-share-prefix-bytes : tie.Need-array-share-prefix-bytes
+array-share-prefix-bytes c = search needs
+
+slice-aggregate-feed-bytes : tie.Need-slice-aggregate-feed-bytes
+slice-aggregate-feed-bytes c = simp length-take (omega arith)
+
+slice-aggregate-feed-bytes-2 : tie.Need-slice-aggregate-feed-bytes-2
+slice-aggregate-feed-bytes-2 c = search needs
+
+feed-bytes-requires : tie.Need-feed-bytes-requires
+feed-bytes-requires c κs = tt
+
+same-length : tie.Need-same-length
+same-length c = c .before .before .before .before .before .feed-bytes .kept .1 .1 .1 .0
+
+same-length-2 : tie.Need-same-length-2
+same-length-2 c = c .before .before .before .before .before .feed-bytes .kept .1 .1 .1 .1 .1 .1 .1 .0
+
+returns-2 : tie.Need-returns-2
+returns-2 c = tt
 
 pub turn-spec : {M : Type 1} → statement M
 turn-spec =
     tie.close
     (tie.spec
     mul-size
-    slice-relend-prefix-chunk
-    slice-aggregate-chunk
-    chunk-requires
+    slice-aggregate-read-short
+    read-short-requires
+    returns
+    array-share-prefix-bytes
+    slice-aggregate-feed-bytes
+    slice-aggregate-feed-bytes-2
+    feed-bytes-requires
     same-length
     same-length-2
-    same-length-3
-    same-length-4
-    same-length-5
-    returns)
+    returns-2)

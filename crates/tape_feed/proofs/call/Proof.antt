@@ -1,60 +1,81 @@
 -- `tape_feed::call` meets its contract. Assumes nothing.
 use borrow.Author.Needs.{needs}
-use Rattle.tape_feed.proofs.Parts.{called}
+use mathlib.Core.Path.{sym}
+use native.Mathlib.Nat.{le-refl}
+use native.Mathlib.Omega.{arith}
+use lib.Dec.{lit<}
+use lib.ListN.{length-take}
+use Rattle.tape_feed.proofs.Parts.{within, part-kept, called}
 use Rattle.tape_feed.proofs.call.Statement.{statement}
 use Rattle.tape_feed.proofs.call.Tie as tie
 
+slice-aggregate-floats : tie.Need-slice-aggregate-floats
+slice-aggregate-floats c = search needs
+
+floats-requires : tie.Need-floats-requires
+floats-requires c κs = tt
+
 place-requires : tie.Need-place-requires
-place-requires c κs = search needs
+place-requires c κs = lit< tt
 
 place-requires-2 : tie.Need-place-requires-2
-place-requires-2 c κs = search needs
+place-requires-2 c κs = lit< tt
 
 sub-run : tie.Need-sub-run
-sub-run c = search needs
+sub-run c = within _ _ (c .before .before .before .place .ensures)
 
 part-run-start : tie.Need-part-run-start
-part-run-start c = search needs
+part-run-start c = within _ _ (c .before .before .before .place .ensures)
 
 part-run-end : tie.Need-part-run-end
-part-run-end c = search needs
+part-run-end c = le-refl _
+
+array-share-prefix-row : tie.Need-array-share-prefix-row
+array-share-prefix-row c = search needs
+
+slice-aggregate-run : tie.Need-slice-aggregate-run
+slice-aggregate-run c = simp length-take (omega (arith, c .before .before .before .before .before .before .before .floats .ensures .0))
 
 sub-run-2 : tie.Need-sub-run-2
-sub-run-2 c = search needs
+sub-run-2 c = within _ _ (c .before .before .before .before .before .place2 .ensures)
 
 part-run-start-2 : tie.Need-part-run-start-2
-part-run-start-2 c = search needs
+part-run-start-2 c = within _ _ (c .before .before .before .before .before .place2 .ensures)
 
 part-run-end-2 : tie.Need-part-run-end-2
-part-run-end-2 c = search needs
+part-run-end-2 c = le-refl _
 
 run-requires : tie.Need-run-requires
-run-requires c κs = search needs
+run-requires c κs = tt
 
 after-requires : tie.Need-after-requires
-after-requires c κs = search needs
+after-requires c κs = tt
 
 same-length : tie.Need-same-length
-same-length c = search needs
+same-length c = c .before .before .before .before .before .before .before .run .kept .1 .1 .1 .0
 
 same-length-2 : tie.Need-same-length-2
-same-length-2 c = search needs
+same-length-2 c = c .before .before .before .before .before .before .before .run .kept .1 .1 .1 .1 .1 .1 .0
 
 same-length-3 : tie.Need-same-length-3
-same-length-3 c = search needs
+same-length-3 c = part-kept _ _ (c .before .before .before .before .before .before .before .run .last .1 .1 .1 .1 .1 .1 .1 .0) (within _ _ (c .before .before .before .before .before .before .before .before .before .before .before .before .before .before .place2 .ensures)) (c .before .before .before .before .before .before .before .run .kept .1 .1 .1 .1 .1 .1 .1 .0)
 
 returns : tie.Need-returns
-returns c = called _ _ _ _ _ _ _ _ (search needs) (search needs) (c .before .before .before .before .before .before .before .run .ensures) (c .after .ensures)
+returns c = called _ _ _ _ _ _ _ _ _ _ (sym (slice-aggregate-floats (c .before .before .before .before .before .before .before .before .before .before .before .before .before .before .before .before .before .before))) (c .before .before .before .before .before .before .before .before .before .before .before .before .before .before .before .before .before .floats .ensures .0) (c .before .before .before .before .before .before .before .before .before .before .before .before .before .before .before .before .before .floats .ensures .1) (c .before .before .before .before .before .before .before .before .before .before .before .before .before .before .before .place .ensures) (c .before .before .before .before .before .before .before .before .before .before .before .before .before .before .place2 .ensures) (c .before .before .before .before .before .before .before .run .ensures) (c .after .ensures)
 
 pub call-spec : {M : Type 1} → statement M
 call-spec =
     tie.close
     (tie.spec
+    slice-aggregate-floats
+    floats-requires
     place-requires
     place-requires-2
     sub-run
     part-run-start
     part-run-end
+    array-share-prefix-row
+    slice-aggregate-run
     sub-run-2
     part-run-start-2
     part-run-end-2

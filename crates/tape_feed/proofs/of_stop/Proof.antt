@@ -9,7 +9,7 @@ enum-told : tie.Need-enum-told
 enum-told c = search needs
 
 left-over-requires : tie.Need-left-over-requires
-left-over-requires c κs = search needs
+left-over-requires c κs = tt
 
 enum-told-2 : tie.Need-enum-told-2
 enum-told-2 c = search needs

@@ -14,13 +14,13 @@ enum-known-answer : tie.Need-enum-known-answer
 enum-known-answer c = search needs
 
 number-requires : tie.Need-number-requires
-number-requires c κs = search needs
+number-requires c κs = tt
 
 enum-known-answer-2 : tie.Need-enum-known-answer-2
 enum-known-answer-2 c = search needs
 
 of-stop-requires : tie.Need-of-stop-requires
-of-stop-requires c κs = search needs
+of-stop-requires c κs = tt
 
 returns-2 : tie.Need-returns-2
 unfolding answerThen
