@@ -18,7 +18,8 @@ use Rattle.running.specs.Ended.{Left}
 use Rattle.running.specs.Calls.{refusalGiven, runLeft}
 use Rattle.running.specs.Handed.{Lent, runsLeft, callOf}
 use Rattle.simulation.specs.Seen.{Seen, seenLeft, countsGiven, answerGiven, seenResult}
-use Rattle.simulation.proofs.Demand3.{OpenedRuns, opened-runs}
+use Rattle.simulation.specs.OpenedRuns.{OpenedRuns}
+use Rattle.simulation.proofs.Demand3.{opened-runs}
 use Rattle.simulation.proofs.SameNumbers.{same-stops}
 use Rattle.more1090_generator.specs.declared.FlatState.{FlatState}
 use Rattle.more1090_generator.specs.States.{flatOf, stateFrom}

@@ -1,5 +1,5 @@
 -- Demand 3 of document 01 on the contracts of opening and of run calls: for every list of run calls from what opening leaves, refused ones too, each lent anything,
--- what a caller sees of each call is what `results` of that list gives, and `Demand3` holds of `results`: (a) to (e) of specs/Demand3.antt of `call_lists` (`opened-runs`). Assumes nothing.
+-- what a caller sees of each call is what `results` of that list gives, and `Demand3` holds of `results`: (a) to (e) of specs/Demand3.antt of `call_lists` (`opened-runs`; the claim is `OpenedRuns` of specs/). Assumes nothing.
 use mathlib.Core.Path.{_≡_, refl, ap, _∙_}
 use mathlib.Core.List.{List, [], _∷_, map}
 use Prim.Native.Nat.{ℕ}
@@ -8,25 +8,19 @@ use lib.Ieee.{Float, nan}
 use Rattle.constants.specs.Rate.{four}
 use Rattle.draw_times.specs.FloatGenerator.{nought}
 use Rattle.call_lists.specs.PlainBench as Bench
-use Rattle.call_lists.specs.Demand3 as Claim
 use Rattle.call_lists.specs.Machine as Machine
 use Rattle.generator.proofs.RealDemand3.{real-demand3}
 use Rattle.pulse_shape.specs.Prototype.{modeSPrototype, modeACPrototype}
 use Rattle.pulse_shape.proofs.Whole.{length-prototype}
 use Rattle.running.specs.declared.State.{State}
 use Rattle.running.specs.Turns.{filtersOf, genOf}
-use Rattle.running.specs.Handed.{machineOf, ranGiven, leftGiven, Lent, runsLeft, callOf, runsGiven}
+use Rattle.running.specs.Handed.{machineOf, ranGiven, leftGiven, Lent, callOf, runsGiven}
 use Rattle.running.proofs.RunsAreTheTheorys.{runs-are}
 use Rattle.opening.specs.declared.Opened as Opened
 use Rattle.opening.specs.Opening as Opening
 use Rattle.opening.proofs.WhatIsOpened.{opened-run-in-range, opened-first}
 use Rattle.simulation.specs.Seen.{seenLeft, countsGiven, answerGiven, seenResult}
-
--- s is a state, the prototypes and working memory what opening left beside it
-pub record OpenedRuns (s : State) (modeS modeAC memory : List Float) : Type 0 where
-  pub results : List (Bench.Call (genOf s modeS modeAC)) → List (Bench.Result (genOf s modeS modeAC))
-  pub seen : (ls : List Lent) → map seenLeft (runsLeft s modeS modeAC memory ls) ≡ map (seenResult s modeS modeAC) (results (map (callOf s modeS modeAC) ls))
-  pub demand3 : Claim.Demand3 (genOf s modeS modeAC) results
+use Rattle.simulation.specs.OpenedRuns.{OpenedRuns}
 
 module _ (s : State) (modeS modeAC : List Float) where
   -- a call of the theory, as the code answers it, is seen as its result
