@@ -220,6 +220,6 @@ pub fn open(
     let proto_s = p.mode_s;
     let proto_ac = p.mode_ac;
     let wanted = is_run(answer);
-    filling::fill(wanted, &proto_s, &proto_ac, mode_s, mode_ac, memory);
+    filling::fill(wanted, proto_s, proto_ac, mode_s, mode_ac, memory);
     answer
 }

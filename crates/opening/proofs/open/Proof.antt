@@ -11,12 +11,6 @@ prepare-requires c κs = search needs
 is-run-requires : tie.Need-is-run-requires
 is-run-requires c κs = search needs
 
-slice-aggregate-fill : tie.Need-slice-aggregate-fill
-slice-aggregate-fill c = search needs
-
-slice-aggregate-fill-2 : tie.Need-slice-aggregate-fill-2
-slice-aggregate-fill-2 c = search needs
-
 fill-requires : tie.Need-fill-requires
 fill-requires c κs = search needs
 
@@ -31,9 +25,9 @@ same-length-3 c = search needs
 
 returns : tie.Need-returns
 returns c =
-    let a = c .before .before .before .before .before .before .before .before .before .before .before .before .before .before .before .before .before .before .before .before .before .args in
+    let a = c .before .before .before .before .before .before .before .before .before .before .before .before .before .before .before .before .before .before .before .args in
     let f = c .before .before .before .before .before .before .fill .ensures in
-    opened-left half (a .taps-s .now) (a .taps-ac .now) (a .settings .now) (record { modeS = a .mode-s .now; modeAC = a .mode-ac .now; memory = a .memory .now }) (c .before .before .before .before .before .before .before .before .before .before .before .before .before .before .before .prepare .ensures) (c .before .before .before .before .before .before .before .before .before .before .before .before .is-run .ensures) (f .0) (f .1) (f .2)
+    opened-left half (a .taps-s .now) (a .taps-ac .now) (a .settings .now) (record { modeS = a .mode-s .now; modeAC = a .mode-ac .now; memory = a .memory .now }) (c .before .before .before .before .before .before .before .before .before .before .before .before .before .prepare .ensures) (c .before .before .before .before .before .before .before .before .before .before .is-run .ensures) (f .0) (f .1) (f .2)
 
 pub open-spec : {M : Type 1} → statement M
-open-spec = tie.close (tie.spec prepare-requires is-run-requires slice-aggregate-fill slice-aggregate-fill-2 fill-requires same-length same-length-2 same-length-3 returns)
+open-spec = tie.close (tie.spec prepare-requires is-run-requires fill-requires same-length same-length-2 same-length-3 returns)
