@@ -1,9 +1,9 @@
--- `open` meets its contract. Assumes nothing.
+-- `run_opening::open` meets its contract. Assumes nothing.
 use Rattle.opening.specs.Opening.{half}
 use Rattle.opening.proofs.Decided.{opened-left}
 use borrow.Author.Needs.{needs}
-use Rattle.opening.proofs.open.Statement.{statement}
-use Rattle.opening.proofs.open.Tie as tie
+use Rattle.run_opening.proofs.open.Statement.{statement}
+use Rattle.run_opening.proofs.open.Tie as tie
 
 prepare-requires : tie.Need-prepare-requires
 prepare-requires c κs = search needs
