@@ -37,18 +37,18 @@ fn clear(memory: &mut [f32])
 // Where it is wanted, writes the two lists over the prototypes and sets working memory to 0.0.
 pub fn fill(
     wanted: bool,
-    proto_s: &[f32],
-    proto_ac: &[f32],
+    proto_s: [f32; 1792],
+    proto_ac: [f32; 1792],
     mode_s: &mut [f32],
     mode_ac: &mut [f32],
     memory: &mut [f32],
 )
-    ensures { λ _. ⌜ (now («mode_s» .exit) ≡ cond wanted (over (now («proto_s» .entry)) (now («mode_s» .entry))) (now («mode_s» .entry))) × (now («mode_ac» .exit) ≡ cond wanted (over (now («proto_ac» .entry)) (now («mode_ac» .entry))) (now («mode_ac» .entry))) × (now (memory .exit) ≡ cond wanted (zeros (length (now (memory .entry)))) (now (memory .entry))) ⌝ }
+    ensures { λ _. ⌜ (now («mode_s» .exit) ≡ cond wanted (over «proto_s» (now («mode_s» .entry))) (now («mode_s» .entry))) × (now («mode_ac» .exit) ≡ cond wanted (over «proto_ac» (now («mode_ac» .entry))) (now («mode_ac» .entry))) × (now (memory .exit) ≡ cond wanted (zeros (length (now (memory .entry)))) (now (memory .entry))) ⌝ }
 {
     if !wanted {
         return;
     }
-    copy(proto_s, mode_s);
-    copy(proto_ac, mode_ac);
+    copy(&proto_s, mode_s);
+    copy(&proto_ac, mode_ac);
     clear(memory);
 }

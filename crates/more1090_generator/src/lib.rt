@@ -423,7 +423,7 @@ pub extern "C" fn more1090_open(
 ) -> FlatOpened
     ensures { λ r. ⌜ (r ≡ openedFlat (openedOf four half (now («taps_s» .entry)) (now («taps_ac» .entry)) (now (settings .entry)) (record { modeS = now («mode_s» .entry); modeAC = now («mode_ac» .entry); memory = now (memory .entry) }))) × (record { modeS = now («mode_s» .exit); modeAC = now («mode_ac» .exit); memory = now (memory .exit) } ≡ leftBy four (now («taps_s» .entry)) (now («taps_ac» .entry)) (openedOf four half (now («taps_s» .entry)) (now («taps_ac» .entry)) (now (settings .entry)) (record { modeS = now («mode_s» .entry); modeAC = now («mode_ac» .entry); memory = now (memory .entry) })) (record { modeS = now («mode_s» .entry); modeAC = now («mode_ac» .entry); memory = now (memory .entry) })) ⌝ }
 {
-    let o = opening::open(settings, taps_s, taps_ac, mode_s, mode_ac, memory);
+    let o = run_opening::open(settings, taps_s, taps_ac, mode_s, mode_ac, memory);
     opened_out(o)
 }
 

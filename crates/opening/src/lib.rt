@@ -1,8 +1,8 @@
-// Opening a run: refusal 9 for what is lent, refusals 1 to 6, and, accepted, the prototypes, the working memory and the state. Assumes nothing.
+// What opening a run answers: refusal 9 for what is lent, refusals 1 to 6, or the first state; and the prototypes. It writes nothing: `run_opening` does. Assumes nothing.
 ghost use mathlib.Core.Path.{_≡_};
 ghost use Rattle.constants.specs.Rate.{four};
 ghost use Rattle.pulse_shape.specs.Prototype.{modeSPrototype, modeACPrototype};
-ghost use Rattle.opening.specs.Opening.{half, lentFits, modeSDelay, modeACDelay, firstState, delaysThen, tapsOf, openedFor, openedOf, preparedOf, isRun, leftBy};
+ghost use Rattle.opening.specs.Opening.{half, lentFits, modeSDelay, modeACDelay, firstState, delaysThen, tapsOf, openedFor, preparedOf};
 use message_config::Delays;
 use pulse_shape::Crossing;
 use refusals::Refusal;
@@ -104,15 +104,6 @@ fn decide(
     Opened::Run(state)
 }
 
-fn is_run(answer: Opened) -> bool
-    ensures { λ r. ⌜ r ≡ isRun answer ⌝ }
-{
-    match answer {
-        Opened::Run(state) => true,
-        Opened::Refused(refusal) => false,
-    }
-}
-
 // Refusal 5, then 6.
 fn check_taps(
     rates: MessagesPerSecond,
@@ -195,31 +186,4 @@ pub fn prepare(
         mode_s: proto_s,
         mode_ac: proto_ac,
     }
-}
-
-// Opens a run, as document 01 has it.
-pub fn open(
-    settings: &[u8; 119],
-    taps_s: &[f32],
-    taps_ac: &[f32],
-    mode_s: &mut [f32],
-    mode_ac: &mut [f32],
-    memory: &mut [f32],
-) -> Opened
-    ensures { λ r. ⌜ (r ≡ openedOf four half (now («taps_s» .entry)) (now («taps_ac» .entry)) (now (settings .entry)) (record { modeS = now («mode_s» .entry); modeAC = now («mode_ac» .entry); memory = now (memory .entry) })) × (record { modeS = now («mode_s» .exit); modeAC = now («mode_ac» .exit); memory = now (memory .exit) } ≡ leftBy four (now («taps_s» .entry)) (now («taps_ac» .entry)) r (record { modeS = now («mode_s» .entry); modeAC = now («mode_ac» .entry); memory = now (memory .entry) })) ⌝ }
-{
-    let p = prepare(
-        settings,
-        taps_s,
-        taps_ac,
-        mode_s.len(),
-        mode_ac.len(),
-        memory.len(),
-    );
-    let answer = p.opened;
-    let proto_s = p.mode_s;
-    let proto_ac = p.mode_ac;
-    let wanted = is_run(answer);
-    filling::fill(wanted, &proto_s, &proto_ac, mode_s, mode_ac, memory);
-    answer
 }

@@ -153,6 +153,6 @@ pub fn head(tape: &[u8], mode_s: &mut [f32], mode_ac: &mut [f32], memory: &mut [
     let proto_ac = p.mode_ac;
     let answer = opened_then(opened, tape);
     let wanted = is_begun(answer);
-    filling::fill(wanted, &proto_s, &proto_ac, mode_s, mode_ac, memory);
+    filling::fill(wanted, proto_s, proto_ac, mode_s, mode_ac, memory);
     answer
 }

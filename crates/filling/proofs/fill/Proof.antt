@@ -17,12 +17,18 @@ chosen wanted b x filled lent e h = h ∙ ap (λ (c : Bool). cond c filled lent)
 
 returns : tie.Need-returns
 returns c =
-    let a = c .before .before .before .before .before .before .args in
+    let a = c .before .before .before .before .args in
     let e = not-true (a .wanted) (c .if1 .taken) in
-    (chosen (a .wanted) false _ (over (a .proto-s .now) (a .mode-s .now)) _ e refl, chosen (a .wanted) false _ (over (a .proto-ac .now) (a .mode-ac .now)) _ e refl, chosen (a .wanted) false _ (zeros (length (a .memory .now))) _ e refl)
+    (chosen (a .wanted) false _ (over (a .t2) (a .mode-s .now)) _ e refl, chosen (a .wanted) false _ (over (a .t3) (a .mode-ac .now)) _ e refl, chosen (a .wanted) false _ (zeros (length (a .memory .now))) _ e refl)
+
+slice-aggregate-copy : tie.Need-slice-aggregate-copy
+slice-aggregate-copy c = search needs
 
 copy-requires : tie.Need-copy-requires
 copy-requires c κs = search needs
+
+slice-aggregate-copy-2 : tie.Need-slice-aggregate-copy-2
+slice-aggregate-copy-2 c = search needs
 
 copy-requires-2 : tie.Need-copy-requires-2
 copy-requires-2 c κs = search needs
@@ -42,18 +48,8 @@ same-length-3 c = search needs
 returns-2 : tie.Need-returns-2
 returns-2 c =
     let a = c .before .before .before .before .before .before .before .before .before .before .before .before .before .before .before .before .before .before .args in
-    let e = not-false (a .wanted) (c .before .before .before .before .before .before .before .before .before .before .before .before .if1 .left) in
-    (chosen (a .wanted) true _ _ (a .mode-s .now) e (c .before .before .before .before .before .before .before .before .before .before .copy .ensures), chosen (a .wanted) true _ _ (a .mode-ac .now) e (c .before .before .before .before .before .before .copy2 .ensures), chosen (a .wanted) true _ _ (a .memory .now) e (c .before .before .clear .ensures))
+    let e = not-false (a .wanted) (c .before .before .before .before .before .before .before .before .before .before .before .before .before .before .if1 .left) in
+    (chosen (a .wanted) true _ _ (a .mode-s .now) e (c .before .before .before .before .before .before .before .before .before .before .before .copy .ensures), chosen (a .wanted) true _ _ (a .mode-ac .now) e (c .before .before .before .before .before .before .copy2 .ensures), chosen (a .wanted) true _ _ (a .memory .now) e (c .before .before .clear .ensures))
 
 pub fill-spec : {M : Type 1} → statement M
-fill-spec =
-    tie.close
-    (tie.spec
-    returns
-    copy-requires
-    copy-requires-2
-    clear-requires
-    same-length
-    same-length-2
-    same-length-3
-    returns-2)
+fill-spec = tie.close (tie.spec returns slice-aggregate-copy copy-requires slice-aggregate-copy-2 copy-requires-2 clear-requires same-length same-length-2 same-length-3 returns-2)

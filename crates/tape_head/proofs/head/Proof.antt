@@ -25,12 +25,6 @@ opened-then-requires c κs = search needs
 is-begun-requires : tie.Need-is-begun-requires
 is-begun-requires c κs = search needs
 
-slice-aggregate-fill : tie.Need-slice-aggregate-fill
-slice-aggregate-fill c = search needs
-
-slice-aggregate-fill-2 : tie.Need-slice-aggregate-fill-2
-slice-aggregate-fill-2 c = search needs
-
 fill-requires : tie.Need-fill-requires
 fill-requires c κs = search needs
 
@@ -45,9 +39,9 @@ same-length-3 c = search needs
 
 returns-2 : tie.Need-returns-2
 returns-2 c =
-    let a = c .before .before .before .before .before .before .before .before .before .before .before .before .before .before .before .before .before .before .before .before .before .before .before .before .args in
+    let a = c .before .before .before .before .before .before .before .before .before .before .before .before .before .before .before .before .before .before .before .before .before .before .args in
     let f = c .before .before .before .before .before .before .fill .ensures in
-    head-given (a .tape .now) (record { modeS = a .mode-s .now; modeAC = a .mode-ac .now; memory = a .memory .now }) (c .before .before .before .before .before .before .before .before .before .before .before .before .before .before .before .before .before .before .before .before-taps .ensures) (c .before .before .before .before .before .before .before .before .before .before .before .before .before .before .before .before .before .enum-told .given .1) (c .before .before .before .before .before .before .before .before .before .before .before .before .before .before .before .before .prepared .ensures) (c .before .before .before .before .before .before .before .before .before .before .before .before .before .opened-then .ensures) (c .before .before .before .before .before .before .before .before .before .before .before .before .is-begun .ensures) (f .0) (f .1) (f .2)
+    head-given (a .tape .now) (record { modeS = a .mode-s .now; modeAC = a .mode-ac .now; memory = a .memory .now }) (c .before .before .before .before .before .before .before .before .before .before .before .before .before .before .before .before .before .before-taps .ensures) (c .before .before .before .before .before .before .before .before .before .before .before .before .before .before .before .enum-told .given .1) (c .before .before .before .before .before .before .before .before .before .before .before .before .before .before .prepared .ensures) (c .before .before .before .before .before .before .before .before .before .before .before .opened-then .ensures) (c .before .before .before .before .before .before .before .before .before .before .is-begun .ensures) (f .0) (f .1) (f .2)
 
 pub head-spec : {M : Type 1} → statement M
-head-spec = tie.close (tie.spec before-taps-requires enum-known-number returns enum-told prepared-requires opened-then-requires is-begun-requires slice-aggregate-fill slice-aggregate-fill-2 fill-requires same-length same-length-2 same-length-3 returns-2)
+head-spec = tie.close (tie.spec before-taps-requires enum-known-number returns enum-told prepared-requires opened-then-requires is-begun-requires fill-requires same-length same-length-2 same-length-3 returns-2)

@@ -1,8 +1,8 @@
--- `is_run` meets its contract. Assumes nothing.
+-- `run_opening::is_run` meets its contract. Assumes nothing.
 use Rattle.opening.proofs.Decided.{a-run, a-refusal}
 use borrow.Author.Needs.{needs}
-use Rattle.opening.proofs.is_run.Statement.{statement}
-use Rattle.opening.proofs.is_run.Tie as tie
+use Rattle.run_opening.proofs.is_run.Statement.{statement}
+use Rattle.run_opening.proofs.is_run.Tie as tie
 
 enum-known-answer : tie.Need-enum-known-answer
 enum-known-answer c = search needs
