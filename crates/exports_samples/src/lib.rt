@@ -70,5 +70,5 @@ pub extern "C" fn port_add_reply(
         mode_s: delay_s,
         mode_ac: delay_ac,
     };
-    reply_samples::add_reply(mode_s, mode_ac, c, amplitude, delays, memory, place)
+    reply_adding::add_reply(mode_s, mode_ac, c, amplitude, delays, memory, place)
 }

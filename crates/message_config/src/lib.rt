@@ -2,8 +2,7 @@
 // Each function is equal to a definition of specs/ on every input. Assumes nothing.
 ghost use mathlib.Core.Path.{_≡_};
 ghost use Rattle.constants.specs.Rate.{four};
-ghost use Rattle.message_config.specs.Timing.{delayOf, unroundedStart, startOf, filterClockError, clockPhase};
-ghost use Rattle.message_config.specs.Carrier.{carrierRate, firstPhase};
+ghost use Rattle.message_config.specs.Timing.{delayOf, unroundedStart, startOf, filterClockError};
 ghost use Rattle.message_config.specs.Config.{configStart, configClockPhase, configClockError, configRate, configPhase};
 use message::Reply;
 use message::ReplyKind;
@@ -60,29 +59,8 @@ pub fn filter_clock_error(kind: ReplyKind, e: f64) -> f64
     }
 }
 
-// The clock's phase at the first sample, in samples.
-fn clock_phase(time: f64, delay: f64, e: f64, filter_error: f64) -> f64
-    ensures { λ r. ⌜ r ≡ clockPhase time delay e «filter_error» ⌝ }
-{
-    let first = std::num::nearest_i64_to_f64(start(time, delay, e));
-    (first - unrounded_start(time, delay, e)) * (1.0 + filter_error)
-}
-
-// What the carrier turns by in a sample.
-fn carrier_rate(offset: f64) -> f64
-    ensures { λ r. ⌜ r ≡ carrierRate four offset ⌝ }
-{
-    6.283185307179586 * offset / 8000000.0
-}
-
-// The carrier's phase at the first sample.
-fn first_phase(phase: f64, time: f64, first: i64, rate: f64) -> f64
-    ensures { λ r. ⌜ r ≡ firstPhase phase time first rate ⌝ }
-{
-    math::phase_wrap_f64(phase - (time - std::num::nearest_i64_to_f64(first)) * rate)
-}
-
 impl MessageConfig {
+    // The first sample.
     pub fn first_sample_index(self, delays: Delays) -> i64
         ensures { λ r. ⌜ r ≡ configStart delays self ⌝ }
     {
@@ -100,31 +78,29 @@ impl MessageConfig {
         filter_clock_error(kind, e)
     }
 
+    // The clock's phase at the first sample, in samples.
     pub fn clock_phase(self, delays: Delays) -> f64
         ensures { λ r. ⌜ r ≡ configClockPhase delays self ⌝ }
     {
         let reply = self.reply;
         let kind = reply.kind;
-        clock_phase(
-            self.time,
-            group_delay(delays, kind),
-            self.error,
-            filter_clock_error(kind, self.error),
-        )
+        let unrounded = unrounded_start(self.time, group_delay(delays, kind), self.error);
+        let first = std::num::nearest_i64_to_f64(self.first_sample_index(delays));
+        (first - unrounded) * (1.0 + self.clock_error_for_filterbank())
     }
 
+    // What the carrier turns by in a sample.
     pub fn carrier_rate(self) -> f64
         ensures { λ r. ⌜ r ≡ configRate four self ⌝ }
     {
-        carrier_rate(self.offset)
+        6.283185307179586 * self.offset / 8000000.0
     }
 
+    // The carrier's phase at the first sample.
     pub fn first_phase(self, delays: Delays) -> f64
         ensures { λ r. ⌜ r ≡ configPhase four delays self ⌝ }
     {
-        let reply = self.reply;
-        let kind = reply.kind;
-        let first = start(self.time, group_delay(delays, kind), self.error);
-        first_phase(self.phase, self.time, first, carrier_rate(self.offset))
+        let first = std::num::nearest_i64_to_f64(self.first_sample_index(delays));
+        math::phase_wrap_f64(self.phase - (self.time - first) * self.carrier_rate())
     }
 }

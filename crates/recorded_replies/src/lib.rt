@@ -31,7 +31,7 @@ pub fn add(
 {
     let d = draw::read(rest);
     let c = draw_config::config(all, time, d);
-    let count = reply_samples::add_reply(
+    let count = reply_adding::add_reply(
         mode_s,
         mode_ac,
         c,

@@ -16,11 +16,11 @@ use Rattle.message_config.specs.Config.{configClockPhase, configClockError, con
 use Rattle.pulses.specs.ModeAC.{modeACLength}
 use Rattle.filterbank.specs.Apply.{limitOf, applyFilterbank}
 use Rattle.filterbank.proofs.EndsByItself.{InRange, ends-within, values-counted}
-use Rattle.reply_samples.specs.ReplyPulses.{spiOf, placesOf}
+use Rattle.reply_pulses.specs.ReplyPulses.{spiOf, placesOf}
 use Rattle.reply_samples.specs.Samples.{turned, samplesBy, prototypeOf, replySamples, replyCount}
-use Rattle.reply_samples.proofs.Places.{places-most, places-short, places-mode-ac}
+use Rattle.reply_pulses.proofs.Places.{places-most, places-short, places-mode-ac}
 
-turned-length : (amplitude rate phase : Float) (vs : List Float) → length (turned amplitude rate phase vs) ≡ length vs
+pub turned-length : (amplitude rate phase : Float) (vs : List Float) → length (turned amplitude rate phase vs) ≡ length vs
 unfolding turned
 turned-length amplitude rate phase [] = refl
 turned-length amplitude rate phase (v ∷ vs) = ap suc (turned-length amplitude rate (phaseWrapOnce (add binary64 phase rate)) vs)

@@ -1,4 +1,2 @@
-pub mod ReplyPulses
 pub mod Samples
 pub mod Added
-pub mod Mirror

@@ -13,7 +13,7 @@ use Rattle.message_config.specs.declared.MessageConfig.{MessageConfig}
 use Rattle.message_config.specs.Config.{configClockPhase, configClockError, configRate, configPhase}
 use Rattle.filterbank.specs.Apply.{applyFilterbank, sampleCount}
 use Rattle.reply_samples.specs.declared.Sample.{Sample}
-use Rattle.reply_samples.specs.ReplyPulses.{placesOf}
+use Rattle.reply_pulses.specs.ReplyPulses.{placesOf}
 
 -- a value of the filterbank times the amplitude, and that times the cosine and the sine of a phase, each narrowed to f32
 unfoldable pub sampleAt : Float → Float → Float → Sample

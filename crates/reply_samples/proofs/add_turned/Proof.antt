@@ -1,80 +1,35 @@
--- `add_turned` meets its contract. The invariant: what is added from here on comes to the whole. Assumes nothing.
+-- `add_turned` meets its contract. Assumes nothing.
 use borrow.Author.Needs.{needs}
-use native.Mathlib.Omega.{arith}
-use Prim.Native.Nat.{_≤_, _<_, _-_}
-use mathlib.Core.Path.{_≡_, refl, _∙_, sym}
-use lib.ListN.{length, take}
-use lib.Seq.{getD-take, length-take-le}
-use lib.Ieee.{nan}
-use Rattle.constants.specs.Rate.{four}
-use Rattle.reply_samples.specs.Samples.{turned}
-use Rattle.reply_samples.specs.Added.{addedFrom}
-use Rattle.reply_samples.proofs.Turns.{addedRest, turn-next, turn-end}
+use mathlib.Core.Path.{_≡_}
+use lib.ListN.{length}
+use Rattle.reply_samples.proofs.Turns.{other-length, other-place, kept, none, added-here, counted-here}
 use Rattle.reply_samples.proofs.add_turned.Statement.{statement}
 use Rattle.reply_samples.proofs.add_turned.Tie as tie
 
-abbrev Inv-loop : tie.InvT-loop
-Inv-loop values count w memory₀ place phase₀ at₀ i₀ memory phase at i =
-    (i ≤ count)
-    × (length memory ≡ 2252)
-    × (at < 1126)
-    × (addedRest (w .amplitude) (w .rate) (take count values) i memory at phase ≡ addedFrom four memory₀ place (turned (w .amplitude) (w .rate) (w .phase) (take count values)))
+returns : tie.Need-returns
+returns c =
+    let a = c .before .before .before .args in
+    let no = other-length (a .memory .now) (a .place) (c .if1 .taken) in
+    (kept (a .memory .now) (a .place) _ no, none (a .memory .now) (a .place) _ no, search needs)
 
-abbrev μ-loop : tie.MeasureT-loop
-μ-loop values count w memory₀ place phase₀ at₀ i₀ memory phase at i = count - i
+returns-2 : tie.Need-returns-2
+returns-2 c =
+    let a = c .before .before .before .before .args in
+    let no = other-place (a .memory .now) (a .place) (c .before .if1 .left) (c .if2 .taken) in
+    (kept (a .memory .now) (a .place) _ no, none (a .memory .now) (a .place) _ no, search needs)
 
-loop-holds : tie.Need-loop-holds Inv-loop μ-loop
-loop-holds c = (search needs, search needs, search needs, refl)
+add-from-requires : tie.Need-add-from-requires
+add-from-requires c κs = search needs
 
-phase-wrap-once-f64-requires : tie.Need-phase-wrap-once-f64-requires Inv-loop μ-loop
-phase-wrap-once-f64-requires c κs = search needs
-
-mul-sample-at : tie.Need-mul-sample-at Inv-loop μ-loop
-mul-sample-at c = search needs
-
-shared-slice-read-sample-at : tie.Need-shared-slice-read-sample-at Inv-loop μ-loop
-shared-slice-read-sample-at c = search needs
-
-sample-at-requires : tie.Need-sample-at-requires Inv-loop μ-loop
-sample-at-requires c κs = search needs
-
-add-at-requires : tie.Need-add-at-requires Inv-loop μ-loop
-add-at-requires c κs = search needs
-
-next-place-requires : tie.Need-next-place-requires Inv-loop μ-loop
-next-place-requires c κs = search needs
-
-add-i : tie.Need-add-i Inv-loop μ-loop
-add-i c = search needs
-
-loop-less : tie.Need-loop-less Inv-loop μ-loop
-loop-less c = search needs
-
-loop-again : tie.Need-loop-again Inv-loop μ-loop
-loop-again c =
-    let t = c .before .before .before .before .before .before .before .before .before in
-    let l = t .before .loop in
-    let a = t .before .before .before .before .args in
-    let w = a .w in
-    let n = a .count in
-    let vs = a .values .now in
-    let s = c .before .before .before in
-    let e = length-take-le n vs (search needs) in (
-      search needs,
-      s .add-at .ensures .1,
-      c .next-place .ensures .1,
-      turn-next (w .amplitude) (w .rate) (take n vs) (l .i) (l .memory) _ (l .at) _ (l .phase) _ _ _ _ (omega (arith, e, t .loop-test .taken)) (sym (getD-take n vs (l .i) nan (t .loop-test .taken))) (s .before .before .sample-at .ensures) (s .add-at .ensures .0) (c .before .before .before .before .before .before .before .phase-wrap-once-f64 .ensures) (c .next-place .ensures .0) (l .inv .3),
-    )
-
-same-length : tie.Need-same-length Inv-loop μ-loop
+same-length : tie.Need-same-length
 same-length c = search needs
 
-returns : tie.Need-returns Inv-loop μ-loop
-returns c =
-    let l = c .before .loop in
-    let a = c .before .before .before .before .args in
-    let e = length-take-le (a .count) (a .values .now) (search needs) in
-    turn-end (a .w .amplitude) (a .w .rate) (take (a .count) (a .values .now)) (l .i) (l .memory) (l .at) (l .phase) _ (omega (arith, e, c .loop-test .left)) (l .inv .3)
+returns-3 : tie.Need-returns-3
+returns-3 c =
+    let t = c .before .before .before .before in
+    let a = t .before .before .before .before .args in
+    let l = t .before .if1 .left in
+    (added-here (a .memory .now) _ (a .place) _ l (t .if2 .left) (c .before .before .add-from .ensures), counted-here (a .memory .now) (a .place) _ l (t .if2 .left), search needs)
 
 pub add-turned-spec : {M : Type 1} → statement M
-add-turned-spec = tie.close (tie.spec Inv-loop μ-loop loop-holds phase-wrap-once-f64-requires mul-sample-at shared-slice-read-sample-at sample-at-requires add-at-requires next-place-requires add-i loop-less loop-again same-length returns)
+add-turned-spec = tie.close (tie.spec returns returns-2 add-from-requires same-length returns-3)

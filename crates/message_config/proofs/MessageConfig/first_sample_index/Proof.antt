@@ -1,10 +1,8 @@
 -- `message_config::MessageConfig::first_sample_index` meets its contract. Assumes nothing.
 use borrow.Author.Needs.{needs}
-use mathlib.Core.Path.{ap, _∙_}
-use lib.Ieee.{Float}
+use mathlib.Core.Path.{_∙_}
 use mir.Facts.{toZ-ofZ}
-use Rattle.message_config.specs.Timing.{startOf}
-use Rattle.message_config.specs.Config.{configStart}
+use Rattle.message_config.proofs.Joined.{start-is}
 use Rattle.message_config.proofs.MessageConfig.first_sample_index.Statement.{statement}
 use Rattle.message_config.proofs.MessageConfig.first_sample_index.Tie as tie
 
@@ -15,8 +13,9 @@ start-requires : tie.Need-start-requires
 start-requires c κs = search needs
 
 returns : tie.Need-returns
-unfolding configStart
-returns c = toZ-ofZ (record { sfits = c .start .ok }) ∙ c .start .ensures ∙ simp (c .before .group-delay .ensures)
+returns c =
+    let a = c .before .before .before .args in
+    start-is (a .delays) (a .self) _ _ (c .before .group-delay .ensures) (toZ-ofZ (record { sfits = c .start .ok }) ∙ c .start .ensures)
 
 pub first-sample-index-spec : {M : Type 1} → statement M
 first-sample-index-spec = tie.close (tie.spec group-delay-requires start-requires returns)

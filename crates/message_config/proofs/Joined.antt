@@ -1,0 +1,71 @@
+-- What each function gives, from its arm or from what its calls give. Assumes nothing.
+use mathlib.Core.Path.{_≡_, sym, ap, _∙_}
+use lib.IntN.{ℤ}
+use lib.Ieee.{Float, binary64, ofBits, ofInt, add, sub, mul, div}
+use Rattle.constants.specs.Rate.{four}
+use Rattle.math.specs.Phase.{phaseWrap}
+use Rattle.math.proofs.Literals.{twoPi-is}
+use Rattle.message.specs.declared.ReplyKind.{ReplyKind}
+use Rattle.message.specs.declared.ReplyKind.the-variants.{Short, Long, ModeAc}
+use Rattle.message_config.specs.declared.Delays.{Delays}
+use Rattle.message_config.specs.declared.MessageConfig.{MessageConfig}
+use Rattle.message_config.specs.Timing.{delayOf, unroundedStart, startOf, filterClockError, clockPhase}
+use Rattle.message_config.specs.Carrier.{carrierRate, firstPhase}
+use Rattle.message_config.specs.Config.{configDelay, configStart, configClockError, configClockPhase, configRate, configPhase}
+use Rattle.message_config.proofs.Literals.{one-is, modeACRatio-is, sampleRate-is}
+
+abbrev oneBits : Float
+oneBits = ofBits binary64 0x3ff0_0000_0000_0000
+
+-- ---- by kind
+pub delay-short : (d : Delays) (k : ReplyKind) → k ≡ Short → d .«mode_s» ≡ delayOf d k
+unfolding delayOf
+delay-short d k e = sym (ap (delayOf d) e)
+
+pub delay-long : (d : Delays) (k : ReplyKind) → k ≡ Long → d .«mode_s» ≡ delayOf d k
+unfolding delayOf
+delay-long d k e = sym (ap (delayOf d) e)
+
+pub delay-mode-ac : (d : Delays) (k : ReplyKind) → k ≡ ModeAc → d .«mode_ac» ≡ delayOf d k
+unfolding delayOf
+delay-mode-ac d k e = sym (ap (delayOf d) e)
+
+pub error-short : (k : ReplyKind) (e : Float) → k ≡ Short → e ≡ filterClockError k e
+unfolding filterClockError
+error-short k e h = sym (ap (λ (j : ReplyKind). filterClockError j e) h)
+
+pub error-long : (k : ReplyKind) (e : Float) → k ≡ Long → e ≡ filterClockError k e
+unfolding filterClockError
+error-long k e h = sym (ap (λ (j : ReplyKind). filterClockError j e) h)
+
+pub error-mode-ac : (k : ReplyKind) (e : Float) → k ≡ ModeAc → sub binary64 (mul binary64 (ofBits binary64 0x3ff0_8d3d_cb08_d3dd) (add binary64 oneBits e)) oneBits ≡ filterClockError k e
+unfolding filterClockError
+error-mode-ac k e h =
+    (λ i. sub binary64 (mul binary64 (sym modeACRatio-is i) (add binary64 (sym one-is i) e)) (sym one-is i))
+    ∙ sym (ap (λ (j : ReplyKind). filterClockError j e) h)
+
+-- ---- the start
+pub unrounded-is : (time delay e : Float) → sub binary64 time (div binary64 delay (add binary64 oneBits e)) ≡ unroundedStart time delay e
+unfolding unroundedStart
+unrounded-is time delay e = ap (λ (x : Float). sub binary64 time (div binary64 delay (add binary64 x e))) (sym one-is)
+
+pub start-is : (delays : Delays) (c : MessageConfig) (z : ℤ) (delay : Float) → delay ≡ configDelay delays c → z ≡ startOf (c .time) delay (c .error) → z ≡ configStart delays c
+unfolding configStart
+start-is delays c z delay ed ez = ez ∙ ap (λ (x : Float). startOf (c .time) x (c .error)) ed
+
+-- ---- the clock and the carrier
+pub clock-is : (delays : Delays) (c : MessageConfig) (z : ℤ) (delay unrounded first error : Float) → delay ≡ configDelay delays c → unrounded ≡ unroundedStart (c .time) delay (c .error) → z ≡ configStart delays c → first ≡ ofInt binary64 z → error ≡ configClockError c
+    → mul binary64 (sub binary64 first unrounded) (add binary64 oneBits error) ≡ configClockPhase delays c
+unfolding configClockPhase clockPhase configStart
+clock-is delays c z delay unrounded first error ed eu ez ef ee =
+    λ i. mul binary64 (sub binary64 ((ef ∙ ap (ofInt binary64) ez) i) ((eu ∙ ap (λ (x : Float). unroundedStart (c .time) x (c .error)) ed) i)) (add binary64 (sym one-is i) (ee i))
+
+pub rate-is : (c : MessageConfig) → div binary64 (mul binary64 (ofBits binary64 0x4019_21fb_5444_2d18) (c .offset)) (ofBits binary64 0x415e_8480_0000_0000) ≡ configRate four c
+unfolding configRate carrierRate
+rate-is c = λ i. div binary64 (mul binary64 (sym twoPi-is i) (c .offset)) (sym sampleRate-is i)
+
+pub phase-is : (delays : Delays) (c : MessageConfig) (z : ℤ) (first rate r : Float) → z ≡ configStart delays c → first ≡ ofInt binary64 z → rate ≡ configRate four c → r ≡ phaseWrap (sub binary64 (c .phase) (mul binary64 (sub binary64 (c .time) first) rate))
+    → r ≡ configPhase four delays c
+unfolding configPhase firstPhase
+phase-is delays c z first rate r ez ef er e =
+    e ∙ (λ i. phaseWrap (sub binary64 (c .phase) (mul binary64 (sub binary64 (c .time) ((ef ∙ ap (ofInt binary64) ez) i)) (er i))))
