@@ -1,5 +1,4 @@
 pub mod Literals
-pub mod Horner
 pub mod Order
 pub mod Size
 pub mod Remainder
