@@ -1,15 +1,15 @@
 -- The loop of `lay_late` makes `late` of the first pulses. Assumes nothing.
 use Prim.Native.Nat.{ℕ, zero, suc, _+_, _-_, _<_, _≤_, min}
 use native.Mathlib.Nat.{add-comm, le-antisymm, le-of-eq, le-of-lt, le-trans, sub-zero}
-use mathlib.Core.Logic.{_⊎_, inl, inr}
-use mathlib.Core.Path.{_≡_, refl, sym, ap, _∙_}
-use mathlib.Core.Bool.{Bool, true, false, not}
-use mathlib.Core.List.{List, [], _∷_, _++_, append-assoc}
-use lib.Dec.{T, leb, leb→le, nleb→lt}
+use mathlib.Core.Logic.{inl, inr}
+use mathlib.Core.Path.{_≡_, sym, ap, _∙_}
+use mathlib.Core.Bool.{Bool, false}
+use mathlib.Core.List.{List, _++_, append-assoc}
 use native.Mathlib.Omega.{arith}
 use native.Mathlib.Numerals.{add-one, unary-clauses}
-use lib.ListN.{length, getD, set, take, drop, replicate, length-take, length-replicate}
+use lib.ListN.{length, getD, set, take, drop, replicate, length-take}
 use lib.Seq.{paste, paste-zero, paste-suc, take-all}
+pub use Rattle.rounding.proofs.Size.{le-or-lt}
 use Rattle.filterbank.specs.PulseSum.{late}
 
 -- the places before the loop, all off
@@ -40,13 +40,6 @@ drop-replicate (suc n) zero = ap (λ (k : ℕ). replicate k false) (none n)
     none : (n : ℕ) → 0 ≡ 0 - suc n
     none n = omega arith
 drop-replicate (suc n) (suc m) = simp unary-clauses (drop-replicate n m)
-
-pub le-or-lt : (a b : ℕ) → (a ≤ b) ⊎ (b < a)
-le-or-lt a b = go (leb a b) (leb→le a b) (nleb→lt a b)
-  where
-    go : (t : Bool) → (T t → a ≤ b) → (T (not t) → b < a) → (a ≤ b) ⊎ (b < a)
-    go true h g = inl (h tt)
-    go false h g = inr (g tt)
 
 -- the first len pulses are the first min len 240
 first : (on : List Bool) (n len : ℕ) → n ≡ min len 240 → length on ≡ 240 → take n on ≡ take len on

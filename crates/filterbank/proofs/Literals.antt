@@ -1,6 +1,6 @@
 -- What the code computes with its literals is what the definitions say. Assumes nothing.
-use Prim.Native.Nat.{ℕ, zero, suc, _+_, _-_, _*_, _/_, _%_, _^_, _<_, _≤_}
-use native.Mathlib.Nat.{mod-eq-of-lt, add-zero, sub-zero, mul-assoc}
+use Prim.Native.Nat.{ℕ, _+_, _-_, _%_, _^_, _<_, _≤_}
+use native.Mathlib.Nat.{mod-eq-of-lt, add-zero, sub-zero}
 use mathlib.Core.Path.{_≡_, refl, sym, ap, _∙_}
 use mathlib.Core.Bool.{Bool, true, false, cond}
 use mathlib.Core.List.{List, [], _∷_}
@@ -78,6 +78,18 @@ pub seven-taps : (p : List Float) (tau : Float) (a : ℕ) (r0 r1 r2 r3 r4 r5 r6 
     → r0 ∷ r1 ∷ r2 ∷ r3 ∷ r4 ∷ r5 ∷ r6 ∷ [] ≡ between tau (branch four p a) (branch four p (a + 1))
 unfolding between branch valuesFrom
 seven-taps p tau a r0 r1 r2 r3 r4 r5 r6 e0 e1 e2 e3 e4 e5 e6 = rw (e0, e1, e2, e3, e4, e5, e6) (rw (add-zero (a + 1), add-zero a))
+
+-- and those of the last branch, the last of which gets no addition
+pub rolled-taps : (p : List Float) (tau : Float) {r0 r1 r2 r3 r4 r5 : Float}
+    → r0 ≡ interpolatedOf p tau 255 256
+    → r1 ≡ interpolatedOf p tau 511 512
+    → r2 ≡ interpolatedOf p tau 767 768
+    → r3 ≡ interpolatedOf p tau 1023 1024
+    → r4 ≡ interpolatedOf p tau 1279 1280
+    → r5 ≡ interpolatedOf p tau 1535 1536
+    → r0 ∷ r1 ∷ r2 ∷ r3 ∷ r4 ∷ r5 ∷ mul binary32 (sub binary32 one tau) (getD p 1791 nan) ∷ [] ≡ between tau (branch four p 255) (drop 1 (branch four p 0))
+unfolding between branch valuesFrom
+rolled-taps p tau e0 e1 e2 e3 e4 e5 = λ i. e0 i ∷ e1 i ∷ e2 i ∷ e3 i ∷ e4 i ∷ e5 i ∷ mul binary32 (sub binary32 one tau) (getD p 1791 nan) ∷ []
 
 pub taps-within : (p : List Float) (phase tau : Float) (a : ℕ) (r : List Float) → length p ≡ 1792 → a ≡ branchOf four phase → tau ≡ tauOf four phase → a < 255 → r ≡ between tau (branch four p a) (branch four p (a + 1)) → r ≡ filterTaps four p phase
 unfolding filterTaps nextBranch

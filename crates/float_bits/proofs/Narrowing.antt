@@ -1,11 +1,11 @@
 -- The `f32` pattern of an `f64` pattern n whose sign is clear: n rounded as a whole in the normal range (`in-range`), its digits rounded below it (`subnormal-pattern`), and 0 further below (`zero-pattern`). Assumes nothing.
 use mathlib.Core.Path.{_≡_, refl, sym, ap, _∙_, subst}
-use mathlib.Core.Logic.{_⊎_, inl, inr}
+use mathlib.Core.Logic.{inl, inr}
 use Prim.Native.Nat.{ℕ, zero, suc, _+_, _-_, _*_, _/_, _%_, _^_, _≤_, _<_, min, zero-le}
 use native.Mathlib.Nat.{le-trans, le-of-eq, lt-of-lt-of-le, lt-of-le-of-lt, mul-assoc, mul-le-mul-right, mul-lt-mul-of-pos-right, mul-pos, le-div-iff-mul-le, div-lt-iff-lt-mul, zero-lt-suc, mod-lt, zero-add, one-mul}
 use native.Mathlib.Omega.{arith}
 use mathlib.Core.Bool.{Bool, true, false, not, cond}
-use lib.Dec.{T, leb, eqb, leb→le, nleb→lt, le→leb, eqb→eq}
+use lib.Dec.{T, leb, eqb, le→leb, eqb→eq}
 use lib.Arith.{lt→nleb, le→nltb}
 use lib.Pow.{pow-add, pow-pos, pow-mono, pow-lt, shl-lt, shl-exact}
 use lib.Ieee.{Float, nan, inf, fin, binary32, binary64, up, down, size, odd, round, ofBits, ofFields, isNan}
@@ -17,6 +17,7 @@ use lib.Ieee.Nearest.{closest, closest-same}
 use lib.Ieee.Order.{drop, kept}
 use lib.Ieee.Scale.{round-same}
 use Rattle.rounding.proofs.Pattern.{round-pattern, size-exact, kept-le}
+use Rattle.rounding.proofs.Size.{le-or-lt}
 use Rattle.rounding.proofs.Half.{closest-zero, closest-even, closest-half}
 use Rattle.float_bits.specs.Narrow.{narrow}
 
@@ -149,13 +150,6 @@ mag-low f d h =
   where
     up2 : (f : ℕ) → f < 872 → f < 897
     up2 f h = omega arith
-
-le-or-lt : (a b : ℕ) → (a ≤ b) ⊎ (b < a)
-le-or-lt a b = go (leb a b) (leb→le a b) (nleb→lt a b)
-  where
-    go : (t : Bool) → (T t → a ≤ b) → (T (not t) → b < a) → (a ≤ b) ⊎ (b < a)
-    go true h g = inl (h tt)
-    go false h g = inr (g tt)
 
 normal : (k d : ℕ) → d < 4503599627370496 → narrow (odd 53 false (4503599627370496 + d) k 1074) ≡ ofBits binary32 (magnitude (suc k) d)
 normal k d D =

@@ -11,8 +11,8 @@ use lib.Ieee.{Float, nan, inf, fin, binary64, add, neg, lt, eq, le, fits}
 use lib.Ieee.Scale.{finite}
 use Rattle.rounding.proofs.Val.{Val, neg-val}
 use Rattle.math.specs.Phase.{pi, twoPi, phaseWrap, phaseWrapOnce}
-use Rattle.math.proofs.Order.{le-val, le-above, le-below}
-use Rattle.math.proofs.Size.{Within, number, sum-within}
+use Rattle.rounding.proofs.Compared.{le-val, le-above, le-below}
+use Rattle.rounding.proofs.Size.{Within, number, sum-within}
 use Rattle.math.proofs.Constants.{piUnits, twoPiUnits, pi-val, twoPi-val}
 use Rattle.math.proofs.Wrapped.{wrapped, once-wrapped}
 

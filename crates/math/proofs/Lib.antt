@@ -1,8 +1,4 @@
 pub mod Literals
-pub mod Horner
-pub mod Order
-pub mod Size
-pub mod Remainder
 pub mod Constants
 pub mod Wrapped
 pub mod Reduction

@@ -15,9 +15,9 @@ use Rattle.rounding.proofs.Units.{G, G-le, Units}
 use Rattle.rounding.proofs.More.{sub-all, sub-negative}
 use Rattle.rounding.proofs.Val.{Val, val-units, neg-val, add-opposite-r}
 use Rattle.math.specs.Phase.{pi, twoPi, remEuclid, phaseWrap, phaseWrapOnce}
-use Rattle.math.proofs.Order.{lt-val, le-val, le-above, le-above-no, no-level}
-use Rattle.math.proofs.Size.{Within, Number, number, units-within, apart, add-equal, add-small, le-or-lt, sub-is, largest, rep-largest}
-use Rattle.math.proofs.Remainder.{rem-val}
+use Rattle.rounding.proofs.Compared.{lt-val, le-val, le-above, le-above-no, no-level}
+use Rattle.rounding.proofs.Size.{Within, Number, number, units-within, apart, add-equal, add-small, le-or-lt, sub-is, largest, rep-largest}
+use Rattle.rounding.proofs.Remainder.{rem-val}
 use Rattle.math.proofs.Constants.{piUnits, twoPiUnits, pi-val, minus-pi-val, twoPi-val}
 
 -- ---- `phase_wrap_f64`

@@ -13,8 +13,8 @@ use Rattle.rounding.proofs.Val.{Val, neg-val, le-val}
 use Rattle.float_bits.specs.Range.{within}
 use Rattle.float_bits.proofs.Ranges.{within-test, within-val, val-within}
 use Rattle.math.specs.Phase.{pi, twoPi, remEuclid, phaseWrap}
-use Rattle.math.proofs.Size.{number}
-use Rattle.math.proofs.Order.{lt-val}
+use Rattle.rounding.proofs.Size.{number}
+use Rattle.rounding.proofs.Compared.{lt-val}
 use Rattle.math.proofs.InRange.{Between, lt→le, wrapped-in-range}
 use Rattle.distributions.specs.declared.Asked.{Asked}
 use Rattle.distributions.specs.declared.CarrierOffset as Offset

@@ -17,7 +17,7 @@ use Rattle.rounding.proofs.Units.{G, G-ge, Units, lt-units}
 use Rattle.rounding.proofs.More.{Rep}
 use Rattle.float_bits.specs.Ceil.{ceilSigned, upward}
 use Rattle.float_bits.specs.Range.{within}
-use Rattle.math.proofs.Size.{units-within, le-or-lt}
+use Rattle.rounding.proofs.Size.{units-within, le-or-lt}
 use Rattle.math.proofs.InRange.{tests-of-within}
 use Rattle.distributions.specs.Asked.{tenth}
 use Rattle.message.specs.declared.ReplyKind.{ReplyKind}

@@ -19,7 +19,7 @@ use Rattle.rounding.proofs.Val.{Val, val-units}
 use Rattle.float_bits.specs.Range.{within}
 use Rattle.float_bits.proofs.Exact.{whole-value}
 use Rattle.float_bits.proofs.Ranges.{within-finite, within-val}
-use Rattle.math.proofs.Size.{Within, number}
+use Rattle.rounding.proofs.Size.{Within, number}
 use Rattle.math.specs.Phase.{pi}
 use Rattle.math.proofs.InRange.{Between}
 use Rattle.distributions.specs.Asked.{tenth, offsetLimit}

@@ -19,8 +19,8 @@ use Rattle.rounding.proofs.Val.{Val, mul-val, div-val}
 use Rattle.float_bits.specs.Ceil.{ceilSigned, upward}
 use Rattle.float_bits.proofs.Ranges.{within-finite}
 use Rattle.math.specs.Phase.{pi, twoPi}
-use Rattle.math.proofs.Size as Size
-use Rattle.math.proofs.Size.{Within, units-within, within-neg, sum-within, le-or-lt, sub-is}
+use Rattle.rounding.proofs.Size as Size
+use Rattle.rounding.proofs.Size.{Within, units-within, within-neg, sum-within, le-or-lt, sub-is}
 use Rattle.math.proofs.Constants.{piUnits, twoPiUnits, pi-val, twoPi-val}
 use Rattle.math.proofs.InRange.{Between, within-of-tests, tests-of-within, wrapped-in-range}
 use Rattle.distributions.specs.Asked.{offsetLimit}

@@ -16,7 +16,7 @@ use Rattle.rounding.proofs.Units.{G, G-ge, G-le, Units, units-of}
 use Rattle.rounding.proofs.More.{Rep, rep-of, sub-all, sub-negative}
 use Rattle.rounding.proofs.Val.{Val, val-units, add-same, add-opposite}
 use Rattle.float_bits.specs.Ceil.{ceilSigned, upward}
-use Rattle.math.proofs.Size.{Within, number}
+use Rattle.rounding.proofs.Size.{Within, number}
 use Rattle.pulse_shape.proofs.DelayWithin.{div-units}
 use Rattle.message_config.specs.Timing.{one}
 use Rattle.message_config_laws.proofs.InRange.{TimeInRange, DelayInRange, tenthUnits}

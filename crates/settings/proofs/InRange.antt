@@ -10,7 +10,7 @@ use lib.Ieee.Bits.{ofBits-fits}
 use lib.Ieee.Scale.{finite}
 use Rattle.float_bits.specs.Range.{within}
 use Rattle.math.specs.Phase.{phaseWrap}
-use Rattle.math.proofs.Size.{Within}
+use Rattle.rounding.proofs.Size.{Within}
 use Rattle.math.proofs.Constants.{piUnits}
 use Rattle.math.proofs.Wrapped.{wrapped}
 use Rattle.distributions.specs.Asked.{upTo, finiteNotNegative, offsetLimit, tenth, byKind, clampedNormal, carrierOffset, carrierPhase, clockError}

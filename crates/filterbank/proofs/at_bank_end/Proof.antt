@@ -1,7 +1,6 @@
 -- `at_bank_end` meets its contract. Assumes nothing.
 use borrow.Author.Needs.{needs}
-use Rattle.pulse_shape.specs.Values.{valuesFrom}
-use Rattle.filterbank.specs.Taps.{branch, between}
+use Rattle.filterbank.proofs.Literals.{rolled-taps}
 use Rattle.filterbank.proofs.at_bank_end.Statement.{statement}
 use Rattle.filterbank.proofs.at_bank_end.Tie as tie
 
@@ -27,8 +26,15 @@ shared-slice-read-t11 : tie.Need-shared-slice-read-t11
 shared-slice-read-t11 c = search needs
 
 returns : tie.Need-returns
-unfolding between branch valuesFrom
-returns c = cc
+returns c =
+    let c6 = c .before in
+    let c5 = c6 .before in
+    let c4 = c5 .before in
+    let c3 = c4 .before in
+    let c2 = c3 .before in
+    let c1 = c2 .before in
+    let a = c1 .before .before .args in
+    rolled-taps (a .p .now) (a .tau) (c1 .interpolated .ensures) (c2 .interpolated2 .ensures) (c3 .interpolated3 .ensures) (c4 .interpolated4 .ensures) (c5 .interpolated5 .ensures) (c6 .interpolated6 .ensures)
 
 pub at-bank-end-spec : {M : Type 1} → statement M
 at-bank-end-spec =

@@ -1,6 +1,6 @@
 -- `bit_of` meets its contract. Assumes nothing.
 use borrow.Author.Needs.{needs}
-use mathlib.Core.Path.{refl, sym}
+use mathlib.Core.Path.{sym}
 use mathlib.Core.Bool.{false}
 use lib.ListN.{List·getD-eq-default}
 use Rattle.mode_ac.specs.Data.{bitsOf, bitOf}

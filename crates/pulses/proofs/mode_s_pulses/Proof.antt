@@ -8,7 +8,6 @@ use Rattle.pulses.specs.ModeS.{bitOf, pairPlace, bitPlaces, modeSLength}
 use Rattle.pulses.proofs.Marked.{mark}
 use Rattle.pulses.proofs.ModeSTurns.{pair-place, turn, end, preambled, whole}
 use borrow.Author.Needs.{needs}
-use native.Mathlib.Omega.{arith}
 use Rattle.pulses.proofs.mode_s_pulses.Statement.{statement}
 use Rattle.pulses.proofs.mode_s_pulses.Tie as tie
 

@@ -1,11 +1,11 @@
--- `math::turned` meets its contract. Assumes nothing.
+-- `carrier::turned` meets its contract. Assumes nothing.
 use mathlib.Core.Path.{_≡_, refl}
 use Prim.Native.Nat.{ℕ, zero, suc}
 use lib.Ieee.{Float, neg}
 use Rattle.math.specs.Carrier.{quadrant}
 use Rattle.math.specs.declared.SinCos.{SinCos}
-use Rattle.math.proofs.turned.Statement.{statement}
-use Rattle.math.proofs.turned.Tie as tie
+use Rattle.carrier.proofs.turned.Statement.{statement}
+use Rattle.carrier.proofs.turned.Tie as tie
 
 -- q that is none of 0, 1 and 2
 last : (q : ℕ) (s c : Float) → (q ≡ 0 → ⊥) → (q ≡ 1 → ⊥) → (q ≡ 2 → ⊥) → _≡_ {A = SinCos} (record { sin = neg c; cos = s }) (quadrant q s c)

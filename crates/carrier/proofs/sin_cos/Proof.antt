@@ -1,8 +1,8 @@
--- `math::sin_cos` meets its contract. Assumes nothing.
+-- `carrier::sin_cos` meets its contract. Assumes nothing.
 use borrow.Author.Needs.{needs}
 use Rattle.math.specs.Carrier.{sinCos}
-use Rattle.math.proofs.sin_cos.Statement.{statement}
-use Rattle.math.proofs.sin_cos.Tie as tie
+use Rattle.carrier.proofs.sin_cos.Statement.{statement}
+use Rattle.carrier.proofs.sin_cos.Tie as tie
 
 reduce-requires : tie.Need-reduce-requires
 reduce-requires c κs = search needs

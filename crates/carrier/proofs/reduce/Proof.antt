@@ -1,8 +1,8 @@
--- `math::reduce` meets its contract. Assumes nothing.
+-- `carrier::reduce` meets its contract. Assumes nothing.
 use Rattle.math.specs.Carrier.{reduced}
 use Rattle.math.proofs.Literals.{pi-is, halfPi-is, outerLimit-is, innerLimit-is}
-use Rattle.math.proofs.reduce.Statement.{statement}
-use Rattle.math.proofs.reduce.Tie as tie
+use Rattle.carrier.proofs.reduce.Statement.{statement}
+use Rattle.carrier.proofs.reduce.Tie as tie
 
 returns : tie.Need-returns
 unfolding reduced
