@@ -1,6 +1,4 @@
 -- `write_samples` meets its contract: `write_due`, where the samples fit. Assumes nothing.
-use mathlib.Core.Path.{refl}
-use Rattle.running.specs.Turns.{wroteBy}
 use Prim.Native.Nat.{_+_, _*_, _≤_}
 use lib.ListN.{length}
 use Rattle.running.proofs.Writing.{wrote-memory, wrote-output}
@@ -18,12 +16,6 @@ mul-write-due c = search needs
 write-due-requires : tie.Need-write-due-requires
 write-due-requires c κs = search needs
 
-add-t15 : tie.Need-add-t15
-add-t15 c = search needs
-
-add-t13 : tie.Need-add-t13
-add-t13 c = search needs
-
 same-length : tie.Need-same-length
 same-length c = search needs
 
@@ -31,16 +23,14 @@ same-length-2 : tie.Need-same-length-2
 same-length-2 c = search needs
 
 returns : tie.Need-returns
-unfolding wroteBy
 returns c =
-    let a = c .before .before .before .before .before .before .before .before .before .before .before .before .before .args in
-    let p = c .before .before .before .before .before .before .before .before .before .before .before .before .before .pre in
-    let w = c .before .before .before .before .before .before .write-due .ensures in
-    let in-noise : 2 * a .t .samples + 2 * a .n ≤ length (a .noise .now) = omega (arith, p .1) in
-    let in-output : 2 * a .t .samples + 2 * a .n ≤ length (a .output .now) = omega (arith, p .2) in (
-      refl,
-      wrote-memory (a .noise .now) (a .memory .now) (a .output .now) _ _ (a .t .written) (2 * a .t .samples) (a .n) (p .0) in-noise in-output w,
-      wrote-output (a .noise .now) (a .memory .now) (a .output .now) _ _ (a .t .written) (2 * a .t .samples) (a .n) (p .0) in-noise in-output w,
+    let z = c .before .before .before .before .before .before .before .before .before .before in
+    let a = z .args in
+    let w = c .before .before .before .before .write-due .ensures in
+    let in-noise : 2 * a .samples + 2 * a .n ≤ length (a .noise .now) = omega (arith, z .pre .1) in
+    let in-output : 2 * a .samples + 2 * a .n ≤ length (a .output .now) = omega (arith, z .pre .2) in (
+      wrote-memory (a .noise .now) (a .memory .now) (a .output .now) _ _ (a .written) (2 * a .samples) (a .n) (z .pre .0) in-noise in-output w,
+      wrote-output (a .noise .now) (a .memory .now) (a .output .now) _ _ (a .written) (2 * a .samples) (a .n) (z .pre .0) in-noise in-output w,
     )
 
 pub write-samples-spec : {M : Type 1} → statement M
@@ -50,8 +40,6 @@ write-samples-spec =
     mul-at
     mul-write-due
     write-due-requires
-    add-t15
-    add-t13
     same-length
     same-length-2
     returns)
