@@ -1,10 +1,8 @@
 // Run calls: the checks, and the turns, each a stop, samples that are due, or a draw. Each function is tied to the theory of lists of calls. Assumes nothing.
 ghost use mathlib.Core.Path.{_≡_};
 ghost use Prim.Native.Nat.{_+_, _*_, _≤_, _<_, _^_};
-ghost use lib.ListN.{length, take, drop};
+ghost use lib.ListN.{length};
 ghost use lib.Ieee.{nan};
-ghost use Rattle.call_lists.specs.Buffers.{laid};
-ghost use Rattle.due_samples.specs.Due.{samplesOf, clearOf};
 ghost use Rattle.running.specs.Ended.{firstBy, ranBy, callLeft};
 ghost use Rattle.running.specs.Calls.{refusedBy, runLeft};
 ghost use Rattle.running.specs.Turns.{Inside, turnRead, restAfter, genOf, StepSays};
@@ -51,22 +49,6 @@ pub struct Ran {
     pub answer: Answer,
 }
 
-// Writes so many samples that are due, after so many of the call.
-fn write_samples(
-    written: u64,
-    samples: usize,
-    n: usize,
-    memory: &mut [f32],
-    noise: &[f32],
-    output: &mut [f32],
-)
-    requires { ⌜ (length (now memory) ≡ 2252) × (2 * (samples + n) ≤ length (now noise)) × (2 * (samples + n) ≤ length (now output)) ⌝ }
-    ensures { λ _. ⌜ (now (memory .exit) ≡ clearOf (now (memory .entry)) written n) × (now (output .exit) ≡ laid (2 * samples) (samplesOf (now (memory .entry)) written (take (2 * n) (drop (2 * samples) (now (noise .entry))))) (now (output .entry))) ⌝ }
-{
-    let at = 2 * samples;
-    due_samples::write_due(memory, noise, output, written, at, at, 2 * n);
-}
-
 // One turn: a stop, so many samples, or a draw.
 fn step(
     s: State,
@@ -102,11 +84,11 @@ fn step(
     match p {
         Plan::Halt(_) => r,
         Plan::Drain(n) => {
-            write_samples(t.written, t.samples, n, memory, noise, output);
+            due_samples::write_due(memory, noise, output, t.written, t.samples, n);
             r
         }
         Plan::Due(n, _) => {
-            write_samples(t.written, t.samples, n, memory, noise, output);
+            due_samples::write_due(memory, noise, output, t.written, t.samples, n);
             r
         }
         Plan::Skip(_) => r,

@@ -1,6 +1,7 @@
 -- `step` meets its contract: each arm by what its plan tells. Assumes nothing.
 use lib.ListN.{length}
 use Rattle.running.proofs.Adding.{added-by, recorded-by}
+use Rattle.running.proofs.Writing.{wrote-memory, wrote-output}
 use Rattle.running.proofs.Said.{Sized, halt-says, drain-says, due-says, add-says, drained, dued, skipped, ended-by, added}
 use borrow.Author.Needs.{needs}
 use native.Mathlib.Omega.{arith}
@@ -41,22 +42,14 @@ enum-told c = search needs
 enum-known-p : tie.Need-enum-known-p
 enum-known-p c = search needs
 
-write-samples-requires : tie.Need-write-samples-requires
-write-samples-requires c κs =
-    let z = c .before .before .before .before .before in
-    let a = started z .args in
-    let f = drain-says (a .s) (a .mode-s .now) (a .mode-ac .now) (a .noise .now) (a .t) (a .memory .now) (a .rest .now) (a .output .now) (a .records .now) (started z .pre .1) (sized z) _ (z .before .choose .ensures) _ (c .before .before .before .p .given .1) in
-    (started z .pre .0, f .noise-fits, f .output-fits)
+write-due-requires : tie.Need-write-due-requires
+write-due-requires c κs = search needs
 
 enum-known-p-2 : tie.Need-enum-known-p-2
 enum-known-p-2 c = search needs
 
-write-samples-requires-2 : tie.Need-write-samples-requires-2
-write-samples-requires-2 c κs =
-    let z = c .before .before .before .before .before in
-    let a = started z .args in
-    let f = due-says (a .s) (a .mode-s .now) (a .mode-ac .now) (a .noise .now) (a .t) (a .memory .now) (a .rest .now) (a .output .now) (a .records .now) (started z .pre .1) (sized z) _ (z .before .choose .ensures) _ _ (c .before .before .before .p2 .given .1) in
-    (started z .pre .0, f .noise-fits, f .output-fits)
+write-due-requires-2 : tie.Need-write-due-requires-2
+write-due-requires-2 c κs = search needs
 
 enum-told-2 : tie.Need-enum-told-2
 enum-told-2 c = search needs
@@ -89,8 +82,9 @@ returns-2 : tie.Need-returns-2
 returns-2 c =
     let z = c .before .before .before .before .before .before .before .before .before .before in
     let a = started z .args in
-    let w = c .before .before .before .before .write-samples .ensures in
-    drained (a .s) (a .mode-s .now) (a .mode-ac .now) (a .noise .now) (a .t) (a .memory .now) (a .rest .now) (a .output .now) (a .records .now) (started z .pre .1) (sized z) _ (z .before .choose .ensures) _ (c .before .before .before .before .before .before .before .before .p .given .1) _ _ _ (z .moved .ensures) (w .0) (w .1)
+    let f = drain-says (a .s) (a .mode-s .now) (a .mode-ac .now) (a .noise .now) (a .t) (a .memory .now) (a .rest .now) (a .output .now) (a .records .now) (started z .pre .1) (sized z) _ (z .before .choose .ensures) _ (c .before .before .before .before .before .before .before .before .p .given .1) in
+    let w = c .before .before .before .before .write-due .ensures in
+    drained (a .s) (a .mode-s .now) (a .mode-ac .now) (a .noise .now) (a .t) (a .memory .now) (a .rest .now) (a .output .now) (a .records .now) (started z .pre .1) (sized z) _ (z .before .choose .ensures) _ (c .before .before .before .before .before .before .before .before .p .given .1) _ _ _ (z .moved .ensures) (wrote-memory (a .noise .now) (a .memory .now) (a .output .now) _ _ (a .t .written) (a .t .samples) _ (started z .pre .0) (f .noise-fits) (f .output-fits) w) (wrote-output (a .noise .now) (a .memory .now) (a .output .now) _ _ (a .t .written) (a .t .samples) _ (started z .pre .0) (f .noise-fits) (f .output-fits) w)
 
 same-length-3 : tie.Need-same-length-3
 same-length-3 c = search needs
@@ -102,8 +96,9 @@ returns-3 : tie.Need-returns-3
 returns-3 c =
     let z = c .before .before .before .before .before .before .before .before .before .before in
     let a = started z .args in
-    let w = c .before .before .before .before .write-samples2 .ensures in
-    dued (a .s) (a .mode-s .now) (a .mode-ac .now) (a .noise .now) (a .t) (a .memory .now) (a .rest .now) (a .output .now) (a .records .now) (started z .pre .1) (sized z) _ (z .before .choose .ensures) _ _ (c .before .before .before .before .before .before .before .before .p2 .given .1) _ _ _ (z .moved .ensures) (w .0) (w .1)
+    let f = due-says (a .s) (a .mode-s .now) (a .mode-ac .now) (a .noise .now) (a .t) (a .memory .now) (a .rest .now) (a .output .now) (a .records .now) (started z .pre .1) (sized z) _ (z .before .choose .ensures) _ _ (c .before .before .before .before .before .before .before .before .p2 .given .1) in
+    let w = c .before .before .before .before .write-due2 .ensures in
+    dued (a .s) (a .mode-s .now) (a .mode-ac .now) (a .noise .now) (a .t) (a .memory .now) (a .rest .now) (a .output .now) (a .records .now) (started z .pre .1) (sized z) _ (z .before .choose .ensures) _ _ (c .before .before .before .before .before .before .before .before .p2 .given .1) _ _ _ (z .moved .ensures) (wrote-memory (a .noise .now) (a .memory .now) (a .output .now) _ _ (a .t .written) (a .t .samples) _ (started z .pre .0) (f .noise-fits) (f .output-fits) w) (wrote-output (a .noise .now) (a .memory .now) (a .output .now) _ _ (a .t .written) (a .t .samples) _ (started z .pre .0) (f .noise-fits) (f .output-fits) w)
 
 returns-4 : tie.Need-returns-4
 returns-4 c =
@@ -133,4 +128,4 @@ returns-6 c =
     added (a .s) (a .mode-s .now) (a .mode-ac .now) (a .noise .now) (a .t) (a .memory .now) (a .rest .now) (a .output .now) (a .records .now) (started z .pre .1) (sized z) _ (z .before .choose .ensures) _ _ (c .before .before .before .before .before .before .before .before .p3 .given .1) _ _ _ (z .moved .ensures) (added-by (a .s .distributions) (a .s .delays) _ _ (a .rest .now) (a .memory .now) l (a .mode-s .now) (a .mode-ac .now) _ (w .0)) (recorded-by (a .s .distributions) (a .s .delays) _ _ (a .rest .now) (a .memory .now) l (a .records .now) _ _ (omega (arith, f .fits)) (w .1))
 
 pub step-spec : {M : Type 1} → statement M
-step-spec = tie.close (tie.spec mul-used sub-choose sub-choose-2 mul-choose sub-choose-3 choose-requires moved-requires enum-told enum-known-p write-samples-requires enum-known-p-2 write-samples-requires-2 enum-told-2 enum-told-3 enum-known-p-3 mul-add add-requires returns same-length same-length-2 returns-2 same-length-3 same-length-4 returns-3 returns-4 returns-5 same-length-5 same-length-6 returns-6)
+step-spec = tie.close (tie.spec mul-used sub-choose sub-choose-2 mul-choose sub-choose-3 choose-requires moved-requires enum-told enum-known-p write-due-requires enum-known-p-2 write-due-requires-2 enum-told-2 enum-told-3 enum-known-p-3 mul-add add-requires returns same-length same-length-2 returns-2 same-length-3 same-length-4 returns-3 returns-4 returns-5 same-length-5 same-length-6 returns-6)
