@@ -1,7 +1,7 @@
 -- Samples that are due, as numbers, and working memory after them, by the theory of lists of calls. Assumes nothing.
 use mathlib.Core.Bool.{Bool, cond, _&&_}
 use mathlib.Core.List.{List}
-use Prim.Native.Nat.{ℕ, _+_, _/_, _%_}
+use Prim.Native.Nat.{ℕ, _+_, _*_}
 use lib.Dec.{eqb, leb}
 use lib.ListN.{length, take, drop, replicate}
 use lib.Ieee.{Float, nan}
@@ -31,19 +31,18 @@ samplesOf m w xs = flatten (written gen nan m w (pairs xs))
 unfoldable pub clearOf : List Float → ℕ → ℕ → List Float
 clearOf m w n = cleared gen nan m w n
 
--- memory has its length, the numbers are pairs, and noise from `from` on and output from `at` on hold them
-unfoldable pub fitsOf : ℕ → ℕ → ℕ → ℕ → ℕ → ℕ → Bool
-fitsOf memory noise output from at values =
-    eqb memory (workingMemory four) && eqb (values % 2) 0 && leb (from + values) noise && leb (at + values) output
+-- memory has its length, and noise and output hold k samples and n more
+unfoldable pub fitsOf : ℕ → ℕ → ℕ → ℕ → ℕ → Bool
+fitsOf memory noise output k n = eqb memory (workingMemory four) && leb (2 * (k + n)) noise && leb (2 * (k + n)) output
 
 -- what is written
 pub record Lent : Type 0 where
   pub memory : List Float
   pub output : List Float
 
--- the samples that are due, from sample w on, in output from `at` on; where they do not fit, nothing is changed
-unfoldable pub dueOf : List Float → ℕ → ℕ → ℕ → ℕ → Lent → Lent
-dueOf noise w from at values l =
-    cond (fitsOf (length (l .memory)) (length noise) (length (l .output)) from at values)
-    (record { memory = clearOf (l .memory) w (values / 2); output = laid at (samplesOf (l .memory) w (take values (drop from noise))) (l .output) })
+-- n samples that are due, from sample w on, after k samples of the call; where they do not fit, nothing is changed
+unfoldable pub dueOf : List Float → ℕ → ℕ → ℕ → Lent → Lent
+dueOf noise w k n l =
+    cond (fitsOf (length (l .memory)) (length noise) (length (l .output)) k n)
+    (record { memory = clearOf (l .memory) w n; output = laid (2 * k) (samplesOf (l .memory) w (take (2 * n) (drop (2 * k) noise))) (l .output) })
     l

@@ -90,45 +90,42 @@ fn write_all(
     }
 }
 
-// Memory has its length, the numbers are pairs, and noise and output hold them.
-fn fits(memory: usize, noise: usize, output: usize, from: usize, at: usize, values: usize) -> bool
-    ensures { λ r. ⌜ r ≡ fitsOf memory noise output from at values ⌝ }
+// Memory has its length, and noise and output hold so many samples and n more.
+fn fits(memory: usize, noise: usize, output: usize, samples: usize, n: usize) -> bool
+    ensures { λ r. ⌜ r ≡ fitsOf memory noise output samples n ⌝ }
 {
     if memory != 2252 {
         return false;
     }
-    if values % 2 != 0 {
+    if noise / 2 < samples {
         return false;
     }
-    if noise < from {
+    if noise / 2 - samples < n {
         return false;
     }
-    if noise - from < values {
+    if output / 2 < samples {
         return false;
     }
-    if output < at {
-        return false;
-    }
-    if output - at < values {
+    if output / 2 - samples < n {
         return false;
     }
     true
 }
 
-// Writes samples that are due. Where what is lent does not hold them, nothing is changed.
+// Writes n samples that are due, after so many of the call. Where what is lent does not hold them, nothing is changed.
 pub fn write_due(
     memory: &mut [f32],
     noise: &[f32],
     output: &mut [f32],
     written: u64,
-    from: usize,
-    at: usize,
-    values: usize,
+    samples: usize,
+    n: usize,
 )
-    ensures { λ _. ⌜ record { memory = now (memory .exit); output = now (output .exit) } ≡ dueOf (now (noise .entry)) written from at values (record { memory = now (memory .entry); output = now (output .entry) }) ⌝ }
+    ensures { λ _. ⌜ record { memory = now (memory .exit); output = now (output .exit) } ≡ dueOf (now (noise .entry)) written samples n (record { memory = now (memory .entry); output = now (output .entry) }) ⌝ }
 {
-    if !fits(memory.len(), noise.len(), output.len(), from, at, values) {
+    if !fits(memory.len(), noise.len(), output.len(), samples, n) {
         return;
     }
-    write_all(memory, noise, output, written, from, at, values);
+    let at = 2 * samples;
+    write_all(memory, noise, output, written, at, at, 2 * n);
 }

@@ -2,8 +2,7 @@
 use mathlib.Core.Path.{_≡_, sym, ap, _∙_}
 use mathlib.Core.Bool.{Bool, cond}
 use mathlib.Core.List.{List}
-use Prim.Native.Nat.{ℕ, _+_, _*_, _/_, _≤_}
-use native.Mathlib.Omega.{arith}
+use Prim.Native.Nat.{ℕ, _+_, _*_, _≤_}
 use lib.ListN.{length, take, drop}
 use lib.Ieee.{Float}
 use Rattle.call_lists.specs.Buffers.{laid}
@@ -13,22 +12,19 @@ use Rattle.due_samples.proofs.LentTest.{fits-if}
 made : List Float → List Float → Lent
 made memory output = record { memory = memory; output = output }
 
-module _ (noise memory output memory′ output′ : List Float) (w at n : ℕ) (l : length memory ≡ 2252) (in-noise : at + 2 * n ≤ length noise) (in-output : at + 2 * n ≤ length output)
-    (e : record { memory = memory′; output = output′ } ≡ dueOf noise w at at (2 * n) (record { memory = memory; output = output })) where
-  half : 2 * n / 2 ≡ n
-  half = omega arith
-
-  both : made memory′ output′ ≡ made (clearOf memory w (2 * n / 2)) (laid at (samplesOf memory w (take (2 * n) (drop at noise))) output)
+module _ (noise memory output memory′ output′ : List Float) (w k n : ℕ) (l : length memory ≡ 2252) (in-noise : 2 * (k + n) ≤ length noise) (in-output : 2 * (k + n) ≤ length output)
+    (e : record { memory = memory′; output = output′ } ≡ dueOf noise w k n (record { memory = memory; output = output })) where
+  both : made memory′ output′ ≡ made (clearOf memory w n) (laid (2 * k) (samplesOf memory w (take (2 * n) (drop (2 * k) noise))) output)
   unfolding dueOf made
   both =
       e
-      ∙ ap (λ (b : Bool). cond b (made (clearOf memory w (2 * n / 2)) (laid at (samplesOf memory w (take (2 * n) (drop at noise))) output)) (made memory output))
-      (sym (fits-if (length memory) (length noise) (length output) at at (2 * n) (record { memory-is = l; pairs = omega arith; noise-holds = in-noise; output-holds = in-output })))
+      ∙ ap (λ (b : Bool). cond b (made (clearOf memory w n) (laid (2 * k) (samplesOf memory w (take (2 * n) (drop (2 * k) noise))) output)) (made memory output))
+      (sym (fits-if (length memory) (length noise) (length output) k n (record { memory-is = l; noise-holds = in-noise; output-holds = in-output })))
 
   pub wrote-memory : memory′ ≡ clearOf memory w n
   unfolding made
-  wrote-memory = ap (λ (x : Lent). x .memory) both ∙ ap (clearOf memory w) half
+  wrote-memory = ap (λ (x : Lent). x .memory) both
 
-  pub wrote-output : output′ ≡ laid at (samplesOf memory w (take (2 * n) (drop at noise))) output
+  pub wrote-output : output′ ≡ laid (2 * k) (samplesOf memory w (take (2 * n) (drop (2 * k) noise))) output
   unfolding made
   wrote-output = ap (λ (x : Lent). x .output) both

@@ -1,6 +1,5 @@
 -- The generator of a state and its prototypes (`genOf`); and the code's turns, as the theory of lists of calls has them, which only contracts within this crate cite. Definitions only.
 use Prim.Native.Nat.{ℕ, _+_, _*_, _≤_, _<_}
-use mathlib.Core.Bool.{Bool}
 use mathlib.Core.List.{List}
 use mathlib.Core.Path.{_≡_}
 use lib.ListN.{length, drop}
@@ -10,9 +9,8 @@ use Rattle.call_lists.specs.Turns as Theory
 use Rattle.call_lists.specs.Turns.{Within, turnFuel}
 use Rattle.generator.specs.Real.{Filters, real}
 use Rattle.running.specs.declared.State.{State}
-use Rattle.running.specs.declared.Turn.{Turn}
-use Rattle.run_plans.specs.declared.Stop.{Stop}
-use Rattle.running.specs.declared.Next as Next
+use Rattle.turns.specs.declared.Turn.{Turn}
+use Rattle.turns.specs.declared.Next as Next
 use Rattle.run_plans.specs.Plans.{stopRead}
 
 -- what a state and the prototypes fix
@@ -21,19 +19,6 @@ filtersOf s modeS modeAC = record { rates = s .rates; distributions = s .distrib
 
 abbrev pub genOf : State → List Float → List Float → Generator
 genOf s modeS modeAC = real (filtersOf s modeS modeAC) (s .total)
-
--- the turn after n samples, after a draw with so many records more, and at a stop
-unfoldable pub wroteBy : Turn → ℕ → Float → Turn
-wroteBy t n latest =
-    record { written = t .written + n; time = t .time; latest = latest; ended = t .ended; taken = t .taken; samples = t .samples + n; records = t .records; next = Next.the-variants.Wrote }
-
-unfoldable pub tookBy : Turn → Float → Bool → ℕ → Turn
-tookBy t time ended lines =
-    record { written = t .written; time = time; latest = t .latest; ended = ended; taken = t .taken + 1; samples = t .samples; records = t .records + lines; next = Next.the-variants.Took }
-
-unfoldable pub haltedBy : Turn → Stop → Turn
-haltedBy t w =
-    record { written = t .written; time = t .time; latest = t .latest; ended = t .ended; taken = t .taken; samples = t .samples; records = t .records; next = Next.the-variants.Halted w }
 
 -- the counts lie within what is lent
 pub record Inside (t : Turn) (noise output records : ℕ) : Type 0 where

@@ -1,14 +1,11 @@
 // Run calls: the checks, and the turns, each a stop, samples that are due, or a draw. Each function is tied to the theory of lists of calls. Assumes nothing.
 ghost use mathlib.Core.Path.{_≡_};
-ghost use mathlib.Core.Bool.{cond};
 ghost use Prim.Native.Nat.{_+_, _*_, _≤_, _<_, _^_};
-ghost use lib.ListN.{length, take, drop};
-ghost use lib.Ieee.{lt, nan};
-ghost use Rattle.call_lists.specs.Buffers.{laid};
-ghost use Rattle.due_samples.specs.Due.{samplesOf, clearOf};
+ghost use lib.ListN.{length};
+ghost use lib.Ieee.{nan};
 ghost use Rattle.running.specs.Ended.{firstBy, ranBy, callLeft};
 ghost use Rattle.running.specs.Calls.{refusedBy, runLeft};
-ghost use Rattle.running.specs.Turns.{Inside, wroteBy, tookBy, haltedBy, turnRead, restAfter, genOf, StepSays};
+ghost use Rattle.running.specs.Turns.{Inside, turnRead, restAfter, genOf, StepSays};
 use draw::Fault;
 use message_config::Delays;
 use noise_check::Loud;
@@ -17,6 +14,8 @@ use run_plans::Plan;
 pub use run_plans::Stop;
 use settings::Distributions;
 use settings::MessagesPerSecond;
+use turns::Next;
+use turns::Turn;
 
 // What a run call hands to the next one.
 pub struct State {
@@ -28,25 +27,6 @@ pub struct State {
     pub rates: MessagesPerSecond,
     pub delays: Delays,
     pub distributions: Distributions,
-}
-
-// A call so far: what of the state moves, the counts, and how the call came here.
-pub struct Turn {
-    pub written: u64,
-    pub time: f64,
-    pub latest: f64,
-    pub ended: bool,
-    pub taken: usize,
-    pub samples: usize,
-    pub records: usize,
-    pub next: Next,
-}
-
-// Samples were written; a draw was taken; or the call stopped.
-pub enum Next {
-    Wrote,
-    Took,
-    Halted(Stop),
 }
 
 // Of one call: draws taken, samples written, noise values used, records written.
@@ -69,73 +49,6 @@ pub struct Ran {
     pub answer: Answer,
 }
 
-// Writes so many samples that are due; with the latest time after them.
-fn write_samples(
-    t: Turn,
-    n: usize,
-    latest: f64,
-    memory: &mut [f32],
-    noise: &[f32],
-    output: &mut [f32],
-) -> Turn
-    requires { ⌜ (length (now memory) ≡ 2252) × (2 * (t .samples + n) ≤ length (now noise)) × (2 * (t .samples + n) ≤ length (now output)) × (t .written + n < 2 ^ 64) ⌝ }
-    ensures { λ r. ⌜ (r ≡ wroteBy t n latest) × (now (memory .exit) ≡ clearOf (now (memory .entry)) (t .written) n) × (now (output .exit) ≡ laid (2 * t .samples) (samplesOf (now (memory .entry)) (t .written) (take (2 * n) (drop (2 * t .samples) (now (noise .entry))))) (now (output .entry))) ⌝ }
-{
-    let at = 2 * t.samples;
-    due_samples::write_due(memory, noise, output, t.written, at, at, 2 * n);
-    Turn {
-        written: t.written + n as u64,
-        time: t.time,
-        latest: latest,
-        ended: t.ended,
-        taken: t.taken,
-        samples: t.samples + n,
-        records: t.records,
-        next: Next::Wrote,
-    }
-}
-
-fn later(a: f64, b: f64) -> f64
-    ensures { λ r. ⌜ r ≡ cond (lt a b) b a ⌝ }
-{
-    if a < b {
-        return b;
-    }
-    a
-}
-
-// The turn after a draw was taken at its time, with so many records more.
-fn took(t: Turn, time: f64, ended: bool, lines: usize) -> Turn
-    requires { ⌜ (t .taken + 1 < 2 ^ 64) × (t .records + lines < 2 ^ 64) ⌝ }
-    ensures { λ r. ⌜ r ≡ tookBy t time ended lines ⌝ }
-{
-    Turn {
-        written: t.written,
-        time: time,
-        latest: t.latest,
-        ended: ended,
-        taken: t.taken + 1,
-        samples: t.samples,
-        records: t.records + lines,
-        next: Next::Took,
-    }
-}
-
-fn halted(t: Turn, w: Stop) -> Turn
-    ensures { λ r. ⌜ r ≡ haltedBy t w ⌝ }
-{
-    Turn {
-        written: t.written,
-        time: t.time,
-        latest: t.latest,
-        ended: t.ended,
-        taken: t.taken,
-        samples: t.samples,
-        records: t.records,
-        next: Next::Halted(w),
-    }
-}
-
 // One turn: a stop, so many samples, or a draw.
 fn step(
     s: State,
@@ -153,6 +66,8 @@ fn step(
 {
     let all = s.distributions;
     let delays = s.delays;
+    let used = 2 * t.samples;
+    let lines = t.records;
     let p = run_plans::choose(
         t.ended,
         t.written,
@@ -161,18 +76,24 @@ fn step(
         all,
         delays,
         rest,
-        output.len() - 2 * t.samples,
-        noise.len() - 2 * t.samples,
-        records.len() - 66 * t.records,
+        output.len() - used,
+        noise.len() - used,
+        records.len() - 66 * lines,
     );
+    let r = turns::moved(t, p);
     match p {
-        Plan::Halt(w) => halted(t, w),
-        Plan::Drain(n) => write_samples(t, n, t.latest, memory, noise, output),
-        Plan::Due(n, time) => { write_samples(t, n, later(t.latest, time), memory, noise, output) }
-        Plan::Skip(time) => took(t, time, t.ended, 0),
-        Plan::End(time) => took(t, time, true, 0),
+        Plan::Halt(_) => r,
+        Plan::Drain(n) => {
+            due_samples::write_due(memory, noise, output, t.written, t.samples, n);
+            r
+        }
+        Plan::Due(n, _) => {
+            due_samples::write_due(memory, noise, output, t.written, t.samples, n);
+            r
+        }
+        Plan::Skip(_) => r,
+        Plan::End(_) => r,
         Plan::Add(time, first) => {
-            let lines = t.records;
             recorded_replies::add(
                 all,
                 delays,
@@ -185,7 +106,7 @@ fn step(
                 records,
                 66 * lines,
             );
-            took(t, time, t.ended, 1)
+            r
         }
     }
 }

@@ -4,37 +4,30 @@ use borrow.Author.Needs.{needs}
 use native.Mathlib.Omega.{arith}
 use Rattle.due_samples.proofs.fits.Statement.{statement}
 use Rattle.due_samples.proofs.fits.Tie as tie
-use Rattle.due_samples.proofs.fits.Reads as reads
-use Rattle.due_samples.proofs.fits.Lts as lts
 
--- src/lib.rt:70:9
 returns : tie.Need-returns
-returns c = fits-not _ _ _ _ _ _ (λ h. omega (arith, h .memory-is, h .pairs, h .noise-holds, h .output-holds))
+returns c = fits-not _ _ _ _ _ (λ h. omega (arith, h .memory-is, h .noise-holds, h .output-holds))
 
--- src/lib.rt:73:9
 returns-2 : tie.Need-returns-2
-returns-2 c = fits-not _ _ _ _ _ _ (λ h. omega (arith, h .memory-is, h .pairs, h .noise-holds, h .output-holds))
+returns-2 c = fits-not _ _ _ _ _ (λ h. omega (arith, h .memory-is, h .noise-holds, h .output-holds))
 
--- src/lib.rt:76:9
+sub-if3 : tie.Need-sub-if3
+sub-if3 c = search needs
+
 returns-3 : tie.Need-returns-3
-returns-3 c = fits-not _ _ _ _ _ _ (λ h. omega (arith, h .memory-is, h .pairs, h .noise-holds, h .output-holds))
+returns-3 c = fits-not _ _ _ _ _ (λ h. omega (arith, h .memory-is, h .noise-holds, h .output-holds))
 
--- src/lib.rt:79:9
 returns-4 : tie.Need-returns-4
-returns-4 c = fits-not _ _ _ _ _ _ (λ h. omega (arith, h .memory-is, h .pairs, h .noise-holds, h .output-holds))
+returns-4 c = fits-not _ _ _ _ _ (λ h. omega (arith, h .memory-is, h .noise-holds, h .output-holds))
 
--- src/lib.rt:82:9
+sub-if5 : tie.Need-sub-if5
+sub-if5 c = search needs
+
 returns-5 : tie.Need-returns-5
-returns-5 c = fits-not _ _ _ _ _ _ (λ h. omega (arith, h .memory-is, h .pairs, h .noise-holds, h .output-holds))
+returns-5 c = fits-not _ _ _ _ _ (λ h. omega (arith, h .memory-is, h .noise-holds, h .output-holds))
 
--- src/lib.rt:85:9
 returns-6 : tie.Need-returns-6
-returns-6 c = fits-not _ _ _ _ _ _ (λ h. omega (arith, h .memory-is, h .pairs, h .noise-holds, h .output-holds))
-
--- src/lib.rt:66:1
-returns-7 : tie.Need-returns-7
-returns-7 c = fits-if _ _ _ _ _ _ (record { memory-is = search needs; pairs = search needs; noise-holds = search needs; output-holds = search needs })
+returns-6 c = fits-if _ _ _ _ _ (record { memory-is = search needs; noise-holds = search needs; output-holds = search needs })
 
 pub fits-spec : {M : Type 1} → statement M
-fits-spec =
-    tie.close (tie.spec returns returns-2 returns-3 returns-4 returns-5 returns-6 returns-7)
+fits-spec = tie.close (tie.spec returns returns-2 sub-if3 returns-3 returns-4 sub-if5 returns-5 returns-6)
