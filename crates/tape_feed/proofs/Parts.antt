@@ -30,6 +30,9 @@ past-place k size len h g = let p : len < k * size = div-lt-iff-lt-mul h .0 g in
 pub within : (n m : ℕ) {a : ℕ} → a ≡ min n m → a ≤ m
 within n m e = omega (arith, e)
 
+pub room-left : (k m l : ℕ) {n : ℕ} → n ≡ min k m → m ≡ 16384 → l ≡ 16384 → n ≤ l
+room-left k m l e p q = omega (arith, e)
+
 module _ {A : Type 0} where
   drop-past : (n : ℕ) (l : List A) → length l ≤ n → drop n l ≡ []
   drop-past n l h =

@@ -54,6 +54,11 @@ fn after(f: Feed, r: Ran) -> Feed
     }
 }
 
+// Room for a chunk's noise; a function of its own, so that a caller's proof does not compute with 16,384 values.
+fn zeros() -> [f32; 16384] {
+    [0.0f32; 16384]
+}
+
 // One run call on the noise in bytes, 16,384 values at most, lent the draws that are not taken and the room behind the records.
 fn call(
     f: Feed,
@@ -67,7 +72,7 @@ fn call(
 ) -> Feed
     ensures { λ r. ⌜ record { feed = r; memory = now (memory .exit); output = now (output .exit); records = now (records .exit) } ≡ calledOf (now («mode_s» .entry)) (now («mode_ac» .entry)) (now (draws .entry)) (noiseOf (now (bytes .entry))) (record { feed = f; memory = now (memory .entry); output = now (output .entry); records = now (records .entry) }) ⌝ }
 {
-    let mut row = [0.0f32; 16384];
+    let mut row = zeros();
     let n = tape_floats::floats(bytes, &mut row);
     let a = place(f.taken, 65, draws.len());
     let b = place(f.records, 66, records.len());
