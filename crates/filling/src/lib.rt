@@ -1,5 +1,5 @@
 // Filling what opening is lent: two lists written over the prototypes, and working memory set to 0.0. Assumes nothing.
-ghost use Prim.Native.Nat.{min, _≤_};
+ghost use Prim.Native.Nat.{min};
 ghost use mathlib.Core.Bool.{cond};
 ghost use mathlib.Core.Path.{_≡_};
 ghost use lib.ListN.{length};

@@ -1,12 +1,12 @@
 -- A tape's beginning depends on the bytes before its noise alone (`head-of-prefix`), and the first 12,135 tell how many those are (`length-of-prefix`): reading a tape as it comes is the same as having it whole. Assumes nothing.
-use Prim.Native.Nat.{ℕ, zero, suc, _+_, _-_, _*_, _≤_, _<_, min}
+use Prim.Native.Nat.{ℕ, zero, suc, _+_, _-_, _*_, _≤_, min}
 use mathlib.Core.Path.{_≡_, refl, sym, ap, _∙_, subst}
 use mathlib.Core.Bool.{Bool, true, false, cond, _&&_}
 use mathlib.Core.List.{List, [], _∷_}
 use native.Mathlib.Omega.{arith}
 use lib.Dec.{leb}
 use lib.ListN.{length, take, drop, length-take}
-use lib.Seq.{take-take, take-nil, take-all, drop-drop}
+use lib.Seq.{take-take, take-all, drop-drop}
 use lib.Ieee.{Float, binary32, ofBits}
 use borrow.Author.Tests.{le-leb, lt-leb, leb-true, leb-false}
 use Rattle.constants.specs.Rate.{four}
@@ -136,15 +136,10 @@ module _ (tape : List ℕ) (m : ℕ) (low : 12135 ≤ m) (high : leAt 4 tape 121
   unfolding taps
   taps-same = floats-first tape m 3001 127 (omega arith)
 
-  taps-then-same : (q : Counted.Counted) → tapsThen four (take m tape) q ≡ tapsThen four tape q
-  unfolding tapsThen
-  taps-then-same (Counted.the-variants.Of n) = refl
-  taps-then-same Counted.the-variants.Wrong = refl
-
   checked-same : (x : Checked.Checked) → checkedThen four (take m tape) x ≡ checkedThen four tape x
   unfolding checkedThen
   checked-same (Checked.the-variants.Accepted samples all) =
-      ap (tapsThen four (take m tape)) (section-first tape m 123 3001 3001 4 (omega arith) (λ g. omega arith)) ∙ taps-then-same (sectionAt tape 123 3001 3001 4)
+      ap tapsThen (section-first tape m 123 3001 3001 4 (omega arith) (λ g. omega arith))
   checked-same (Checked.the-variants.Refused refusal) = refl
 
   first-same : (q : Counted.Counted) → settingsThen four (take m tape) q ≡ settingsThen four tape q

@@ -99,13 +99,13 @@ prepared-from tape x y z p q s e = e ∙ (λ i. preparedOf four half (p i) (q i)
 
 -- ---- what stands before the taps' values
 module _ (tape : List ℕ) where
-  pub taps-passed : {q : Counted.Counted} {n : ℕ} → q ≡ sectionAt tape 123 3001 3001 4 → q ≡ Counted.the-variants.Of n → Early.the-variants.Passed ≡ tapsThen four tape (sectionAt tape 123 3001 3001 4)
+  pub taps-passed : {q : Counted.Counted} {n : ℕ} → q ≡ sectionAt tape 123 3001 3001 4 → q ≡ Counted.the-variants.Of n → Early.the-variants.Passed ≡ tapsThen (sectionAt tape 123 3001 3001 4)
   unfolding tapsThen
-  taps-passed e f = sym (ap (tapsThen four tape) (sym e ∙ f))
+  taps-passed e f = sym (ap tapsThen (sym e ∙ f))
 
-  pub taps-wrong : {q : Counted.Counted} → q ≡ sectionAt tape 123 3001 3001 4 → q ≡ Counted.the-variants.Wrong → Early.the-variants.Refused 11 ≡ tapsThen four tape (sectionAt tape 123 3001 3001 4)
+  pub taps-wrong : {q : Counted.Counted} → q ≡ sectionAt tape 123 3001 3001 4 → q ≡ Counted.the-variants.Wrong → Early.the-variants.Refused 11 ≡ tapsThen (sectionAt tape 123 3001 3001 4)
   unfolding tapsThen
-  taps-wrong e f = sym (ap (tapsThen four tape) (sym e ∙ f))
+  taps-wrong e f = sym (ap tapsThen (sym e ∙ f))
 
   pub early-wrong : {q : Counted.Counted} → q ≡ sectionAt tape 0 1 1 119 → q ≡ Counted.the-variants.Wrong → Early.the-variants.Refused 11 ≡ earlyOf four tape
   unfolding earlyOf settingsThen
@@ -121,7 +121,7 @@ module _ (tape : List ℕ) where
   unfolding checkedThen
   checked-refused q e f = ap Early.the-variants.Refused f ∙ sym (ap (checkedThen four tape) e)
 
-  pub checked-accepted : {x : Checked.Checked} {r : Early.Early} {m : ℕ} {all : Distributions} → x ≡ Checked.the-variants.Accepted m all → r ≡ tapsThen four tape (sectionAt tape 123 3001 3001 4) → r ≡ checkedThen four tape x
+  pub checked-accepted : {x : Checked.Checked} {r : Early.Early} {m : ℕ} {all : Distributions} → x ≡ Checked.the-variants.Accepted m all → r ≡ tapsThen (sectionAt tape 123 3001 3001 4) → r ≡ checkedThen four tape x
   unfolding checkedThen
   checked-accepted e p = p ∙ sym (ap (checkedThen four tape) e)
 
@@ -130,7 +130,7 @@ module _ (tape : List ℕ) where
   Long Early.the-variants.Passed = 12131 ≤ length tape
   Long (Early.the-variants.Refused number) = Unit {0}
 
-  taps-long : (q : Counted.Counted) → q ≡ sectionAt tape 123 3001 3001 4 → Long (tapsThen four tape q)
+  taps-long : (q : Counted.Counted) → q ≡ sectionAt tape 123 3001 3001 4 → Long (tapsThen q)
   unfolding tapsThen Long
   taps-long (Counted.the-variants.Of n) e = let t = counted tape 123 3001 3001 4 n e refl in omega (arith, t .0, t .2)
   taps-long Counted.the-variants.Wrong e = tt

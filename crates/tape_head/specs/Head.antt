@@ -62,12 +62,13 @@ module _ (sps : ℕ) (tape : List ℕ) where
   unfoldable pub openedFrom : Lent → Opened.Opened
   openedFrom lent = openedOf sps half tapsS tapsAC settingsBytes lent
 
+-- the taps' count and length
+unfoldable pub tapsThen : Counted.Counted → Early.Early
+tapsThen (Counted.the-variants.Of n) = Early.the-variants.Passed
+tapsThen Counted.the-variants.Wrong = Early.the-variants.Refused 11
+
 -- what stands before the taps' values: refusals 1 to 4, then the taps' count and length
 module _ (sps : ℕ) (tape : List ℕ) where
-  unfoldable pub tapsThen : Counted.Counted → Early.Early
-  tapsThen (Counted.the-variants.Of n) = Early.the-variants.Passed
-  tapsThen Counted.the-variants.Wrong = Early.the-variants.Refused 11
-
   unfoldable pub checkedThen : Checked.Checked → Early.Early
   checkedThen (Checked.the-variants.Accepted samples all) = tapsThen (sectionAt tape tapsPlace (tapsCount sps) (tapsCount sps) 4)
   checkedThen (Checked.the-variants.Refused refusal) = Early.the-variants.Refused (numberOf refusal)

@@ -108,7 +108,7 @@ fn opened_then(opened: Opened, tape: &[u8]) -> Beginning
 
 // The taps' count and length.
 fn taps_section(tape: &[u8]) -> Early
-    ensures { λ r. ⌜ r ≡ tapsThen four (now (tape .entry)) (sectionAt (now (tape .entry)) 123 3001 3001 4) ⌝ }
+    ensures { λ r. ⌜ r ≡ tapsThen (sectionAt (now (tape .entry)) 123 3001 3001 4) ⌝ }
 {
     match tape_sections::section(tape, 123, 3001, 3001, 4) {
         Counted::Of(_) => Early::Passed,
