@@ -43,7 +43,7 @@ pub fn config(all: Distributions, time: f64, d: Draw) -> MessageConfig
 pub fn start_at(all: Distributions, delays: Delays, time: f64, rest: &[u8]) -> i64
     ensures { λ r. ⌜ r ≡ startAt all delays time (drawAt (now (rest .entry))) ⌝ }
 {
-    let d = draw::read(rest);
+    let d = draw_reading::read(rest);
     let c = config(all, time, d);
     c.first_sample_index(delays)
 }

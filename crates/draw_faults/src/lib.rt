@@ -13,7 +13,7 @@ pub fn first_fault(draws: &[u8], rates: MessagesPerSecond, all: Distributions) -
     let mut rest = draws;
     let mut k: u64 = 0;
     while 65 <= rest.len() {
-        let d = draw::read(rest);
+        let d = draw_reading::read(rest);
         let f = draw_fields::field_fault(rates, all, d);
         if let Field::Wrong(n) = f {
             return Fault::At(k, n);

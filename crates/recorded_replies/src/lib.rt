@@ -29,7 +29,7 @@ pub fn add(
 )
     ensures { λ _. ⌜ (now (memory .exit) ≡ memoryWith all delays time first (now (rest .entry)) (now («mode_s» .entry)) (now («mode_ac» .entry)) (now (memory .entry))) × (now (records .exit) ≡ recordsWith all delays time first (now (rest .entry)) (now (memory .entry)) at (now (records .entry))) ⌝ }
 {
-    let d = draw::read(rest);
+    let d = draw_reading::read(rest);
     let c = draw_config::config(all, time, d);
     let count = reply_adding::add_reply(
         mode_s,

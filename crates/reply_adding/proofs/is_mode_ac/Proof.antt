@@ -1,5 +1,6 @@
 -- `is_mode_ac` meets its contract. Assumes nothing.
 use borrow.Author.Needs.{needs}
+use mathlib.Core.Path.{sym, ap}
 use Rattle.reply_adding.specs.Mirror.{isModeAC}
 use Rattle.reply_adding.proofs.is_mode_ac.Statement.{statement}
 use Rattle.reply_adding.proofs.is_mode_ac.Tie as tie
@@ -15,15 +16,15 @@ enum-told-3 c = search needs
 
 returns : tie.Need-returns
 unfolding isModeAC
-returns c = search needs
+returns c = sym (ap isModeAC (c .enum-told .given .1))
 
 returns-2 : tie.Need-returns-2
 unfolding isModeAC
-returns-2 c = search needs
+returns-2 c = sym (ap isModeAC (c .enum-told2 .given .1))
 
 returns-3 : tie.Need-returns-3
 unfolding isModeAC
-returns-3 c = search needs
+returns-3 c = sym (ap isModeAC (c .enum-told3 .given .1))
 
 pub is-mode-ac-spec : {M : Type 1} → statement M
 is-mode-ac-spec =

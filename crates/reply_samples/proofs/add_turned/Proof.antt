@@ -1,7 +1,6 @@
 -- `add_turned` meets its contract. Assumes nothing.
 use borrow.Author.Needs.{needs}
-use mathlib.Core.Path.{_≡_}
-use lib.ListN.{length}
+use Rattle.reply_samples.specs.Samples.{turned}
 use Rattle.reply_samples.proofs.Turns.{other-length, other-place, kept, none, added-here, counted-here}
 use Rattle.reply_samples.proofs.add_turned.Statement.{statement}
 use Rattle.reply_samples.proofs.add_turned.Tie as tie
@@ -29,7 +28,7 @@ returns-3 c =
     let t = c .before .before .before .before in
     let a = t .before .before .before .before .args in
     let l = t .before .if1 .left in
-    (added-here (a .memory .now) _ (a .place) _ l (t .if2 .left) (c .before .before .add-from .ensures), counted-here (a .memory .now) (a .place) _ l (t .if2 .left), search needs)
+    (added-here (a .memory .now) _ (a .place) (turned (a .amplitude) (a .rate) (a .phase) (a .values .now)) l (t .if2 .left) (c .before .before .add-from .ensures), counted-here (a .memory .now) (a .place) _ l (t .if2 .left), search needs)
 
 pub add-turned-spec : {M : Type 1} → statement M
 add-turned-spec = tie.close (tie.spec returns returns-2 add-from-requires same-length returns-3)

@@ -1,8 +1,8 @@
--- `draw::read` meets its contract. Assumes nothing.
+-- `draw_reading::read` meets its contract. Assumes nothing.
 use borrow.Author.Needs.{needs}
-use Rattle.draw.specs.Draw.{drawAt}
-use Rattle.draw.proofs.read.Statement.{statement}
-use Rattle.draw.proofs.read.Tie as tie
+use Rattle.draw_reading.proofs.Fields.{draw-is}
+use Rattle.draw_reading.proofs.read.Statement.{statement}
+use Rattle.draw_reading.proofs.read.Tie as tie
 
 picks-requires : tie.Need-picks-requires
 picks-requires c κs = search needs
@@ -29,9 +29,7 @@ f64-at-requires-5 : tie.Need-f64-at-requires-5
 f64-at-requires-5 c κs = search needs
 
 returns : tie.Need-returns
-unfolding drawAt
-returns c =
-    rw (c .f64-at5 .ensures, c .before .f64-at4 .ensures, c .before .before .f64-at3 .ensures, c .before .before .before .f32-at .ensures, c .before .before .before .before .f64-at2 .ensures, c .before .before .before .before .before .byte-at .ensures, c .before .before .before .before .before .before .f64-at .ensures, c .before .before .before .before .before .before .before .picks .ensures)
+returns c = draw-is (c .before .before .before .before .before .before .before .before .before .args .s .now) _ _ _ _ _ _ _ _ (c .before .before .before .before .before .before .f64-at .ensures) (c .before .before .before .before .before .byte-at .ensures) (c .before .before .before .before .f64-at2 .ensures) (c .before .before .before .f32-at .ensures) (c .before .before .f64-at3 .ensures) (c .before .f64-at4 .ensures) (c .f64-at5 .ensures) (c .before .before .before .before .before .before .before .picks .ensures)
 
 pub read-spec : {M : Type 1} → statement M
 read-spec =

@@ -1,8 +1,8 @@
--- `draw::picks` meets its contract. Assumes nothing.
+-- `draw_reading::picks` meets its contract. Assumes nothing.
 use borrow.Author.Needs.{needs}
-use Rattle.draw.specs.Draw.{picksAt}
-use Rattle.draw.proofs.picks.Statement.{statement}
-use Rattle.draw.proofs.picks.Tie as tie
+use Rattle.draw_reading.proofs.Fields.{picks-are}
+use Rattle.draw_reading.proofs.picks.Statement.{statement}
+use Rattle.draw_reading.proofs.picks.Tie as tie
 
 message-bytes-requires : tie.Need-message-bytes-requires
 message-bytes-requires c κs = search needs
@@ -23,9 +23,7 @@ byte-at-requires-4 : tie.Need-byte-at-requires-4
 byte-at-requires-4 c κs = search needs
 
 returns : tie.Need-returns
-unfolding picksAt
-returns c =
-    rw (c .byte-at4 .ensures, c .before .u16-at .ensures, c .before .before .byte-at3 .ensures, c .before .before .before .byte-at2 .ensures, c .before .before .before .before .byte-at .ensures, c .before .before .before .before .before .message-bytes .ensures)
+returns c = picks-are (c .before .before .before .before .before .before .before .args .s .now) _ _ _ _ _ _ (c .before .before .before .before .byte-at .ensures) (c .before .before .before .byte-at2 .ensures) (c .before .before .byte-at3 .ensures) (c .before .before .before .before .before .message-bytes .ensures) (c .before .u16-at .ensures) (c .byte-at4 .ensures)
 
 pub picks-spec : {M : Type 1} → statement M
 picks-spec =

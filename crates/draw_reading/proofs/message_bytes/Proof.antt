@@ -1,8 +1,8 @@
--- `draw::message_bytes` meets its contract. Assumes nothing.
+-- `draw_reading::message_bytes` meets its contract. Assumes nothing.
 use borrow.Author.Needs.{needs}
-use Rattle.draw.specs.Draw.{bytesAt}
-use Rattle.draw.proofs.message_bytes.Statement.{statement}
-use Rattle.draw.proofs.message_bytes.Tie as tie
+use Rattle.draw_reading.proofs.Fields.{bytes-are}
+use Rattle.draw_reading.proofs.message_bytes.Statement.{statement}
+use Rattle.draw_reading.proofs.message_bytes.Tie as tie
 
 byte-at-requires : tie.Need-byte-at-requires
 byte-at-requires c κs = search needs
@@ -47,9 +47,7 @@ byte-at-requires-14 : tie.Need-byte-at-requires-14
 byte-at-requires-14 c κs = search needs
 
 returns : tie.Need-returns
-unfolding bytesAt
-returns c =
-    rw (c .byte-at14 .ensures, c .before .byte-at13 .ensures, c .before .before .byte-at12 .ensures, c .before .before .before .byte-at11 .ensures, c .before .before .before .before .byte-at10 .ensures, c .before .before .before .before .before .byte-at9 .ensures, c .before .before .before .before .before .before .byte-at8 .ensures, c .before .before .before .before .before .before .before .byte-at7 .ensures, c .before .before .before .before .before .before .before .before .byte-at6 .ensures, c .before .before .before .before .before .before .before .before .before .byte-at5 .ensures, c .before .before .before .before .before .before .before .before .before .before .byte-at4 .ensures, c .before .before .before .before .before .before .before .before .before .before .before .byte-at3 .ensures, c .before .before .before .before .before .before .before .before .before .before .before .before .byte-at2 .ensures, c .before .before .before .before .before .before .before .before .before .before .before .before .before .byte-at .ensures)
+returns c = bytes-are (c .before .before .before .before .before .before .before .before .before .before .before .before .before .before .before .args .s .now) _ _ _ _ _ _ _ _ _ _ _ _ _ _ (c .before .before .before .before .before .before .before .before .before .before .before .before .before .byte-at .ensures) (c .before .before .before .before .before .before .before .before .before .before .before .before .byte-at2 .ensures) (c .before .before .before .before .before .before .before .before .before .before .before .byte-at3 .ensures) (c .before .before .before .before .before .before .before .before .before .before .byte-at4 .ensures) (c .before .before .before .before .before .before .before .before .before .byte-at5 .ensures) (c .before .before .before .before .before .before .before .before .byte-at6 .ensures) (c .before .before .before .before .before .before .before .byte-at7 .ensures) (c .before .before .before .before .before .before .byte-at8 .ensures) (c .before .before .before .before .before .byte-at9 .ensures) (c .before .before .before .before .byte-at10 .ensures) (c .before .before .before .byte-at11 .ensures) (c .before .before .byte-at12 .ensures) (c .before .byte-at13 .ensures) (c .byte-at14 .ensures)
 
 pub message-bytes-spec : {M : Type 1} → statement M
 message-bytes-spec =
