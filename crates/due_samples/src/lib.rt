@@ -97,16 +97,11 @@ fn fits(memory: usize, noise: usize, output: usize, samples: usize, n: usize) ->
     if memory != 2252 {
         return false;
     }
-    if noise / 2 < samples {
+    let room = least(noise, output) / 2;
+    if room < samples {
         return false;
     }
-    if noise / 2 - samples < n {
-        return false;
-    }
-    if output / 2 < samples {
-        return false;
-    }
-    if output / 2 - samples < n {
+    if room - samples < n {
         return false;
     }
     true

@@ -8,7 +8,6 @@ use lib.Ieee.{Float}
 use Rattle.constants.specs.Rate.{four}
 use Rattle.refusals.specs.declared.Refusal.{Refusal}
 use Rattle.refusals.specs.Number.{numberOf}
-use Rattle.settings.specs.declared.MessagesPerSecond.{MessagesPerSecond}
 use Rattle.settings.specs.declared.Distributions.{Distributions}
 use Rattle.opening.specs.declared.Opened as Opened
 use Rattle.opening.specs.Opening as Opening
@@ -20,27 +19,22 @@ use Rattle.running.specs.declared.Ran.{Ran}
 use Rattle.running.specs.Ended.{Left}
 use Rattle.running.specs.Calls.{runLeft}
 use Rattle.more1090_generator.specs.declared.FlatDistribution.{FlatDistribution}
-use Rattle.more1090_generator.specs.declared.FlatRates.{FlatRates}
 use Rattle.more1090_generator.specs.declared.FlatState.{FlatState}
 use Rattle.more1090_generator.specs.declared.FlatOpened.{FlatOpened}
 use Rattle.more1090_generator.specs.declared.FlatAnswer.{FlatAnswer}
 use Rattle.more1090_generator.specs.declared.FlatRan.{FlatRan}
 use Rattle.more1090_generator.specs.declared.Values.{Values}
-use Rattle.more1090_generator.specs.States.{zero64, distributionOf, carrierFlat, phaseFlat, clockFlat, carrierFrom, phaseFrom, clockFrom, ratesFlat, ratesFrom, flatOf, stateFrom, noRates, noState}
+use Rattle.more1090_generator.specs.States.{carrierFlat, phaseFlat, clockFlat, carrierFrom, phaseFrom, clockFrom, ratesFlat, ratesFrom, flatOf, stateFrom, noState}
 use Rattle.running.specs.Ended.{stopNumber}
 use Rattle.more1090_generator.specs.Answers.{valuesFlat, openedFlat, told, answered, ranFlat, FlatLeft, leftFlat, flatRunLeft}
 
-pub state-flat : (s : State) (rates : FlatRates) (carrier phase clock : FlatDistribution) (ended : ℕ) → rates ≡ ratesFlat (s .rates) → carrier ≡ carrierFlat (s .distributions .carrier) → phase ≡ phaseFlat (s .distributions .phase) → clock ≡ clockFlat (s .distributions .clock) → ended ≡ cond (s .ended) 1 0 → record { written = s .written; total = s .total; time = s .time; latest = s .latest; rates = rates; «mode_s_delay» = s .delays .«mode_s»; «mode_ac_delay» = s .delays .«mode_ac»; carrier = carrier; phase = phase; clock = clock; ended = ended } ≡ flatOf s
+pub state-flat : (s : State) (carrier phase clock : FlatDistribution) (ended : ℕ) → carrier ≡ carrierFlat (s .distributions .carrier) → phase ≡ phaseFlat (s .distributions .phase) → clock ≡ clockFlat (s .distributions .clock) → ended ≡ cond (s .ended) 1 0 → record { written = s .written; total = s .total; time = s .time; latest = s .latest; rates = ratesFlat (s .rates); «mode_s_delay» = s .delays .«mode_s»; «mode_ac_delay» = s .delays .«mode_ac»; carrier = carrier; phase = phase; clock = clock; ended = ended } ≡ flatOf s
 unfolding flatOf
-state-flat s rates carrier phase clock ended r c p k e = λ i. record { written = s .written; total = s .total; time = s .time; latest = s .latest; rates = r i; «mode_s_delay» = s .delays .«mode_s»; «mode_ac_delay» = s .delays .«mode_ac»; carrier = c i; phase = p i; clock = k i; ended = e i }
+state-flat s carrier phase clock ended c p k e = λ i. record { written = s .written; total = s .total; time = s .time; latest = s .latest; rates = ratesFlat (s .rates); «mode_s_delay» = s .delays .«mode_s»; «mode_ac_delay» = s .delays .«mode_ac»; carrier = c i; phase = p i; clock = k i; ended = e i }
 
-pub state-read : (f : FlatState) (rates : MessagesPerSecond) (all : Distributions) → rates ≡ ratesFrom (f .rates) → all ≡ record { carrier = carrierFrom (f .carrier); phase = phaseFrom (f .phase); clock = clockFrom (f .clock) } → record { written = f .written; total = f .total; time = f .time; latest = f .latest; ended = not (eqb (f .ended) 0); rates = rates; delays = record { «mode_s» = f .«mode_s_delay»; «mode_ac» = f .«mode_ac_delay» }; distributions = all } ≡ stateFrom f
+pub state-read : (f : FlatState) (all : Distributions) → all ≡ record { carrier = carrierFrom (f .carrier); phase = phaseFrom (f .phase); clock = clockFrom (f .clock) } → record { written = f .written; total = f .total; time = f .time; latest = f .latest; ended = not (eqb (f .ended) 0); rates = ratesFrom (f .rates); delays = record { «mode_s» = f .«mode_s_delay»; «mode_ac» = f .«mode_ac_delay» }; distributions = all } ≡ stateFrom f
 unfolding stateFrom
-state-read f rates all r d = λ i. record { written = f .written; total = f .total; time = f .time; latest = f .latest; ended = not (eqb (f .ended) 0); rates = r i; delays = record { «mode_s» = f .«mode_s_delay»; «mode_ac» = f .«mode_ac_delay» }; distributions = d i }
-
-pub no-state : (r : FlatRates) → r ≡ noRates → record { written = 0; total = 0; time = zero64; latest = zero64; rates = r; «mode_s_delay» = zero64; «mode_ac_delay» = zero64; carrier = distributionOf 0 zero64 zero64; phase = distributionOf 0 zero64 zero64; clock = distributionOf 0 zero64 zero64; ended = 0 } ≡ noState
-unfolding noState
-no-state r a = λ i. record { written = 0; total = 0; time = zero64; latest = zero64; rates = a i; «mode_s_delay» = zero64; «mode_ac_delay» = zero64; carrier = distributionOf 0 zero64 zero64; phase = distributionOf 0 zero64 zero64; clock = distributionOf 0 zero64 zero64; ended = 0 }
+state-read f all d = λ i. record { written = f .written; total = f .total; time = f .time; latest = f .latest; ended = not (eqb (f .ended) 0); rates = ratesFrom (f .rates); delays = record { «mode_s» = f .«mode_s_delay»; «mode_ac» = f .«mode_ac_delay» }; distributions = d i }
 
 opened : FlatState → ℕ → ℕ → FlatOpened
 opened f n v = record { state = f; refusal = n; value = v }

@@ -3,7 +3,7 @@ ghost use mathlib.Core.Path.{_≡_};
 ghost use mathlib.Core.Bool.{cond};
 ghost use Rattle.constants.specs.Rate.{four};
 ghost use Rattle.opening.specs.Opening.{half, openedOf, leftBy};
-ghost use Rattle.more1090_generator.specs.States.{carrierFlat, phaseFlat, clockFlat, carrierFrom, phaseFrom, clockFrom, ratesFlat, ratesFrom, flatOf, stateFrom, noRates, noState};
+ghost use Rattle.more1090_generator.specs.States.{carrierFlat, phaseFlat, clockFlat, carrierFrom, phaseFrom, clockFrom, flatOf, stateFrom, noState};
 ghost use Rattle.running.specs.Ended.{stopNumber};
 ghost use Rattle.more1090_generator.specs.Answers.{valuesFlat, openedFlat, answered, ranFlat, flatRunLeft};
 use distributions::CarrierOffset;
@@ -161,34 +161,6 @@ fn clock_in(f: FlatDistribution) -> ClockError
     ClockError::Uniform(f.first)
 }
 
-fn rates_out(rates: MessagesPerSecond) -> FlatRates
-    ensures { λ r. ⌜ r ≡ ratesFlat rates ⌝ }
-{
-    FlatRates {
-        extended_squitter: rates.extended_squitter,
-        acquisition_squitter: rates.acquisition_squitter,
-        short_ap: rates.short_ap,
-        all_call_reply: rates.all_call_reply,
-        long_ap: rates.long_ap,
-        military_extended_squitter: rates.military_extended_squitter,
-        mode_ac: rates.mode_ac,
-    }
-}
-
-fn rates_in(f: FlatRates) -> MessagesPerSecond
-    ensures { λ r. ⌜ r ≡ ratesFrom f ⌝ }
-{
-    MessagesPerSecond {
-        extended_squitter: f.extended_squitter,
-        acquisition_squitter: f.acquisition_squitter,
-        short_ap: f.short_ap,
-        all_call_reply: f.all_call_reply,
-        long_ap: f.long_ap,
-        military_extended_squitter: f.military_extended_squitter,
-        mode_ac: f.mode_ac,
-    }
-}
-
 fn distributions_in(
     carrier: FlatDistribution,
     phase: FlatDistribution,
@@ -224,7 +196,6 @@ fn state_out(s: State) -> FlatState
     let clock = all.clock;
     let rates = s.rates;
     let delays = s.delays;
-    let r = rates_out(rates);
     let c = carrier_out(carrier);
     let p = phase_out(phase);
     let e = clock_out(clock);
@@ -233,7 +204,15 @@ fn state_out(s: State) -> FlatState
         total: s.total,
         time: s.time,
         latest: s.latest,
-        rates: r,
+        rates: FlatRates {
+            extended_squitter: rates.extended_squitter,
+            acquisition_squitter: rates.acquisition_squitter,
+            short_ap: rates.short_ap,
+            all_call_reply: rates.all_call_reply,
+            long_ap: rates.long_ap,
+            military_extended_squitter: rates.military_extended_squitter,
+            mode_ac: rates.mode_ac,
+        },
         mode_s_delay: delays.mode_s,
         mode_ac_delay: delays.mode_ac,
         carrier: c,
@@ -250,7 +229,6 @@ fn state_in(f: FlatState) -> State
     let carrier = f.carrier;
     let phase = f.phase;
     let clock = f.clock;
-    let r = rates_in(rates);
     let all = distributions_in(carrier, phase, clock);
     State {
         written: f.written,
@@ -258,7 +236,15 @@ fn state_in(f: FlatState) -> State
         time: f.time,
         latest: f.latest,
         ended: f.ended != 0,
-        rates: r,
+        rates: MessagesPerSecond {
+            extended_squitter: rates.extended_squitter,
+            acquisition_squitter: rates.acquisition_squitter,
+            short_ap: rates.short_ap,
+            all_call_reply: rates.all_call_reply,
+            long_ap: rates.long_ap,
+            military_extended_squitter: rates.military_extended_squitter,
+            mode_ac: rates.mode_ac,
+        },
         delays: Delays {
             mode_s: f.mode_s_delay,
             mode_ac: f.mode_ac_delay,
@@ -267,25 +253,10 @@ fn state_in(f: FlatState) -> State
     }
 }
 
-fn no_rates() -> FlatRates
-    ensures { λ r. ⌜ r ≡ noRates ⌝ }
-{
-    FlatRates {
-        extended_squitter: 0.0,
-        acquisition_squitter: 0.0,
-        short_ap: 0.0,
-        all_call_reply: 0.0,
-        long_ap: 0.0,
-        military_extended_squitter: 0.0,
-        mode_ac: 0.0,
-    }
-}
-
 // What a refused opening tells as its state.
 fn no_state() -> FlatState
     ensures { λ r. ⌜ r ≡ noState ⌝ }
 {
-    let rates = no_rates();
     let none = FlatDistribution {
         kind: 0,
         first: 0.0,
@@ -296,7 +267,15 @@ fn no_state() -> FlatState
         total: 0,
         time: 0.0,
         latest: 0.0,
-        rates: rates,
+        rates: FlatRates {
+            extended_squitter: 0.0,
+            acquisition_squitter: 0.0,
+            short_ap: 0.0,
+            all_call_reply: 0.0,
+            long_ap: 0.0,
+            military_extended_squitter: 0.0,
+            mode_ac: 0.0,
+        },
         mode_s_delay: 0.0,
         mode_ac_delay: 0.0,
         carrier: none,

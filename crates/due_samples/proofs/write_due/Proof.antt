@@ -42,7 +42,8 @@ returns-2 : tie.Need-returns-2
 returns-2 c =
     let z = c .before .before .before .before in
     let e = c .before .before .before .before .before .before .before in
-    changed _ _ _ _ _ _ _ _ (sym (not-false _ (e .if1 .left)) ∙ e .before .fits2 .ensures) (z .write-all .ensures .0) (z .write-all .ensures .1)
+    let a = e .before .before .before .before .before .args in
+    changed (a .noise .now) (a .written) (a .samples) (a .n) (a .memory .now) (a .output .now) _ _ (sym (not-false _ (e .if1 .left)) ∙ e .before .fits2 .ensures) (z .write-all .ensures .0) (z .write-all .ensures .1)
 
 pub write-due-spec : {M : Type 1} → statement M
 write-due-spec = tie.close (tie.spec fits-requires returns mul-at mul-write-all write-all-requires same-length same-length-2 returns-2)

@@ -1,11 +1,9 @@
 -- `state_out` meets its contract. Assumes nothing.
 use borrow.Author.Needs.{needs}
+use Rattle.more1090_generator.specs.States.{ratesFlat}
 use Rattle.more1090_generator.proofs.Joined.{state-flat}
 use Rattle.more1090_generator.proofs.state_out.Statement.{statement}
 use Rattle.more1090_generator.proofs.state_out.Tie as tie
-
-rates-out-requires : tie.Need-rates-out-requires
-rates-out-requires c κs = search needs
 
 carrier-out-requires : tie.Need-carrier-out-requires
 carrier-out-requires c κs = search needs
@@ -20,13 +18,13 @@ ended-out-requires : tie.Need-ended-out-requires
 ended-out-requires c κs = search needs
 
 returns : tie.Need-returns
-returns c = state-flat (c .before .before .before .before .before .before .before .before .args .s) _ _ _ _ _ (c .before .before .before .before .rates-out .ensures) (c .before .before .before .carrier-out .ensures) (c .before .before .phase-out .ensures) (c .before .clock-out .ensures) (c .ended-out .ensures)
+unfolding ratesFlat
+returns c = state-flat (c .before .before .before .before .before .before .before .args .s) _ _ _ _ (c .before .before .before .carrier-out .ensures) (c .before .before .phase-out .ensures) (c .before .clock-out .ensures) (c .ended-out .ensures)
 
 pub state-out-spec : {M : Type 1} → statement M
 state-out-spec =
     tie.close
     (tie.spec
-    rates-out-requires
     carrier-out-requires
     phase-out-requires
     clock-out-requires
