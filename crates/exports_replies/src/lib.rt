@@ -18,10 +18,10 @@ pub extern "C" fn port_parity(bytes: &[u8]) -> u32
     mode_s::parity(bytes)
 }
 
-fn make_found(found: TypeFound, p: Picks) -> Made
-    ensures { λ r. ⌜ r ≡ madeFor found p ⌝ }
+fn make(n: u8, p: Picks) -> Made
+    ensures { λ r. ⌜ r ≡ madeFor (typeNumbered n) p ⌝ }
 {
-    match found {
+    match message::message_type(n) {
         TypeFound::Of(t) => message_making::make(t, p),
         TypeFound::Unknown => Made {
             fault: Field::Wrong(1),
@@ -31,12 +31,6 @@ fn make_found(found: TypeFound, p: Picks) -> Made
             },
         },
     }
-}
-
-fn make(n: u8, p: Picks) -> Made
-    ensures { λ r. ⌜ r ≡ madeFor (typeNumbered n) p ⌝ }
-{
-    make_found(message::message_type(n), p)
 }
 
 fn field_number(f: Field) -> u64

@@ -61,19 +61,11 @@ pub fn le_f64(s: &[u8], at: usize) -> ReadF64
 pub fn f32_at(s: &[u8], at: usize) -> f32
     ensures { λ r. ⌜ r ≡ ofBits binary32 (numberAt 4 (now (s .entry)) at) ⌝ }
 {
-    match le_f32(s, at) {
-        ReadF32::Value(x) => x,
-        ReadF32::Nan => 0.0 / 0.0,
-        ReadF32::Past => 0.0,
-    }
+    float_patterns::f32_of(le_at::u32_at(s, at))
 }
 
 pub fn f64_at(s: &[u8], at: usize) -> f64
     ensures { λ r. ⌜ r ≡ ofBits binary64 (numberAt 8 (now (s .entry)) at) ⌝ }
 {
-    match le_f64(s, at) {
-        ReadF64::Value(x) => x,
-        ReadF64::Nan => 0.0 / 0.0,
-        ReadF64::Past => 0.0,
-    }
+    float_patterns::f64_of(le_at::u64_at(s, at))
 }

@@ -66,7 +66,9 @@ module _ (p : Picks) (fourteen : length (p .bytes) ≡ 14) where
   short-ap-reply = ap (λ (m : List ℕ). reply Short (filled (byte0 ShortAp p ∷ m))) (sym (bytes-1-to-6 (p .bytes) fourteen))
 
   pub acquisition-reply
-      : reply Short
+      : {r : Reply}
+      → r
+      ≡ reply Short
       (filled
       (sealed
       ((11 * 8 + getD capabilities (p .capability) 0)
@@ -74,10 +76,10 @@ module _ (p : Picks) (fourteen : length (p .bytes) ≡ 14) where
       ∷ getD (p .bytes) 2 0
       ∷ getD (p .bytes) 3 0
       ∷ []) 0))
-      ≡ replyOf AcquisitionSquitter p
+      → r ≡ replyOf AcquisitionSquitter p
   unfolding replyOf kindOf messageBytes byte0 formatOf formats subfields lowBits later
-  acquisition-reply =
-      ap (λ (m : List ℕ). reply Short (filled (sealed (byte0 AcquisitionSquitter p ∷ m) 0))) (sym (bytes-1-to-3 (p .bytes) fourteen))
+  acquisition-reply e =
+      e ∙ ap (λ (m : List ℕ). reply Short (filled (sealed (byte0 AcquisitionSquitter p ∷ m) 0))) (sym (bytes-1-to-3 (p .bytes) fourteen))
 
   unsealed-length : (first : ℕ) → length (first ∷ take 13 (drop 1 (p .bytes))) ≡ 14
   unsealed-length first = simp (length-take, length-drop) (omega arith)

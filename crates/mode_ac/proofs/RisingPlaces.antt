@@ -5,7 +5,7 @@ use Prim.Native.Nat.{ℕ, zero, suc, _+_, _-_, _<_}
 use native.Mathlib.Omega.{arith}
 use lib.Dec.{T, ltb, ltb→lt}
 use Rattle.mode_ac.specs.Places.{placeOf}
-use Rattle.mode_ac.proofs.Below.{below}
+use Rattle.mode_s.proofs.Below.{below}
 
 above : ℕ → Bool
 above n = ltb 0 (placeOf n)

@@ -1,34 +1,18 @@
--- `f64_at` meets its contract: its answer is made of `le_f64`'s, and 0.0 / 0.0 is a NaN. Assumes nothing.
-use mathlib.Core.Path.{sym, ap, _∙_}
-use lib.Ieee.{div, ofBits}
-use Rattle.le_floats.proofs.Answers.{float64, is-float64}
+-- `f64_at` meets its contract: the float of the number at the place. Assumes nothing.
+use mathlib.Core.Path.{ap, _∙_}
+use lib.Ieee.{binary64, ofBits}
 use borrow.Author.Needs.{needs}
 use Rattle.le_floats.proofs.f64_at.Statement.{statement}
 use Rattle.le_floats.proofs.f64_at.Tie as tie
 
-le-f64-requires : tie.Need-le-f64-requires
-le-f64-requires c κs = search needs
+u64-at-requires : tie.Need-u64-at-requires
+u64-at-requires c κs = search needs
 
-enum-known-x : tie.Need-enum-known-x
-enum-known-x c = search needs
-
-enum-told : tie.Need-enum-told
-enum-told c = search needs
-
-enum-told-2 : tie.Need-enum-told-2
-enum-told-2 c = search needs
+f64-of-requires : tie.Need-f64-of-requires
+f64-of-requires c κs = search needs
 
 returns : tie.Need-returns
-returns c = sym (ap float64 (c .before .x .given .1)) ∙ is-float64 (c .before .before .before .before .before .args .s .now) (c .before .before .before .before .before .args .at) (c .before .before .before .le-f64 .ensures)
-
-returns-2 : tie.Need-returns-2
-unfolding div ofBits
-returns-2 c = sym (ap float64 (c .enum-told .given .1)) ∙ is-float64 (c .before .before .before .before .args .s .now) (c .before .before .before .before .args .at) (c .before .before .le-f64 .ensures)
-
-returns-3 : tie.Need-returns-3
-returns-3 c = sym (ap float64 (c .enum-told2 .given .1)) ∙ is-float64 (c .before .before .before .before .args .s .now) (c .before .before .before .before .args .at) (c .before .before .le-f64 .ensures)
+returns c = c .f64-of .ensures ∙ ap (ofBits binary64) (c .before .u64-at .ensures)
 
 pub f64-at-spec : {M : Type 1} → statement M
-f64-at-spec =
-    tie.close
-    (tie.spec le-f64-requires enum-known-x enum-told enum-told-2 returns returns-2 returns-3)
+f64-at-spec = tie.close (tie.spec u64-at-requires f64-of-requires returns)

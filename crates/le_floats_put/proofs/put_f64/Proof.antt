@@ -5,8 +5,8 @@ use borrow.Author.Needs.{needs}
 use Rattle.le_floats_put.proofs.put_f64.Statement.{statement}
 use Rattle.le_floats_put.proofs.put_f64.Tie as tie
 
-bits-of-f64-requires : tie.Need-bits-of-f64-requires
-bits-of-f64-requires c κs = search needs
+bits-of-requires : tie.Need-bits-of-requires
+bits-of-requires c κs = search needs
 
 put-u64-requires : tie.Need-put-u64-requires
 put-u64-requires c κs = search needs
@@ -18,7 +18,7 @@ returns : tie.Need-returns
 returns c =
     let e = c .before .before .put-u64 .ensures in
     let a = c .before .before .before .before .before .before .args in
-    (e .0, e .1 ∙ ap (put 8 (a .d .now) (a .at)) (c .before .before .before .bits-of-f64 .ensures))
+    (e .0, e .1 ∙ ap (put 8 (a .d .now) (a .at)) (c .before .before .before .bits-of .ensures))
 
 pub put-f64-spec : {M : Type 1} → statement M
-put-f64-spec = tie.close (tie.spec bits-of-f64-requires put-u64-requires same-length returns)
+put-f64-spec = tie.close (tie.spec bits-of-requires put-u64-requires same-length returns)

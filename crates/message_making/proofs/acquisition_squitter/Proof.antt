@@ -1,5 +1,5 @@
 -- `message_making::acquisition_squitter` meets its contract. Assumes nothing.
-use mathlib.Core.Path.{_≡_, _∙_}
+use mathlib.Core.Path.{_≡_}
 use borrow.Author.Needs.{needs}
 use native.Mathlib.Omega.{arith}
 use lib.ListN.{length}
@@ -38,7 +38,7 @@ returns : tie.Need-returns
 returns c =
     let a = c .before .before .before .args in
     let h : length (a .p .bytes) ≡ 14 = search needs in
-    c .sealed-short .ensures ∙ acquisition-reply (a .p) h
+    acquisition-reply (a .p) h (c .sealed-short .ensures)
 
 pub acquisition-squitter-spec : {M : Type 1} → statement M
 acquisition-squitter-spec =
