@@ -1,1 +1,2 @@
 pub mod FedIsRun
+pub mod CountsExact

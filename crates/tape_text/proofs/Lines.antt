@@ -5,10 +5,10 @@ use mathlib.Core.Bool.{Bool, true, false, cond}
 use mathlib.Core.List.{List, [], _∷_, _++_, append-assoc, append-nil}
 use native.Mathlib.Omega.{arith}
 use native.Mathlib.Numerals.{add-one}
-use lib.Dec.{eqb}
-use lib.ListN.{length, getD, take, drop, length-append, length-drop}
-use lib.Seq.{take-all, drop-drop, length-take-le}
-use borrow.Author.Tests.{eq-eqb, ne-eqb}
+use lib.Dec.{eqb, leb}
+use lib.ListN.{length, getD, take, drop, length-append, length-take, length-drop}
+use lib.Seq.{take-all, take-take, drop-drop, length-take-le}
+use borrow.Author.Tests.{eq-eqb, ne-eqb, leb-true, leb-false}
 use Rattle.io.specs.Counts.{Counts}
 use Rattle.io.specs.Digits.{digits, Fewest}
 use Rattle.le_bytes.specs.LeBytes.{leAt, numberAt, laid}
@@ -48,7 +48,16 @@ message-put {m} {b} {s} {d} {at} {r} e h p = (subst (λ (l : List ℕ). Put (hex
 pub mode-ac-put : (r : List ℕ) {s d : List ℕ} {at e high low : ℕ} → getD r 48 0 ≡ 6 → high ≡ getD r 53 0 → low ≡ getD r 52 0 → Put (hexLine (high ∷ low ∷ [])) s at d e → Put (hexLine (messageOf r)) s at d e × (e ≤ at + 29)
 unfolding messageOf
 mode-ac-put r h x y p =
-    message-put ((λ i. x i ∷ y i ∷ []) ∙ sym (ap (λ (b : Bool). cond b (getD r 53 0 ∷ getD r 52 0 ∷ []) (take (min (getD r 51 0) 14) (drop 52 r))) (eq-eqb (getD r 48 0) 6 h))) (omega arith) p
+    message-put ((λ i. x i ∷ y i ∷ []) ∙ sym (ap (λ (b : Bool). cond b (getD r 53 0 ∷ getD r 52 0 ∷ []) (take (getD r 51 0) (take 14 (drop 52 r)))) (eq-eqb (getD r 48 0) 6 h))) (omega arith) p
+
+take-min : (w k : ℕ) (l : List ℕ) → take (min w k) l ≡ take w (take k l)
+take-min w k l = go (leb w k) refl
+  where
+    go : (b : Bool) → leb w k ≡ b → take (min w k) l ≡ take w (take k l)
+    go true t = ap (λ (n : ℕ). take n l) {x = min w k} {y = w} (omega (arith, leb-true w k t)) ∙ sym (take-take w k l (leb-true w k t))
+    go false t =
+        ap (λ (n : ℕ). take n l) {x = min w k} {y = k} (omega (arith, leb-false w k t))
+        ∙ sym (take-all w (take k l) (omega (arith, leb-false w k t, length-take k l)))
 
 pub mode-s-put : (r : List ℕ) {s d : List ℕ} {at e n w : ℕ} → 66 ≤ length r → (getD r 48 0 ≡ 6 → ⊥) → w ≡ getD r 51 0 → n ≡ min w 14 → Put (hexLine (take n (take (length r - 52) (drop 52 r)))) s at d e
     → Put (hexLine (messageOf r)) s at d e × (e ≤ at + 29)
@@ -58,7 +67,8 @@ mode-s-put r {n = n} {w = w} l h v m p =
     let z : n ≤ 14 = omega arith in
     message-put
     (ap (take n) q ∙ ap (λ (k : ℕ). take k (drop 52 r)) (m ∙ ap (λ (x : ℕ). min x 14) v)
-    ∙ sym (ap (λ (b : Bool). cond b (getD r 53 0 ∷ getD r 52 0 ∷ []) (take (min (getD r 51 0) 14) (drop 52 r))) (ne-eqb (getD r 48 0) 6 h)))
+    ∙ take-min (getD r 51 0) 14 (drop 52 r)
+    ∙ sym (ap (λ (b : Bool). cond b (getD r 53 0 ∷ getD r 52 0 ∷ []) (take (getD r 51 0) (take 14 (drop 52 r)))) (ne-eqb (getD r 48 0) 6 h)))
     (omega (arith, length-take-le n (take (length r - 52) (drop 52 r)) (omega (arith, ap length q, length-drop 52 r))))
     p
 

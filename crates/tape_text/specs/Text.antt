@@ -25,9 +25,9 @@ unfoldable pub hex : List ℕ → List ℕ
 hex [] = []
 hex (b ∷ bs) = hexDigit (b / 16) ∷ hexDigit (b % 16) ∷ hex bs
 
--- "Message in hexadecimal, Mode A/C as four digits of the u16": its bytes as they are printed, of a record of 66 bytes
+-- "Message in hexadecimal, Mode A/C as four digits of the u16": its bytes as they are printed, of a record of 66 bytes, which ends in "message length u8; 14 bytes, zero filled"
 unfoldable pub messageOf : List ℕ → List ℕ
-messageOf r = cond (eqb (getD r 48 0) 6) (getD r 53 0 ∷ getD r 52 0 ∷ []) (take (min (getD r 51 0) 14) (drop 52 r))
+messageOf r = cond (eqb (getD r 48 0) 6) (getD r 53 0 ∷ getD r 52 0 ∷ []) (take (getD r 51 0) (take 14 (drop 52 r)))
 
 -- bytes in hexadecimal, and the line's end
 unfoldable pub hexLine : List ℕ → List ℕ

@@ -42,13 +42,6 @@ fn put_bytes(from: &[u8], out: &mut [u8], at: usize) -> usize
     at + k
 }
 
-fn put_byte(b: u8, out: &mut [u8], at: usize)
-    requires { ⌜ at < length (now out) ⌝ }
-    ensures { λ _. ⌜ now (out .exit) ≡ laid (now (out .entry)) at (b ∷ []) ⌝ }
-{
-    out[at] = b;
-}
-
 // A number in decimal and a byte after it, put at a place; where they end.
 fn put_number(n: u64, after: u8, out: &mut [u8], at: usize) -> usize
     requires { ⌜ at + 21 ≤ length (now out) ⌝ }
@@ -57,7 +50,7 @@ fn put_number(n: u64, after: u8, out: &mut [u8], at: usize) -> usize
     let mut digits = [0u8; 20];
     let k = io::decimal(n, &mut digits);
     let end = put_bytes(&digits[..k], out, at);
-    put_byte(after, out, end);
+    out[end] = after;
     end + 1
 }
 
@@ -68,8 +61,8 @@ fn put_hex_byte(b: u8, out: &mut [u8], at: usize)
 {
     let high = hex_digit(b / 16);
     let low = hex_digit(b % 16);
-    put_byte(high, out, at);
-    put_byte(low, out, at + 1);
+    out[at] = high;
+    out[at + 1] = low;
 }
 
 // The first n bytes of a list in hexadecimal, put at a place.
@@ -90,7 +83,7 @@ fn put_hex_line(bytes: &[u8], n: usize, out: &mut [u8], at: usize) -> usize
     ensures { λ r. ⌜ Put (hexLine (take n (now (bytes .entry)))) (now (out .entry)) at (now (out .exit)) r ⌝ }
 {
     put_hex(bytes, n, out, at);
-    put_byte(10, out, at + 2 * n);
+    out[at + 2 * n] = 10;
     at + 2 * n + 1
 }
 

@@ -1,30 +1,35 @@
 -- `cf32::turn` is safe. Assumes nothing.
 use borrow.Author.Needs.{needs}
+use Prim.Native.Nat.{ℕ, _*_, _≤_}
+use mathlib.Core.Path.{_≡_, refl, sym}
 use native.Mathlib.Omega.{arith}
-use lib.ListN.{length-take}
+use lib.Seq.{length-take-le}
 use Rattle.cf32.proofs.turn.Statement.{statement}
 use Rattle.cf32.proofs.turn.Tie as tie
+
+size-within : (want n : ℕ) → want ≤ 16384 → n ≡ 65536 → 4 * want ≤ n
+size-within want n h e = omega arith
 
 mul-size : tie.Need-mul-size
 mul-size c = search needs
 
 slice-aggregate-read-short : tie.Need-slice-aggregate-read-short
-slice-aggregate-read-short c = search needs
+slice-aggregate-read-short c = refl
 
 read-short-requires : tie.Need-read-short-requires
-read-short-requires c κs = search needs
+read-short-requires c κs = size-within _ _ (c .before .before .before .before .before .before .pre) refl
 
 returns : tie.Need-returns
 returns c = tt
 
 array-share-prefix-bytes : tie.Need-array-share-prefix-bytes
-array-share-prefix-bytes c = search needs
+array-share-prefix-bytes c = size-within _ _ (c .before .before .before .before .before .before .before .before .before .before .before .pre) (c .before .before .before .bytes2 .given)
 
 slice-aggregate-feed-bytes : tie.Need-slice-aggregate-feed-bytes
-slice-aggregate-feed-bytes c = simp length-take (omega arith)
+slice-aggregate-feed-bytes c = sym (length-take-le _ _ (array-share-prefix-bytes (c .before)))
 
 slice-aggregate-feed-bytes-2 : tie.Need-slice-aggregate-feed-bytes-2
-slice-aggregate-feed-bytes-2 c = search needs
+slice-aggregate-feed-bytes-2 c = refl
 
 feed-bytes-requires : tie.Need-feed-bytes-requires
 feed-bytes-requires c κs = tt

@@ -1,9 +1,8 @@
 -- `tape::turn` is safe. Assumes nothing.
 use borrow.Author.Needs.{needs}
 use Prim.Native.Nat.{ℕ, _*_, _≤_}
-use mathlib.Core.Path.{_≡_, sym}
+use mathlib.Core.Path.{_≡_, refl, sym}
 use native.Mathlib.Omega.{arith}
-use lib.ListN.{length-replicate}
 use lib.Seq.{length-take-le}
 use Rattle.tape.proofs.turn.Statement.{statement}
 use Rattle.tape.proofs.turn.Tie as tie
@@ -15,10 +14,10 @@ mul-size : tie.Need-mul-size
 mul-size c = search needs
 
 slice-aggregate-read-short : tie.Need-slice-aggregate-read-short
-slice-aggregate-read-short c = sym (length-replicate _ _)
+slice-aggregate-read-short c = refl
 
 read-short-requires : tie.Need-read-short-requires
-read-short-requires c κs = size-within _ _ (c .before .before .before .before .before .before .pre) (length-replicate _ _)
+read-short-requires c κs = size-within _ _ (c .before .before .before .before .before .before .pre) refl
 
 returns : tie.Need-returns
 returns c = tt
@@ -30,7 +29,7 @@ slice-aggregate-feed-bytes : tie.Need-slice-aggregate-feed-bytes
 slice-aggregate-feed-bytes c = sym (length-take-le _ _ (array-share-prefix-bytes (c .before)))
 
 slice-aggregate-feed-bytes-2 : tie.Need-slice-aggregate-feed-bytes-2
-slice-aggregate-feed-bytes-2 c = sym (length-replicate _ _)
+slice-aggregate-feed-bytes-2 c = refl
 
 feed-bytes-requires : tie.Need-feed-bytes-requires
 feed-bytes-requires c κs = tt

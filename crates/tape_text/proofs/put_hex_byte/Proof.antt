@@ -1,5 +1,9 @@
 -- `tape_text::put_hex_byte` meets its contract. Assumes nothing.
 use borrow.Author.Needs.{needs}
+use Prim.Native.Nat.{_+_}
+use native.Mathlib.Omega.{arith}
+use lib.ListN.{length-set}
+use Rattle.le_bytes.proofs.Halves.{laid-one}
 use Rattle.tape_text.proofs.Puts.{hex-byte}
 use Rattle.tape_text.proofs.put_hex_byte.Statement.{statement}
 use Rattle.tape_text.proofs.put_hex_byte.Tie as tie
@@ -10,22 +14,22 @@ hex-digit-requires c κs = search needs
 hex-digit-requires-2 : tie.Need-hex-digit-requires-2
 hex-digit-requires-2 c κs = search needs
 
-put-byte-requires : tie.Need-put-byte-requires
-put-byte-requires c κs = search needs
+slice-write-out : tie.Need-slice-write-out
+slice-write-out c = search needs
 
-add-put-byte : tie.Need-add-put-byte
-add-put-byte c = search needs
+add-out : tie.Need-add-out
+add-out c = search needs
 
-put-byte-requires-2 : tie.Need-put-byte-requires-2
-put-byte-requires-2 c κs = search needs
+slice-write-out-2 : tie.Need-slice-write-out-2
+slice-write-out-2 c = simp length-set (omega arith)
 
 same-length : tie.Need-same-length
-same-length c = search needs
+same-length c = simp length-set
 
 returns : tie.Need-returns
 returns c =
-    let s = c .before .before .before .before .before .before .before .before .before .before .before in
-    hex-byte (s .args .out .now) (s .args .at) (s .args .b) _ _ _ _ (s .pre) (c .before .before .before .before .before .before .before .before .before .hex-digit .ensures) (c .before .before .before .before .before .before .before .before .hex-digit2 .ensures) (c .before .before .before .before .before .before .put-byte .ensures) (c .before .before .put-byte2 .ensures)
+    let s = c .before .before .before in
+    hex-byte (s .args .out .now) (s .args .at) (s .args .b) _ _ _ _ (s .pre) (c .before .hex-digit .ensures) (c .hex-digit2 .ensures) (laid-one (s .args .out .now) (s .args .at) _ (slice-write-out c)) (laid-one _ (s .args .at + 1) _ (slice-write-out-2 c))
 
 pub put-hex-byte-spec : {M : Type 1} → statement M
 put-hex-byte-spec =
@@ -33,8 +37,8 @@ put-hex-byte-spec =
     (tie.spec
     hex-digit-requires
     hex-digit-requires-2
-    put-byte-requires
-    add-put-byte
-    put-byte-requires-2
+    slice-write-out
+    add-out
+    slice-write-out-2
     same-length
     returns)

@@ -20,7 +20,7 @@ put-hex-line-requires : tie.Need-put-hex-line-requires
 put-hex-line-requires c κs = search needs
 
 same-length : tie.Need-same-length
-same-length c = search needs
+same-length c = c .before .before .put-hex-line .kept .1 .1 .0
 
 returns : tie.Need-returns
 returns c = mode-ac-put _ (c .before .before .before .before .before .before .before .if1 .taken) (search needs) (search needs) (c .before .before .put-hex-line .ensures)
@@ -29,10 +29,10 @@ shared-slice-read-wide : tie.Need-shared-slice-read-wide
 shared-slice-read-wide c = search needs
 
 wide-requires : tie.Need-wide-requires
-wide-requires c κs = search needs
+wide-requires c κs = tt
 
 least-requires : tie.Need-least-requires
-least-requires c κs = search needs
+least-requires c κs = tt
 
 sub-put-hex-line : tie.Need-sub-put-hex-line
 sub-put-hex-line c = search needs
@@ -47,7 +47,7 @@ put-hex-line-requires-2 : tie.Need-put-hex-line-requires-2
 put-hex-line-requires-2 c κs = search needs
 
 same-length-2 : tie.Need-same-length-2
-same-length-2 c = search needs
+same-length-2 c = c .before .before .put-hex-line2 .kept .1 .1 .0
 
 returns-2 : tie.Need-returns-2
 returns-2 c = mode-s-put _ (c .before .before .before .before .before .before .before .before .before .before .before .before .pre .0) (c .before .before .before .before .before .before .before .before .if1 .left) (c .before .before .before .before .before .before .wide .ensures) (c .before .before .before .before .before .least .ensures) (c .before .before .put-hex-line2 .ensures)

@@ -1,6 +1,8 @@
 -- `tape_text::put_number` meets its contract. Assumes nothing.
 use borrow.Author.Needs.{needs}
 use native.Mathlib.Omega.{arith}
+use lib.ListN.{length-set}
+use Rattle.le_bytes.proofs.Halves.{laid-one}
 use Rattle.tape_text.proofs.Decimal.{few-digits}
 use Rattle.tape_text.proofs.Lines.{number-put}
 use Rattle.tape_text.proofs.put_number.Statement.{statement}
@@ -18,17 +20,17 @@ slice-aggregate-put-bytes c = search needs
 put-bytes-requires : tie.Need-put-bytes-requires
 put-bytes-requires c κs = omega (arith, few-digits _ _ (c .before .before .before .before .before .fits .n .fits) (c .before .before .decimal .ensures .1 .0), c .before .before .decimal .ensures .0 .1)
 
-put-byte-requires : tie.Need-put-byte-requires
-put-byte-requires c κs = omega (arith, few-digits _ _ (c .before .before .before .before .before .before .before .before .before .fits .n .fits) (c .before .before .before .before .before .before .decimal .ensures .1 .0), c .before .before .before .before .before .before .decimal .ensures .0 .1, c .before .before .before .put-bytes .ensures .ends)
+slice-write-out : tie.Need-slice-write-out
+slice-write-out c = omega (arith, few-digits _ _ (c .before .before .before .before .before .before .before .before .fits .n .fits) (c .before .before .before .before .before .decimal .ensures .1 .0), c .before .before .before .before .before .decimal .ensures .0 .1, c .before .before .put-bytes .ensures .ends)
 
 add-result : tie.Need-add-result
-add-result c = omega (arith, few-digits _ _ (c .before .before .before .before .before .before .before .before .before .before .before .before .fits .n .fits) (c .before .before .before .before .before .before .before .before .before .decimal .ensures .1 .0), c .before .before .before .before .before .before .before .before .before .decimal .ensures .0 .1, c .before .before .before .before .before .before .put-bytes .ensures .ends)
+add-result c = omega (arith, few-digits _ _ (c .before .before .before .before .before .before .before .before .fits .n .fits) (c .before .before .before .before .before .decimal .ensures .1 .0), c .before .before .before .before .before .decimal .ensures .0 .1, c .before .before .put-bytes .ensures .ends)
 
 same-length : tie.Need-same-length
-same-length c = search needs
+same-length c = simp length-set (c .before .before .put-bytes .kept .1 .0)
 
 returns : tie.Need-returns
-returns c = number-put _ _ _ _ (c .before .before .before .before .before .before .before .before .before .before .before .before .fits .n .fits) (c .before .before .before .before .before .before .before .before .before .decimal .ensures .1 .0) (c .before .before .before .before .before .before .before .before .before .decimal .ensures .1 .1) (c .before .before .before .before .before .before .before .before .before .before .before .before .pre) (c .before .before .before .before .before .before .put-bytes .ensures) (c .before .before .put-byte .ensures) (search needs)
+returns c = number-put _ _ _ _ (c .before .before .before .before .before .before .before .before .fits .n .fits) (c .before .before .before .before .before .decimal .ensures .1 .0) (c .before .before .before .before .before .decimal .ensures .1 .1) (c .before .before .before .before .before .before .before .before .pre) (c .before .before .put-bytes .ensures) (laid-one _ _ _ (slice-write-out c)) (search needs)
 
 pub put-number-spec : {M : Type 1} → statement M
 put-number-spec =
@@ -38,7 +40,7 @@ put-number-spec =
     array-share-prefix-digits
     slice-aggregate-put-bytes
     put-bytes-requires
-    put-byte-requires
+    slice-write-out
     add-result
     same-length
     returns)
