@@ -12,7 +12,7 @@ use lib.Ieee.Bits.{ofBits-fits}
 use Rattle.le_bytes.specs.LeBytes.{leAt}
 use Rattle.settings.proofs.Inside.{number-there}
 use Rattle.draw.specs.declared.Draw.{Draw}
-use Rattle.draw.specs.Draw.{bytesAt, picksAt, drawAt}
+use Rattle.draw.specs.Draw.{bytesAt, picksAt, drawAt, Held}
 
 -- the bytes from a place on, as many as there are
 pub bytes-inside : (n : ℕ) (s : List ℕ) (at : ℕ) → at + n ≤ length s → bytesAt s at n ≡ take n (drop at s)
@@ -39,15 +39,6 @@ pub whole : (s : List ℕ) → 65 ≤ length s → drawAt s ≡ wholeDraw s
 unfolding drawAt picksAt wholeDraw
 whole s h =
     rw (number-there 8 s 0 (omega arith), number-there 8 s 9 (omega arith), number-there 4 s 17 (omega arith), number-there 8 s 21 (omega arith), number-there 8 s 29 (omega arith), number-there 8 s 37 (omega arith), number-there 2 s 62 (omega arith), bytes-inside 14 s 48 (omega arith))
-
--- the floats are values of their formats
-pub record Held (d : Draw) : Type 0 where
-  pub gap : T (fits binary64 (d .gap))
-  pub cn0 : T (fits binary64 (d .cn0))
-  pub amplitude : T (fits binary32 (d .amplitude))
-  pub carrier : T (fits binary64 (d .carrier))
-  pub phase : T (fits binary64 (d .phase))
-  pub clock : T (fits binary64 (d .clock))
 
 pub read-held : (s : List ℕ) → Held (drawAt s)
 unfolding drawAt

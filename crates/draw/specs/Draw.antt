@@ -1,8 +1,9 @@
 -- Document 01's draw, read from its 65 bytes: "gap f64; type u8; cn0 f64; amplitude f32; carrier draw f64; phase draw f64; clock draw f64; DF pick, CA pick, overlay, u8 each; 14 bytes; Mode A/C data u16; SPI u8". Definitions only.
 use Prim.Native.Nat.{ℕ, zero, suc, _+_}
 use mathlib.Core.List.{List, [], _∷_}
+use lib.Dec.{T}
 use lib.ListN.{getD}
-use lib.Ieee.{Float, binary32, binary64, ofBits}
+use lib.Ieee.{Float, binary32, binary64, fits, ofBits}
 use Rattle.le_bytes.specs.LeBytes.{numberAt}
 use Rattle.message.specs.declared.Picks.{Picks}
 use Rattle.draw.specs.declared.Draw.{Draw}
@@ -34,3 +35,12 @@ drawAt s = record {
   clock = f64At s 37;
   picks = picksAt s;
 }
+
+-- the floats are values of their formats, as those read from bytes always are
+pub record Held (d : Draw) : Type 0 where
+  pub gap : T (fits binary64 (d .gap))
+  pub cn0 : T (fits binary64 (d .cn0))
+  pub amplitude : T (fits binary32 (d .amplitude))
+  pub carrier : T (fits binary64 (d .carrier))
+  pub phase : T (fits binary64 (d .phase))
+  pub clock : T (fits binary64 (d .clock))

@@ -1,9 +1,9 @@
 -- The sum of the taps whose pulses are on: `convolve_taps_pulses` of the Rust. Definitions only.
 use Prim.Native.Nat.{ℕ, _+_, _-_}
-use mathlib.Core.List.{List, [], _∷_, _++_}
+use mathlib.Core.List.{List, [], _∷_}
 use mathlib.Core.Bool.{Bool, false, cond, _&&_}
-use lib.Dec.{leb, ltb}
-use lib.ListN.{length, getD, replicate}
+use lib.Dec.{leb}
+use lib.ListN.{getD}
 use lib.Ieee.{Float, binary32, ofBits, add}
 use Rattle.constants.specs.Rate.{tapsPerBranch, longestPulses}
 
@@ -27,12 +27,3 @@ reach = tapsPerBranch - 1
 -- the indices of the longest message: 246
 abbrev pub longestIndex : ℕ
 longestIndex = longestPulses + reach
-
--- pulses laid six places late among places that are off, 252 in all
-unfoldable pub late : List Bool → List Bool
-late pulses = replicate reach false ++ (pulses ++ replicate (longestIndex - length pulses) false)
-
--- the sum over pulses laid late, tap k meeting place index + 6 - k. It is `pulseSum` of up to 240 pulses: see proofs/LateSum.antt
-unfoldable pub lateSum : List Float → List Bool → ℕ → Float
-lateSum taps laid index =
-    cond (ltb index longestIndex) (sumWhere (λ k. getD laid (index + reach - k) false) taps 0 (ofBits binary32 0)) (ofBits binary32 0)

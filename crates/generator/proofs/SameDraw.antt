@@ -3,7 +3,7 @@ use mathlib.Core.Path.{_≡_, ap, subst}
 use lib.Dec.{T, T-prop}
 use lib.Ieee.{binary32, binary64, fits}
 use Rattle.draw.specs.declared.Draw.{Draw}
-use Rattle.draw.proofs.Bytes.{Held}
+use Rattle.draw.specs.Draw.{Held}
 use Rattle.generator.specs.Real.{HeldDraw}
 
 module _ (d : Draw) where

@@ -14,10 +14,10 @@ use Rattle.message_config.specs.declared.Delays.{Delays}
 use Rattle.settings.specs.declared.Distributions.{Distributions}
 use Rattle.settings.specs.declared.MessagesPerSecond.{MessagesPerSecond}
 use Rattle.draw.specs.declared.Draw.{Draw}
-use Rattle.draw.specs.Draw.{drawAt}
+use Rattle.draw.specs.Draw.{drawAt, Held}
 use Rattle.draw.specs.Fault.{drawFault}
 use Rattle.draw.specs.Config.{startAt, configOf}
-use Rattle.draw.proofs.Bytes.{Held, read-held}
+use Rattle.draw.proofs.Bytes.{read-held}
 use Rattle.reply_samples.specs.declared.Sample.{Sample}
 use Rattle.reply_samples.specs.Samples.{replySamples}
 use Rattle.record.specs.Record.{recordBytes}

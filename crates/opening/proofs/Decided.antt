@@ -29,14 +29,10 @@ use Rattle.filling.proofs.Filling.{over-whole}
 use Rattle.opening.specs.declared.Opened.{Opened}
 use Rattle.opening.specs.declared.Prepared.{Prepared}
 use Rattle.opening.specs.declared.Opened.the-variants.{Run, Refused}
+use Rattle.opening.specs.FirstCause.{Fits}
 use Rattle.opening.specs.Opening.{Lent, firstState, lentFits, modeSDelay, modeACDelay, delaysThen, delaysOf, tapsOf, settingsThen, openedFor, openedOf, preparedOf, isRun, leftBy}
 
 -- the lengths, from facts and to facts
-pub record Fits (modeS modeAC memory : ℕ) : Type 0 where
-  pub mode-s-is : modeS ≡ 1792
-  pub mode-ac-is : modeAC ≡ 1792
-  pub memory-is : memory ≡ 2252
-
 pub fits-if : (modeS modeAC memory : ℕ) → Fits modeS modeAC memory → true ≡ lentFits four modeS modeAC memory
 unfolding lentFits
 fits-if modeS modeAC memory f = sym (rw (eq-eqb memory 2252 (f .memory-is), eq-eqb modeS 1792 (f .mode-s-is), eq-eqb modeAC 1792 (f .mode-ac-is)))

@@ -1,4 +1,4 @@
--- Refusals 9, 1 to 4, 5 and 6 of opening are each given for their cause only, and for the first cause in document 01's order: opening's answer is one that `Answered` allows (`answered`), and no other (`only`).
+-- Refusals 9, 1 to 4, 5 and 6 of opening are each given for their cause only, and for the first cause in document 01's order: opening's answer is one that `Answered` of specs/ allows (`answered`), and no other (`only`).
 -- So a run is opened exactly where none has a cause (`opens`). Assumes nothing.
 use Prim.Native.Nat.{ℕ, zero, suc, _+_, _<_}
 use mathlib.Core.Path.{_≡_, refl, sym, _∙_}
@@ -22,56 +22,13 @@ use Rattle.settings.specs.declared.Distributions.{Distributions}
 use Rattle.settings.specs.declared.Checked as Checked
 use Rattle.settings.specs.Settings.{settingsOf}
 use Rattle.settings.specs.Accepted.{acceptedOf}
-use Rattle.settings.proofs.FirstCause as Settings
+use Rattle.settings.specs.FirstCause as Settings
+use Rattle.settings.proofs.FirstCause as SettingsCause
 use Rattle.opening.specs.declared.Opened.{Opened}
 use Rattle.opening.specs.declared.Opened.the-variants.{Run, Refused}
 use Rattle.opening.specs.Opening.{Lent, firstState, lentFits, modeSDelay, modeACDelay, delaysThen, delaysOf, tapsOf, settingsThen, openedFor, openedOf}
-use Rattle.opening.proofs.Decided.{Fits, fits-if, fits-for, mode-s-delay-of, mode-ac-delay-of, no-mode-s, no-mode-ac, both-found, mode-s-taps-refused, mode-ac-taps-refused, taps-pass, lent-refused, settings-refused, settings-pass}
-
--- ---- what each refusal looks at, as facts
--- every value is finite and at most 16 in size
-abbrev pub AllWithin16 : List Float → Type 0
-AllWithin16 l = (i : ℕ) → i < length l → within16 (getD l i nan) ≡ true
-
--- 5: "filter list of the wrong length, or a tap not finite or above 16 in size" is not so
-pub record GoodTaps (count : ℕ) (taps : List Float) : Type 0 where
-  pub count-is : length taps ≡ count
-  pub within : AllWithin16 taps
-
--- somewhere the level is at or above a value and below the next
-abbrev pub Crosses : Float → List Float → Type 0
-Crosses level l = (i : ℕ) × (suc i < length l) × (crosses level (getD l i nan) (getD l (suc i) nan) ≡ true)
-
--- 6: "a prototype value not finite or above 16 in size, or no 0.5 crossing" is not so
-pub record GoodPrototype (level : Float) (prototype : List Float) : Type 0 where
-  pub within : AllWithin16 prototype
-  pub crossing : Crosses level prototype
-
--- 9: "working memory not 2,252 f32, a prototype not 1,792 f32" is not so
-abbrev pub LentFits : Lent → Type 0
-LentFits l = Fits (length (l .modeS)) (length (l .modeAC)) (length (l .memory))
-
--- refusals 9 and 1 to 4 do not apply: the run has n samples and the distributions d
-pub record Passed (bytes : List ℕ) (l : Lent) (n : ℕ) (d : Distributions) : Type 0 where
-  pub lent : LentFits l
-  pub settings : Settings.Answered four (settingsOf bytes) (Checked.the-variants.Accepted n d)
-
--- of both filters
-abbrev pub BothTaps : List Float → List Float → Type 0
-BothTaps tapsS tapsAC = GoodTaps (modeSTaps four) tapsS × GoodTaps (modeACTaps four) tapsAC
-
-abbrev pub BothPrototypes : Float → List Float → List Float → Type 0
-BothPrototypes level tapsS tapsAC = GoodPrototype level (modeSPrototype four tapsS) × GoodPrototype level (modeACPrototype four tapsAC)
-
--- which answer is right: each refusal for its cause, where no earlier one applies, and a run where none does. The level is 0.5 in document 01.
-pub data Answered (level : Float) (tapsS tapsAC : List Float) (bytes : List ℕ) (l : Lent) : Opened → Type 0 where
-  refused-9 : (LentFits l → ⊥) → Answered level tapsS tapsAC bytes l (Refused Cause.Lent)
-  refused-1-to-4 : {q : Refusal} → LentFits l → Settings.Answered four (settingsOf bytes) (Checked.the-variants.Refused q) → Answered level tapsS tapsAC bytes l (Refused q)
-  refused-5 : {n : ℕ} {d : Distributions} → Passed bytes l n d → (BothTaps tapsS tapsAC → ⊥) → Answered level tapsS tapsAC bytes l (Refused Cause.Taps)
-  refused-6 : {n : ℕ} {d : Distributions} → Passed bytes l n d → BothTaps tapsS tapsAC → (BothPrototypes level tapsS tapsAC → ⊥) → Answered level tapsS tapsAC bytes l (Refused Cause.Prototype)
-  accepted : {n : ℕ} {d : Distributions} {a b : Float} → Passed bytes l n d → BothTaps tapsS tapsAC → BothPrototypes level tapsS tapsAC
-      → groupDelay four level (modeSPrototype four tapsS) ≡ At a → modeACGroupDelay four level (modeACPrototype four tapsAC) ≡ At b
-      → Answered level tapsS tapsAC bytes l (Run (firstState (settingsOf bytes .rates) n d a b))
+use Rattle.opening.specs.FirstCause.{Fits, AllWithin16, GoodTaps, Crosses, GoodPrototype, LentFits, Passed, BothTaps, BothPrototypes, Answered, refused-9, refused-1-to-4, refused-5, refused-6, accepted}
+use Rattle.opening.proofs.Decided.{fits-if, fits-for, mode-s-delay-of, mode-ac-delay-of, no-mode-s, no-mode-ac, both-found, mode-s-taps-refused, mode-ac-taps-refused, taps-pass, lent-refused, settings-refused, settings-pass}
 
 -- ---- the tests decide these facts
 abbrev Decides : Bool → Type 0 → Type 0
@@ -196,7 +153,7 @@ module _ (level : Float) (tapsS tapsAC : List Float) (bytes : List ℕ) (l : Len
     where
       go : (b : Bool) → Decides b (LentFits l)
           → Right (cond b (settingsThen four level tapsS tapsAC (settingsOf bytes .rates) (acceptedOf four (settingsOf bytes))) (Refused Cause.Lent))
-      go true f = by-settings f (acceptedOf four (settingsOf bytes)) (Settings.answered four (settingsOf bytes))
+      go true f = by-settings f (acceptedOf four (settingsOf bytes)) (SettingsCause.answered four (settingsOf bytes))
       go false f = refused-9 f
 
   -- ---- and the first
@@ -205,7 +162,7 @@ module _ (level : Float) (tapsS tapsAC : List Float) (bytes : List ℕ) (l : Len
 
   passes : (n : ℕ) (d : Distributions) → Passed bytes l n d → openedOf four level tapsS tapsAC bytes l ≡ tapsOf four level tapsS tapsAC (settingsOf bytes .rates) n d
   unfolding openedOf
-  passes n d P = sym (settings-pass level tapsS tapsAC bytes _ _ _ (settingsOf bytes) _ refl refl (fit (P .lent)) n d (Settings.only four (settingsOf bytes) _ (P .settings)))
+  passes n d P = sym (settings-pass level tapsS tapsAC bytes _ _ _ (settingsOf bytes) _ refl refl (fit (P .lent)) n d (SettingsCause.only four (settingsOf bytes) _ (P .settings)))
 
   good-taps : BothTaps tapsS tapsAC → (modeSTapsAccepted four tapsS ≡ true) × (modeACTapsAccepted four tapsAC ≡ true)
   unfolding modeSTapsAccepted modeACTapsAccepted
@@ -240,7 +197,7 @@ module _ (level : Float) (tapsS tapsAC : List Float) (bytes : List ℕ) (l : Len
   pub only : (c : Opened) → Right c → openedOf four level tapsS tapsAC bytes l ≡ c
   unfolding delaysOf openedOf
   only c (refused-9 f) = sym (lent-refused level tapsS tapsAC bytes _ _ _ (fails _ (lent-decides (length (l .modeS)) (length (l .modeAC)) (length (l .memory))) f))
-  only c (refused-1-to-4 {q} f s) = sym (settings-refused level tapsS tapsAC bytes _ _ _ (settingsOf bytes) _ refl refl (fit f) q (Settings.only four (settingsOf bytes) _ s))
+  only c (refused-1-to-4 {q} f s) = sym (settings-refused level tapsS tapsAC bytes _ _ _ (settingsOf bytes) _ refl refl (fit f) q (SettingsCause.only four (settingsOf bytes) _ s))
   only c (refused-5 {n} {d} P t) = passes n d P ∙ sym (taps-refused n d t)
   only c (refused-6 {n} {d} P t p) = passes n d P ∙ sym (prototype-refused n d p ∙ taps-go-on n d t)
   only c (accepted {n} {d} {a} {b} P t p f g) =

@@ -24,7 +24,8 @@ use Rattle.settings.proofs.FirstCause as Settings
 use Rattle.settings.proofs.InRange.{read-held}
 use Rattle.opening.specs.declared.Opened as Opened
 use Rattle.opening.specs.Opening.{Lent, half, firstState, openedOf, leftBy}
-use Rattle.opening.proofs.FirstCause.{Answered, refused-9, refused-1-to-4, refused-5, refused-6, accepted, answered, within-16}
+use Rattle.opening.specs.FirstCause.{Answered, refused-9, refused-1-to-4, refused-5, refused-6, accepted}
+use Rattle.opening.proofs.FirstCause.{answered, within-16}
 
 module _ (level : Float) (tapsS tapsAC : List Float) (bytes : List ℕ) (l : Lent) where
   -- what a run's range turns on, and that its state is the first one

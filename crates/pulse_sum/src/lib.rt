@@ -4,7 +4,7 @@ ghost use mathlib.Core.Bool.{cond};
 ghost use Prim.Native.Nat.{min};
 ghost use lib.ListN.{take};
 ghost use lib.Ieee.{binary32, add};
-ghost use Rattle.filterbank.specs.PulseSum.{late, lateSum};
+ghost use Rattle.filterbank.specs.LaidPulses.{late, lateSum};
 
 fn least(a: usize, b: usize) -> usize
     ensures { λ r. ⌜ r ≡ min a b ⌝ }

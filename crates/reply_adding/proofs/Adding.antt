@@ -14,7 +14,7 @@ use Rattle.message_config.specs.declared.MessageConfig.{MessageConfig}
 use Rattle.pulses.specs.declared.Pulses.{Pulses}
 use Rattle.message_config.specs.Config.{configClockPhase, configClockError, configRate, configPhase}
 use Rattle.filterbank.specs.declared.Clock.{Clock}
-use Rattle.filterbank.specs.PulseSum.{late}
+use Rattle.filterbank.specs.LaidPulses.{late}
 use Rattle.filterbank.specs.Clocked.{stepOf, startClock}
 use Rattle.filterbank.specs.Apply.{limitOf}
 use Rattle.reply_pulses.specs.ReplyPulses.{pulsesOf, placesOf}

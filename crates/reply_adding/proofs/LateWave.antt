@@ -16,7 +16,7 @@ use Rattle.message_config.specs.Config.{configClockPhase, configClockError, con
 use Rattle.pulse_shape.proofs.Whole.{length-values}
 use Rattle.filterbank.specs.declared.Clock.{Clock}
 use Rattle.filterbank.specs.Taps.{filterTaps, between, branch, nextBranch, branchOf, tauOf}
-use Rattle.filterbank.specs.PulseSum.{late}
+use Rattle.filterbank.specs.LaidPulses.{late}
 use Rattle.filterbank.specs.Clocked.{stepOf, startClock, advance}
 use Rattle.filterbank.specs.Apply.{clockValues, limitOf, fuelOf, valueAt, applyFilterbank}
 use Rattle.filterbank.proofs.LateSum.{late-sum}

@@ -13,7 +13,7 @@ use Rattle.message_config.specs.declared.MessageConfig.{MessageConfig}
 use Rattle.message_config.specs.Config.{configClockPhase, configClockError, configRate, configPhase}
 use Rattle.filterbank.specs.declared.Clock.{Clock}
 use Rattle.filterbank.specs.Taps.{filterTaps}
-use Rattle.filterbank.specs.PulseSum.{lateSum}
+use Rattle.filterbank.specs.LaidPulses.{lateSum}
 use Rattle.filterbank.specs.Clocked.{stepOf, startClock}
 use Rattle.filterbank.specs.Apply.{clockValues, limitOf, fuelOf}
 use Rattle.reply_samples.specs.declared.Sample.{Sample}

@@ -1,4 +1,4 @@
--- A run call, refused or not: its checks in document 01's order, and what it answers and leaves, by the theory of lists of calls. Definitions only.
+-- A run call, refused or not: its checks in document 01's order, and what it answers and leaves, by the mirror of its turns (`Ended`). Definitions only.
 use Prim.Native.Nat.{ℕ}
 use mathlib.Core.Bool.{cond}
 use mathlib.Core.List.{List}

@@ -1,4 +1,4 @@
--- Refusals 1 to 4 are each given for their cause only, and for the first cause in document 01's order: the answer to settings is one that `Answered` allows (`answered`), and no other (`only`).
+-- Refusals 1 to 4 are each given for their cause only, and for the first cause in document 01's order: the answer to settings is one that `Answered` of specs/ allows (`answered`), and no other (`only`).
 -- So settings with no cause are accepted, and settings with a cause are refused. Assumes nothing.
 use Prim.Native.Nat.{ℕ, _≤_, _<_}
 use mathlib.Core.Path.{_≡_, refl, sym, ap, _∙_, subst}
@@ -23,42 +23,9 @@ use Rattle.settings.specs.declared.Checked.{Checked}
 use Rattle.settings.specs.declared.Checked.the-variants.{Accepted, Refused}
 use Rattle.settings.specs.Settings.{ratesOf, rateOf}
 use Rattle.settings.specs.Accepted.{firstBadRate, totalOf, totalFits, withClock, withPhase, withOffset, distributionsOf, totalThen, ratesThen, durationThen, acceptedOf}
+use Rattle.settings.specs.FirstCause.{Lasts, goodRate, GoodRates, goodTotal, Passed, Answered, refused-1, refused-2, refused-3, refused-4-0, refused-4-1, refused-4-2, accepted}
 use Rattle.settings.proofs.Decided.{duration-refused, duration-passes, rate-refused, total-refused, rates-pass, offset-refused, phase-refused, clock-refused, all-accepted}
 use Rattle.settings.proofs.Rates.{Found, found, finds-none, finds}
-
--- the run has n samples
-abbrev pub Lasts : ℕ → Settings → ℕ → Type 0
-Lasts sps s n = durationOf sps (s .seconds) (s .nanoseconds) ≡ samples n
-
--- whether rate i is finite and not negative, and that the first k are
-abbrev pub goodRate : Settings → ℕ → Bool
-goodRate s i = finiteNotNegative (rateOf (s .rates) i)
-
-abbrev pub GoodRates : Settings → ℕ → Type 0
-GoodRates s k = (i : ℕ) → i < k → goodRate s i ≡ true
-
--- whether the rates' total is above 0 and finite
-abbrev pub goodTotal : Settings → Bool
-goodTotal s = totalFits (totalOf (ratesOf (s .rates)))
-
--- refusals 1, 2 and 3 do not apply: the run has n samples, and its rates and their total are good
-pub record Passed (sps : ℕ) (s : Settings) (n : ℕ) : Type 0 where
-  pub lasts : Lasts sps s n
-  pub rates : GoodRates s 7
-  pub total : goodTotal s ≡ true
-
--- which answer to settings is right: each refusal for its cause, where no earlier one applies, and acceptance where none does
-pub data Answered (sps : ℕ) (s : Settings) : Checked → Type 0 where
-  refused-1 : durationOf sps (s .seconds) (s .nanoseconds) ≡ refusal 1 → Answered sps s (Refused Refusal.Duration)
-  refused-2 : {k n : ℕ} → Lasts sps s n → k < 7 → GoodRates s k → goodRate s k ≡ false → Answered sps s (Refused (Refusal.Rate k))
-  refused-3 : {n : ℕ} → Lasts sps s n → GoodRates s 7 → goodTotal s ≡ false → Answered sps s (Refused Refusal.Total)
-  refused-4-0 : {n : ℕ} → Passed sps s n → carrierOffset sps (s .carrier) ≡ Offset.the-variants.Refused → Answered sps s (Refused (Refusal.Distribution 0))
-  refused-4-1 : {n : ℕ} {o : CarrierOffset} → Passed sps s n → carrierOffset sps (s .carrier) ≡ Offset.the-variants.Accepted o
-      → carrierPhase (s .phase) ≡ Phase.the-variants.Refused → Answered sps s (Refused (Refusal.Distribution 1))
-  refused-4-2 : {n : ℕ} {o : CarrierOffset} {p : CarrierPhase} → Passed sps s n → carrierOffset sps (s .carrier) ≡ Offset.the-variants.Accepted o
-      → carrierPhase (s .phase) ≡ Phase.the-variants.Accepted p → clockError (s .clock) ≡ Clock.the-variants.Refused → Answered sps s (Refused (Refusal.Distribution 2))
-  accepted : {n : ℕ} {d : Distributions} → Passed sps s n → carrierOffset sps (s .carrier) ≡ Offset.the-variants.Accepted (d .carrier)
-      → carrierPhase (s .phase) ≡ Phase.the-variants.Accepted (d .phase) → clockError (s .clock) ≡ Clock.the-variants.Accepted (d .clock) → Answered sps s (Accepted n d)
 
 -- ---- for its cause only
 -- a duration is refused with the number 1

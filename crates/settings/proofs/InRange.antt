@@ -27,7 +27,8 @@ use Rattle.settings.specs.declared.Distributions.{Distributions}
 use Rattle.settings.specs.declared.Checked.the-variants.{Accepted, Refused}
 use Rattle.settings.specs.Settings.{f64At, askedAt, settingsOf}
 use Rattle.settings.specs.Accepted.{acceptedOf}
-use Rattle.settings.proofs.FirstCause.{Answered, accepted, answered, lasts-for}
+use Rattle.settings.specs.FirstCause.{Answered, accepted}
+use Rattle.settings.proofs.FirstCause.{answered, lasts-for}
 
 -- x is a value of `f64`
 abbrev pub Held : Float → Type 0

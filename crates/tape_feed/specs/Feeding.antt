@@ -1,4 +1,4 @@
--- A run that is fed its noise chunk by chunk: each chunk is a run call, lent the draws that are not taken and the room behind the records written. Definitions only.
+-- A run that is fed its noise chunk by chunk, as the code does it: each chunk is a run call, lent the draws that are not taken and the room behind the records written. Definitions only.
 use Prim.Native.Nat.{ℕ, _+_, _*_, _/_, _%_, _^_, min}
 use mathlib.Core.Bool.{Bool, cond}
 use mathlib.Core.List.{List, [], _∷_, _++_}

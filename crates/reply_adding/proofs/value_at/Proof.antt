@@ -3,7 +3,7 @@ use borrow.Author.Needs.{needs}
 use mathlib.Core.Path.{ap, _∙_}
 use mathlib.Core.List.{List}
 use lib.Ieee.{Float}
-use Rattle.filterbank.specs.PulseSum.{lateSum}
+use Rattle.filterbank.specs.LaidPulses.{lateSum}
 use Rattle.reply_adding.specs.Mirror.{lateValue}
 use Rattle.reply_adding.proofs.value_at.Statement.{statement}
 use Rattle.reply_adding.proofs.value_at.Tie as tie

@@ -1,0 +1,17 @@
+-- A mirror of code: pulses laid six places late, so that a sum tests no bounds, and the sum over them. proofs/LateSum says that it is the plain `pulseSum`. Definitions only.
+use Prim.Native.Nat.{ℕ, _+_, _-_}
+use mathlib.Core.List.{List, _++_}
+use mathlib.Core.Bool.{Bool, false, cond}
+use lib.Dec.{ltb}
+use lib.ListN.{length, getD, replicate}
+use lib.Ieee.{Float, binary32, ofBits}
+use Rattle.filterbank.specs.PulseSum.{sumWhere, reach, longestIndex}
+
+-- pulses laid six places late among places that are off, 252 in all
+unfoldable pub late : List Bool → List Bool
+late pulses = replicate reach false ++ (pulses ++ replicate (longestIndex - length pulses) false)
+
+-- the sum over pulses laid late, tap k meeting place index + 6 - k. It is `pulseSum` of up to 240 pulses: see proofs/LateSum.antt
+unfoldable pub lateSum : List Float → List Bool → ℕ → Float
+lateSum taps laid index =
+    cond (ltb index longestIndex) (sumWhere (λ k. getD laid (index + reach - k) false) taps 0 (ofBits binary32 0)) (ofBits binary32 0)
