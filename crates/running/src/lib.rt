@@ -82,33 +82,25 @@ fn step(
     );
     let r = turns::moved(t, p);
     match p {
-        Plan::Halt(_) => r,
-        Plan::Drain(n) => {
-            due_samples::write_due(memory, noise, output, t.written, t.samples, n);
-            r
-        }
-        Plan::Due(n, _) => {
-            due_samples::write_due(memory, noise, output, t.written, t.samples, n);
-            r
-        }
-        Plan::Skip(_) => r,
-        Plan::End(_) => r,
-        Plan::Add(time, first) => {
-            recorded_replies::add(
-                all,
-                delays,
-                time,
-                first,
-                mode_s,
-                mode_ac,
-                memory,
-                rest,
-                records,
-                66 * lines,
-            );
-            r
-        }
+        Plan::Halt(_) => {}
+        Plan::Drain(n) => due_samples::write_due(memory, noise, output, t.written, t.samples, n),
+        Plan::Due(n, _) => due_samples::write_due(memory, noise, output, t.written, t.samples, n),
+        Plan::Skip(_) => {}
+        Plan::End(_) => {}
+        Plan::Add(time, first) => recorded_replies::add(
+            all,
+            delays,
+            time,
+            first,
+            mode_s,
+            mode_ac,
+            memory,
+            rest,
+            records,
+            66 * lines,
+        ),
     }
+    r
 }
 
 // The first turn of a call.
