@@ -7,7 +7,6 @@ use native.Mathlib.Omega.{arith}
 use lib.Ieee.{Float}
 use Rattle.constants.specs.Rate.{four}
 use Rattle.call_lists.specs.PlainBench as Bench
-use Rattle.call_lists.specs.Demand3 as Claim
 use Rattle.refusals.specs.declared.Refusal as Refusal
 use Rattle.refusals.specs.Number.{numberOf, valuesOf}
 use Rattle.opening.specs.declared.Opened as Opened
@@ -25,16 +24,8 @@ use Rattle.more1090_generator.specs.declared.FlatState.{FlatState}
 use Rattle.more1090_generator.specs.States.{flatOf, stateFrom}
 use Rattle.more1090_generator.specs.Answers.{valuesFlat, openedFlat, told, answered, ranFlat, FlatLeft, leftFlat, flatRunLeft, flatRunsLeft}
 use Rattle.more1090_generator.specs.Seen.{FlatSeen, flatSeen, benchAnswer, benchSeen}
+use Rattle.more1090_generator.specs.OpenedCalls.{CallsFor, OpenedCalls}
 use Rattle.more1090_generator.proofs.StateBack.{state-back}
-
--- f is a state in C's numbers that stands for s, the prototypes and working memory what opening left beside it
-pub record CallsFor (f : FlatState) (s : State) (modeS modeAC memory : List Float) : Type 0 where
-  pub results : List (Bench.Call (genOf s modeS modeAC)) → List (Bench.Result (genOf s modeS modeAC))
-  pub seen : (ls : List Lent) → map flatSeen (flatRunsLeft f modeS modeAC memory ls) ≡ map (benchSeen s modeS modeAC) (results (map (callOf s modeS modeAC) ls))
-  pub demand3 : Claim.Demand3 (genOf s modeS modeAC) results
-
-abbrev pub OpenedCalls : FlatState → List Float → List Float → List Float → Type 0
-OpenedCalls f modeS modeAC memory = CallsFor f (stateFrom f) modeS modeAC memory
 
 -- a list of calls in C's numbers is the list of calls, each as C has it
 module _ (modeS modeAC : List Float) where

@@ -1,3 +1,4 @@
 pub mod States
 pub mod Answers
 pub mod Seen
+pub mod OpenedCalls
