@@ -1,4 +1,4 @@
--- A draw in range becomes a message of its own type: no type or reply is put in its place (`type-drawn`, `reply-drawn`), and it starts by the delay of that type (`start-drawn`). Assumes nothing.
+-- A draw in range becomes a message of its own type: no type or reply is put in its place (`type-drawn`, `reply-drawn`), and the message starts where its draw does (`start-drawn`). Assumes nothing.
 use mathlib.Core.Path.{_≡_, sym, ap, _∙_}
 use lib.Ieee.{Float}
 use Rattle.message.specs.declared.Field.{Field}
@@ -31,7 +31,7 @@ module _ (rates : MessagesPerSecond) (all : Distributions) (d : Draw) (r : InRan
       ap (λ (t : MessageType). made t (d .picks) .reply) type-drawn
       ∙ ap (λ (f : Field). madeWhere f (replyOf (r .message-type) (d .picks)) .reply) (no-pick-fault (r .message-type) (d .picks) (r .picks))
 
-  pub start-drawn : (delays : Delays) (time : Float) → startAt all delays time d ≡ startOf time (delayOf delays (kindDrawn d)) (errorDrawn all d)
+  pub start-drawn : (delays : Delays) (time : Float) → configStart delays (configOf all time d) ≡ startAt all delays time d
   unfolding configOf configStart startAt replyOf
   start-drawn delays time =
       ap (λ (k : ReplyKind). startOf time (delayOf delays k) (errorDrawn all d)) (ap (λ (x : Reply). x .kind) (reply-drawn time) ∙ sym kind-drawn)

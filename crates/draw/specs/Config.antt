@@ -10,7 +10,7 @@ use Rattle.message.specs.Types.{typeNumbered}
 use Rattle.message.specs.Making.{kindOf, made}
 use Rattle.message_config.specs.declared.Delays.{Delays}
 use Rattle.message_config.specs.declared.MessageConfig.{MessageConfig}
-use Rattle.message_config.specs.Config.{configStart}
+use Rattle.message_config.specs.Timing.{delayOf, startOf}
 use Rattle.settings.specs.declared.Distributions.{Distributions}
 use Rattle.draw.specs.declared.Draw.{Draw}
 
@@ -29,6 +29,10 @@ timeAfter before d = add binary64 before (d .gap)
 unfoldable pub errorDrawn : Distributions → Draw → Float
 errorDrawn all d = errorOf (all .clock) (d .clock)
 
+-- the start of a draw at its time
+unfoldable pub startAt : Distributions → Delays → Float → Draw → ℤ
+startAt all delays time d = startOf time (delayOf delays (kindDrawn d)) (errorDrawn all d)
+
 -- the message of a draw at its time
 unfoldable pub configOf : Distributions → Float → Draw → MessageConfig
 configOf all time d = record {
@@ -39,7 +43,3 @@ configOf all time d = record {
   error = errorDrawn all d;
   reply = made (typeDrawn (typeNumbered (d .kind))) (d .picks) .reply;
 }
-
--- the start of a draw at its time: that of its message
-unfoldable pub startAt : Distributions → Delays → Float → Draw → ℤ
-startAt all delays time d = configStart delays (configOf all time d)

@@ -1,10 +1,12 @@
 // What a draw becomes at its time: its start, and its message. Each function is equal to a definition, in specs/ of `draw`, on every input. Assumes nothing.
 ghost use mathlib.Core.Path.{_≡_};
 ghost use Rattle.message.specs.Types.{typeNumbered};
+ghost use Rattle.message.specs.Making.{kindOf};
 ghost use Rattle.draw.specs.Draw.{drawAt};
 ghost use Rattle.draw.specs.Config.{typeDrawn, startAt, configOf};
 use draw::Draw;
 use message::MessageType;
+use message::ReplyKind;
 use message::TypeFound;
 use message_config::Delays;
 use message_config::MessageConfig;
@@ -17,6 +19,30 @@ fn type_drawn(kind: u8) -> MessageType
         TypeFound::Of(t) => t,
         TypeFound::Unknown => MessageType::ModeAc,
     }
+}
+
+fn kind_of(t: MessageType) -> ReplyKind
+    ensures { λ r. ⌜ r ≡ kindOf t ⌝ }
+{
+    match t {
+        MessageType::ExtendedSquitter => ReplyKind::Long,
+        MessageType::AcquisitionSquitter => ReplyKind::Short,
+        MessageType::ShortAp => ReplyKind::Short,
+        MessageType::AllCallReply => ReplyKind::Short,
+        MessageType::LongAp => ReplyKind::Long,
+        MessageType::MilitaryExtendedSquitter => ReplyKind::Long,
+        MessageType::ModeAc => ReplyKind::ModeAc,
+    }
+}
+
+// The start of the draw at the start of the bytes, at its time.
+pub fn start_at(all: Distributions, delays: Delays, time: f64, rest: &[u8]) -> i64
+    ensures { λ r. ⌜ r ≡ startAt all delays time (drawAt (now (rest .entry))) ⌝ }
+{
+    let clock = all.clock;
+    let kind = kind_of(type_drawn(draw::byte_at(rest, 8)));
+    let e = drawn_values::error_of(clock, le_floats::f64_at(rest, 37));
+    message_config::start(time, message_config::group_delay(delays, kind), e)
 }
 
 // The message of a draw at its time.
@@ -37,13 +63,4 @@ pub fn config(all: Distributions, time: f64, d: Draw) -> MessageConfig
         error: drawn_values::error_of(clock, d.clock),
         reply: reply,
     }
-}
-
-// The start of the draw at the start of the bytes, at its time: that of its message.
-pub fn start_at(all: Distributions, delays: Delays, time: f64, rest: &[u8]) -> i64
-    ensures { λ r. ⌜ r ≡ startAt all delays time (drawAt (now (rest .entry))) ⌝ }
-{
-    let d = draw_reading::read(rest);
-    let c = config(all, time, d);
-    c.first_sample_index(delays)
 }

@@ -22,7 +22,6 @@ use Rattle.draw.specs.declared.Draw.{Draw}
 use Rattle.draw.specs.Fault.{drawFault}
 use Rattle.draw.specs.Config.{typeDrawn, kindDrawn, errorDrawn, startAt, configOf}
 use Rattle.draw.proofs.InRange.{InRange, in-range}
-use Rattle.message_config.specs.Timing.{delayOf, startOf}
 use Rattle.draw.proofs.Message.{start-drawn}
 use Rattle.call_lists.specs.Generator.{from, startFrom}
 use Rattle.call_lists.specs.PlainRun.{reply, kind}
@@ -71,27 +70,23 @@ module _ (f : Filters) (R : FiltersInRange f) (total : ℕ) (few : total ≤ 2 ^
       step : (s n : ℕ) → s + 1094 < n → n ≤ 2 ^ 52 → s < 2 ^ 52
       step s n h l = omega arith
 
-  drawn-at : (t : Float) (d : HeldDraw) (s : ℕ) → draws f .fault d ≡ none → kind (real f total) t d ≡ reply s
-      → startOf t (delayOf (f .delays) (kindDrawn (d .draw))) (errorDrawn (f .distributions) (d .draw)) ≡ pos s
-  drawn-at t d s e k = sym (start-drawn (f .rates) (f .distributions) (d .draw) (fields d e) (f .delays) t) ∙ reply-at t d s k
-
   -- Hold-back
   pub real-held :
       (t t′ : Float) (d d′ : HeldDraw) (s s′ : ℕ) → GoodTime t → GoodTime t′ → draws f .fault d ≡ none → draws f .fault d′ ≡ none → lt t′ t ≡ false
       → kind (real f total) t d ≡ reply s → kind (real f total) t′ d′ ≡ reply s′ → s ≤ s′ + holdBack four
+  unfolding startAt
   real-held t t′ d d′ s s′ g g′ e e′ o k k′ =
       HoldBack.held four (lit≤ tt) (lit≤ tt) (f .delays) (R .delays) t t′ (errorDrawn (f .distributions) (d .draw)) (errorDrawn (f .distributions) (d′ .draw)) (kindDrawn (d .draw)) (kindDrawn (d′ .draw)) s s′
-      (time-in-range t g) (time-in-range t′ g′) (error-in-range d e) (error-in-range d′ e′) o (drawn-at t d s e k) (drawn-at t′ d′ s′ e′ k′) (below-52 t′ d′ s′ k′)
+      (time-in-range t g) (time-in-range t′ g′) (error-in-range d e) (error-in-range d′ e′) o (reply-at t d s k) (reply-at t′ d′ s′ k′) (below-52 t′ d′ s′ k′)
 
   -- Count bound
   pub real-short : (t : Float) (d : HeldDraw) (s : ℕ) → GoodTime t → draws f .fault d ≡ none → kind (real f total) t d ≡ reply s → length (draws f .adds t d s) ≤ replyLimit four
-  unfolding startAt
   real-short t d s g e k =
       let c = configOf (f .distributions) t (d .draw) in
       let samples = replySamples four (f .modeS) (f .modeAC) (f .delays) (d .draw .amplitude) c in
       let r = fields d e in
       let error = message-error (f .rates) (f .distributions) (R .distributions .clock) (d .draw) (d .held .clock) r t in
-      let clock = first-clock-of (f .delays) (R .delays) c s (subst TimeInRange (sym (config-time f t (d .draw))) (time-in-range t g)) error (reply-at t d s k) (below-52 t d s k) in
+      let clock = first-clock-of (f .delays) (R .delays) c s (subst TimeInRange (sym (config-time f t (d .draw))) (time-in-range t g)) error (start-drawn (f .rates) (f .distributions) (d .draw) r (f .delays) t ∙ reply-at t d s k) (below-52 t d s k) in
       le-trans (le-of-eq (length-map samples pairOf ∙ samples-counted four (f .modeS) (f .modeAC) (f .delays) (d .draw .amplitude) c)) (count-most (f .delays) c clock)
 
   pub real-draw-laws : DrawLaws (draws f) four total

@@ -2,29 +2,46 @@
 use borrow.Author.Needs.{needs}
 use mathlib.Core.Path.{_∙_}
 use mir.Facts.{toZ-ofZ}
-use Rattle.draw.specs.Config.{startAt}
+use Rattle.draw.specs.Draw.{drawAt}
+use Rattle.draw.specs.Config.{kindDrawn, errorDrawn, startAt}
 use Rattle.draw_config.proofs.start_at.Statement.{statement}
 use Rattle.draw_config.proofs.start_at.Tie as tie
 
-read-requires : tie.Need-read-requires
-read-requires c κs = search needs
+byte-at-requires : tie.Need-byte-at-requires
+byte-at-requires c κs = search needs
 
-config-requires : tie.Need-config-requires
-config-requires c κs = search needs
+type-drawn-requires : tie.Need-type-drawn-requires
+type-drawn-requires c κs = search needs
 
-first-sample-index-requires : tie.Need-first-sample-index-requires
-first-sample-index-requires c κs = search needs
+kind-of-requires : tie.Need-kind-of-requires
+kind-of-requires c κs = search needs
+
+f64-at-requires : tie.Need-f64-at-requires
+f64-at-requires c κs = search needs
+
+error-of-requires : tie.Need-error-of-requires
+error-of-requires c κs = search needs
+
+group-delay-requires : tie.Need-group-delay-requires
+group-delay-requires c κs = search needs
+
+start-requires : tie.Need-start-requires
+start-requires c κs = search needs
 
 returns : tie.Need-returns
-unfolding startAt
-returns c = toZ-ofZ (record { sfits = c .first-sample-index .ok }) ∙ c .first-sample-index .ensures
-    ∙ rw (c .before .config .ensures, c .before .before .read .ensures)
+unfolding drawAt kindDrawn errorDrawn startAt
+returns c = toZ-ofZ (record { sfits = c .start .ok }) ∙ c .start .ensures
+    ∙ rw (c .before .group-delay .ensures, c .before .before .error-of .ensures, c .before .before .before .f64-at .ensures, c .before .before .before .before .kind-of .ensures, c .before .before .before .before .before .type-drawn .ensures, c .before .before .before .before .before .before .byte-at .ensures)
 
 pub start-at-spec : {M : Type 1} → statement M
 start-at-spec =
     tie.close
     (tie.spec
-    read-requires
-    config-requires
-    first-sample-index-requires
+    byte-at-requires
+    type-drawn-requires
+    kind-of-requires
+    f64-at-requires
+    error-of-requires
+    group-delay-requires
+    start-requires
     returns)
