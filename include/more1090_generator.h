@@ -127,7 +127,8 @@ more1090_opened more1090_open(const uint8_t *settings, /* 119 bytes */
  * unchanged. Sample n of the run is what the replies add there, in the order of their draws, plus noise values 2n and
  * 2n + 1 times 2^-10, counted from the run's start; a record stands for each reply, in the order of the draws. (A draw that
  * would start before sample 0 is taken and ignored, but its gap counts.) So lend the draws that were not taken and the noise
- * that was not used again, ahead of new ones: how a run is cut into calls then changes no sample and no record. */
+ * that was not used again, ahead of new ones: how a run is cut into calls then changes no sample and no record. From an
+ * opened run every number of a sample is finite and at most 2^53 in size, however long it lasts. */
 more1090_ran more1090_run(more1090_state state,
                           const float *mode_s, size_t mode_s_length,
                           const float *mode_ac, size_t mode_ac_length,

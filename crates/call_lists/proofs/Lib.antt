@@ -9,6 +9,7 @@ pub mod InStep
 pub mod FlatLists
 pub mod Counted
 pub mod Reach
+pub mod EverySample
 pub mod Demand3
 pub mod Batch
 pub mod Stretch

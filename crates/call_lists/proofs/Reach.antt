@@ -2,35 +2,41 @@
 -- Assumes nothing.
 use mathlib.Core.List.{List, [], _∷_}
 use mathlib.Core.Path.{_≡_, refl}
-use Prim.Native.Nat.{ℕ}
+use Prim.Native.Nat.{ℕ, _≤_}
 use native.Mathlib.Omega.{arith}
+use lib.ListN.{length}
 use Rattle.call_lists.specs.Generator.{Generator}
-use Rattle.call_lists.specs.PlainRun.{Kind, ignored, ends, reply, kind, replyOf, push, replies}
-use Rattle.call_lists.specs.Laws.{Laws, AllInRange}
-use Rattle.call_lists.specs.Demand3.{Reach, AllReach}
+use Rattle.call_lists.specs.Each.{Each}
+use Rattle.call_lists.specs.PlainRun.{Kind, ignored, ends, reply, Reply, kind, replyOf, push, replies}
+use Rattle.call_lists.specs.Laws.{Laws, InRange, AllInRange}
+use Rattle.call_lists.specs.Demand3.{Reach}
 use Rattle.call_lists.proofs.PlainFacts.{hit-before, hit-behind}
 use Rattle.call_lists.proofs.Reached.{good-on}
 
 module _ (G : Generator) (L : Laws G) where
-  open Generator G using (Draw, Time, after)
+  open Generator G using (Draw, Time, after, adds, limit)
 
-  pub all-reach : (t : Time) (ds : List Draw) → L .Good t → AllInRange G ds → AllReach G (replies G t ds)
-  all-reach t [] g h = tt
-  all-reach t (d ∷ ds) g h = go (kind G (after t d) d) refl (all-reach (after t d) ds good (h .1))
+  -- what holds of no reply, and of one more reply of a draw in range, holds of the replies of draws in range
+  pub all-replies :
+      (A : List (Reply G) → Type 0) → A [] → ((t : Time) (d : Draw) (s : ℕ) → L .Good t → InRange G d → kind G t d ≡ reply s → (rs : List (Reply G)) → A rs → A (replyOf G t d s ∷ rs))
+      → (t : Time) (ds : List Draw) → L .Good t → AllInRange G ds → A (replies G t ds)
+  all-replies A none more t [] g h = none
+  all-replies A none more t (d ∷ ds) g h = go (kind G (after t d) d) refl (all-replies A none more (after t d) ds good (h .1))
     where
       good : L .Good (after t d)
       good = good-on G L t d g (h .0)
 
-      reach : (s : ℕ) → kind G (after t d) d ≡ reply s → Reach G (replyOf G (after t d) d s)
-      reach s e =
-          let few = L .short (after t d) d s good (h .0) e in
-          record {
-            few = few;
-            none-before = λ a n lt. hit-before G a (replyOf G (after t d) d s) n lt;
-            none-behind = λ a n le. hit-behind G a (replyOf G (after t d) d s) n (omega (arith, few));
-          }
-
-      go : (k : Kind) → kind G (after t d) d ≡ k → AllReach G (replies G (after t d) ds) → AllReach G (push G k (after t d) d (replies G (after t d) ds))
+      go : (k : Kind) → kind G (after t d) d ≡ k → A (replies G (after t d) ds) → A (push G k (after t d) d (replies G (after t d) ds))
       go ignored e ih = ih
-      go ends e ih = tt
-      go (reply s) e ih = (reach s e, ih)
+      go ends e ih = none
+      go (reply s) e ih = more (after t d) d s good (h .0) e (replies G (after t d) ds) ih
+
+  pub all-reach : (t : Time) (ds : List Draw) → L .Good t → AllInRange G ds → Each (Reach G) (replies G t ds)
+  all-reach = all-replies (Each (Reach G)) tt (λ t d s g h e rs ih. (reach t d s (L .short t d s g h e), ih))
+    where
+      reach : (t : Time) (d : Draw) (s : ℕ) → length (adds t d s) ≤ limit → Reach G (replyOf G t d s)
+      reach t d s few = record {
+        few = few;
+        none-before = λ a n lt. hit-before G a (replyOf G t d s) n lt;
+        none-behind = λ a n le. hit-behind G a (replyOf G t d s) n (omega (arith, few));
+      }

@@ -7,6 +7,7 @@ use mathlib.Core.Option.{Option, none, some}
 use mathlib.Core.Path.{_≡_, refl, sym, ap, _∙_, subst}
 use Prim.Native.Nat.{ℕ, zero, suc, _+_}
 use native.Mathlib.Omega.{arith}
+use Rattle.call_lists.specs.Each.{Each}
 use Rattle.call_lists.specs.Generator.{Generator}
 use Rattle.call_lists.specs.PlainBench.{Refusal, wrongLength, wrongDraw, wrongNoise, Call, drawsOf, wrongLengths, orElse, atDraw, firstFault, jumpsBack, drawRefusal, firstLoud, refusalOf, lentOf}
 use Rattle.call_lists.specs.Laws.{AllInRange, NoJump, Accepted}
@@ -80,6 +81,14 @@ module _ (G : Generator) where
       ap (λ (x : Bool). cond x (some (wrongNoise j)) (firstLoud G (suc j) vs)) (h .0)
       ∙ loud-if (suc j) i vs (h .1)
       ∙ ap (λ (n : ℕ). some (wrongNoise n)) {x = suc j + i} {y = j + suc i} (omega arith)
+
+  all-quiet : (j : ℕ) (vs : List Value) → firstLoud G j vs ≡ none → Each (λ v. loud v ≡ false) vs
+  all-quiet j [] e = tt
+  all-quiet j (v ∷ vs) e = go (loud v) refl e (λ p. all-quiet (suc j) vs p)
+    where
+      go : (x : Bool) → loud v ≡ x → cond x (some (wrongNoise j)) (firstLoud G (suc j) vs) ≡ none → (firstLoud G (suc j) vs ≡ none → Each (λ w. loud w ≡ false) vs) → Each (λ w. loud w ≡ false) (v ∷ vs)
+      go true p q ih = let z : _≡_ {A = ℕ} 0 1 = cc in absurd (omega arith)
+      go false p q ih = (p, ih q)
 
   -- ---- lent draws, with the jump back
   -- draws that are not refused are in range and do not jump back, and conversely
@@ -163,3 +172,11 @@ module _ (G : Generator) where
         go : (x : Bool) → cond x (some wrongLength) (orElse G (drawRefusal G t m ds) (firstLoud G 0 (c .noise))) ≡ none → Accepted G t m ds
         go true q = let z : _≡_ {A = ℕ} 0 1 = cc in absurd (omega arith)
         go false q = accepted-draws t m ds (none-of (drawRefusal G t m ds) (firstLoud G 0 (c .noise)) q .0)
+
+    -- and no noise value out of range
+    pub not-loud : refusalOf G t m c ≡ none → Each (λ v. loud v ≡ false) (c .noise)
+    not-loud e = go (wrongLengths G c) e
+      where
+        go : (x : Bool) → cond x (some wrongLength) (orElse G (drawRefusal G t m ds) (firstLoud G 0 (c .noise))) ≡ none → Each (λ v. loud v ≡ false) (c .noise)
+        go true q = let z : _≡_ {A = ℕ} 0 1 = cc in absurd (omega arith)
+        go false q = all-quiet 0 (c .noise) (none-of (drawRefusal G t m ds) (firstLoud G 0 (c .noise)) q .1)

@@ -6,6 +6,7 @@ use mathlib.Core.Option.{none}
 use mathlib.Core.Path.{_≡_}
 use Prim.Native.Nat.{ℕ, _+_, _*_, _≤_, _<_}
 use lib.ListN.{length, take}
+use Rattle.call_lists.specs.Each.{Each}
 use Rattle.call_lists.specs.Generator.{Generator, Sample, NoisePair}
 use Rattle.call_lists.specs.PlainRun.{Reply, hit, timeOf, ended, replies, plainSamples, plainRecords}
 use Rattle.call_lists.specs.PlainBench.{Stop, done, outputFull, wantsNoise, wantsDraws, recordsFull, Answer, refused, ran, pairs, flatten, join, Call, Result, drawsOf, drawRefusal, Bench, bench0, benchResults, benchAfter}
@@ -76,10 +77,6 @@ module _ (G : Generator) where
     pub none-before : (a : Sample G) (n : ℕ) → n < r .first → hit G a r n ≡ a
     pub none-behind : (a : Sample G) (n : ℕ) → r .first + limit ≤ n → hit G a r n ≡ a
 
-  abbrev pub AllReach : List (Reply G) → Type 0
-  AllReach [] = Unit {0}
-  AllReach (r ∷ rs) = Reach r × AllReach rs
-
   -- the bench after calls
   abbrev pub bench : List (Call G) → Bench G
   bench cs = benchAfter G (bench0 G) cs
@@ -112,4 +109,4 @@ module _ (G : Generator) where
         → (allSamples (run cs) ≡ allSamples (run cs′)) × (allRecords (run cs) ≡ allRecords (run cs′))
     pub whole : (cs : List (Call G)) → reachesDone (run cs) ≡ true → (ended G t0 (bench cs .taken) ≡ true) × (length (allSamples (run cs)) ≡ 2 * total)
     -- (e) no reply adds before its first sample, nor to more than `limit`
-    pub reach : (cs : List (Call G)) → AllReach (replies G t0 (bench cs .taken))
+    pub reach : (cs : List (Call G)) → Each Reach (replies G t0 (bench cs .taken))

@@ -7,6 +7,7 @@ use mathlib.Core.Logic.{_≢_}
 use mathlib.Core.Path.{_≡_}
 use Prim.Native.Nat.{ℕ, zero, _+_, _≤_, _<_}
 use lib.ListN.{length}
+use Rattle.call_lists.specs.Each.{Each}
 use Rattle.call_lists.specs.Generator.{Generator}
 use Rattle.call_lists.specs.PlainRun.{reply, kind}
 use Rattle.call_lists.specs.PlainBench.{jumpsBack}
@@ -46,8 +47,7 @@ module _ (G : Generator) where
     pub entry-length : (t : Time) (d : Draw) (s n : ℕ) → length (entry t d s n) ≡ recordBytes
 
   abbrev pub AllInRange : List Draw → Type 0
-  AllInRange [] = Unit {0}
-  AllInRange (d ∷ ds) = InRange d × AllInRange ds
+  AllInRange ds = Each InRange ds
 
   abbrev pub NoJump : Time → Option Time → List Draw → Type 0
   NoJump t m [] = Unit {0}

@@ -1,3 +1,4 @@
+pub mod Each
 pub mod Generator
 pub mod PlainRun
 pub mod PlainBench

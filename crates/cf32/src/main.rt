@@ -8,8 +8,8 @@ use libc::STDERR_FILENO;
 use libc::STDIN_FILENO;
 use libc::STDOUT_FILENO;
 use running::State;
-use tape_feed::Feed;
 use tape_head::Beginning;
+use tape_verdict::Feed;
 
 // A run so far, and whether to stop: the noise section was short, or nobody takes the samples.
 pub struct Fed {
@@ -170,7 +170,7 @@ fn finish(fd: i32, f: Fed, records: &[u8]) {
     let count = g.records as u64;
     let end = least(66 * least(count, 400), records.len() as u64) as usize;
     io::write_all(fd, &records[..end]);
-    let n = tape_feed::verdict(f.short, answer, left_over());
+    let n = tape_verdict::verdict(f.short, answer, left_over());
     if n == 0 {
         tell(b"records ", count, state.written);
     } else {
@@ -195,7 +195,7 @@ fn run(
     let mut records = [0u8; 26400];
     let f = noise_section(
         count,
-        tape_feed::start(state),
+        tape_verdict::start(state),
         mode_s,
         mode_ac,
         memory,

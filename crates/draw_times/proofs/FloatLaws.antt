@@ -28,11 +28,15 @@ pub record DrawLaws (S : Draws) (sps total : ℕ) : Type 0 where
   pub some-limit : 0 < replyLimit sps
   pub entry-length : (t : Float) (d : S .Draw) (s n : ℕ) → length (S .entry t d s n) ≡ 66
 
+pub good-zero : GoodTime nought
+unfolding fits
+good-zero = record { non-neg = refl; fit = tt }
+
 module _ (S : Draws) (sps total : ℕ) (K : DrawLaws S sps total) where
-  pub laws : Laws (generator S sps total)
+  unfoldable pub laws : Laws (generator S sps total)
   laws = record {
     Good = GoodTime;
-    good-first = record { non-neg = refl; fit = unfold fits in tt };
+    good-first = good-zero;
     good-after = λ t d g e. good-on t (S .gap d) g (K .gap-in-range d e);
     first-time = λ t g. not-before-zero t (g .non-neg);
     same-time = λ t g. not-before-itself t (g .non-neg);

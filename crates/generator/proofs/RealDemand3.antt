@@ -11,7 +11,7 @@ use Rattle.generator.proofs.FiltersInRange.{FiltersInRange}
 use Rattle.generator.proofs.RealDrawLaws.{real-draw-laws}
 
 module _ (f : Filters) (R : FiltersInRange f) (total : ℕ) (few : total ≤ 2 ^ 52) where
-  pub real-laws : Laws (real f total)
+  unfoldable pub real-laws : Laws (real f total)
   real-laws = laws (draws f) four total (real-draw-laws f R total few)
 
   -- o is what a read out of range gives; it is never met

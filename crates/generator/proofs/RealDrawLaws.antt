@@ -33,7 +33,7 @@ use Rattle.generator.proofs.ReplyBytes.{made-bytes}
 use Rattle.generator.proofs.DrawInRange.{fine-of, gap-of, error-of, message-error}
 use Rattle.generator.proofs.FiltersInRange.{FiltersInRange}
 
-time-in-range : (t : Float) → GoodTime t → TimeInRange t
+pub time-in-range : (t : Float) → GoodTime t → TimeInRange t
 time-in-range t g = signed-in-range t (g .fit) (signed t (g .non-neg))
   where
     signed : (t : Float) → NonNeg t → Signed t false
@@ -55,16 +55,16 @@ unfolding configOf
 config-bytes f t d = made-bytes (typeDrawn (typeNumbered (d .kind))) (d .picks)
 
 module _ (f : Filters) (R : FiltersInRange f) (total : ℕ) (few : total ≤ 2 ^ 52) where
-  fields : (d : HeldDraw) → draws f .fault d ≡ none → InRange (f .rates) (f .distributions) (d .draw)
+  pub fields : (d : HeldDraw) → draws f .fault d ≡ none → InRange (f .rates) (f .distributions) (d .draw)
   fields d e = in-range (f .rates) (f .distributions) (d .draw) (fine-of (drawFault (f .rates) (f .distributions) (d .draw)) e)
 
   error-in-range : (d : HeldDraw) → draws f .fault d ≡ none → ErrorInRange (kindDrawn (d .draw)) (errorDrawn (f .distributions) (d .draw))
   error-in-range d e = error-of (f .rates) (f .distributions) (R .distributions .clock) (d .draw) (d .held .clock) (fields d e)
 
-  reply-at : (t : Float) (d : HeldDraw) (s : ℕ) → kind (real f total) t d ≡ reply s → startAt (f .distributions) (f .delays) t (d .draw) ≡ pos s
+  pub reply-at : (t : Float) (d : HeldDraw) (s : ℕ) → kind (real f total) t d ≡ reply s → startAt (f .distributions) (f .delays) t (d .draw) ≡ pos s
   reply-at t d s e = started (startAt (f .distributions) (f .delays) t (d .draw)) s (reply-start (real f total) (startFrom (startAt (f .distributions) (f .delays) t (d .draw))) s e)
 
-  below-52 : (t : Float) (d : HeldDraw) (s : ℕ) → kind (real f total) t d ≡ reply s → s < 2 ^ 52
+  pub below-52 : (t : Float) (d : HeldDraw) (s : ℕ) → kind (real f total) t d ≡ reply s → s < 2 ^ 52
   below-52 t d s e = step s total (reply-fits (real f total) (startFrom (startAt (f .distributions) (f .delays) t (d .draw))) s e) few
     where
       step : (s n : ℕ) → s + 1094 < n → n ≤ 2 ^ 52 → s < 2 ^ 52

@@ -1,37 +1,31 @@
 -- What the theorems of this crate take as in range: a draw's time and clock error, and the filters' delays. Each is what document 01's checks, or the theorem about group delays, gives. Assumes nothing.
-use mathlib.Core.Path.{_≡_, refl, sym, ap, _∙_}
-use Prim.Native.Nat.{ℕ, _-_, _*_, _/_, _^_, _≤_, _<_, zero-le}
-use native.Mathlib.Nat.{le-trans, le-of-eq, le-of-lt, lt-of-le-of-lt, zero-mul, mul-one, mul-assoc, mul-right-comm, mul-le-mul-right, mul-le-mul-left}
+use mathlib.Core.Path.{refl, sym, ap, _∙_}
+use Prim.Native.Nat.{ℕ, _-_, _*_, _/_, _^_, _≤_, zero-le}
+use native.Mathlib.Nat.{le-trans, le-of-eq, zero-mul, mul-one, mul-right-comm}
 use native.Mathlib.Omega.{arith}
 use mathlib.Core.Bool.{Bool, true, false, true≢false}
-use mathlib.Core.List.{List}
 use lib.IntN.{pos}
-use lib.Dec.{T, lit≤, lit<}
-use lib.ListN.{length}
-use lib.Ieee.{Float, nan, inf, fin, binary32, binary64, up, down, ofBits, lt, le, fits, div, mul, add, ofInt}
+use lib.Dec.{T}
+use lib.Ieee.{Float, nan, inf, fin, binary64, up, down, ofBits, le, fits, mul, add, ofInt}
 use lib.Ieee.Fits.{sub-fits}
 use lib.Ieee.Exact.{HasValue}
-use lib.Ieee.Scale.{overflow, finite}
-use Rattle.constants.specs.Rate.{four, tapsPerBranch, prototypeLength, largestOffset}
+use lib.Ieee.Scale.{finite}
+use Rattle.constants.specs.Rate.{tapsPerBranch, largestOffset}
 use Rattle.rounding.proofs.Order.{Signed, fin-le}
-use Rattle.rounding.proofs.Units.{G, G-le, Units, units-of, lt-finite, lt-units}
-use Rattle.rounding.proofs.Val.{Val, val-units}
+use Rattle.rounding.proofs.Units.{Units}
+use Rattle.rounding.proofs.Val.{Val}
 use Rattle.float_bits.specs.Range.{within}
 use Rattle.float_bits.proofs.Exact.{whole-value}
 use Rattle.float_bits.proofs.Ranges.{within-finite, within-val}
 use Rattle.rounding.proofs.Size.{Within, number}
-use Rattle.math.specs.Phase.{pi}
-use Rattle.math.proofs.InRange.{Between}
+use Rattle.math.proofs.Constants.{piUnits}
 use Rattle.distributions.specs.Asked.{tenth, offsetLimit}
 use Rattle.message.specs.declared.ReplyKind.{ReplyKind}
 use Rattle.message.specs.declared.ReplyKind.the-variants.{Short, Long, ModeAc}
 use Rattle.message_config.specs.declared.Delays.{Delays}
 use Rattle.message_config.specs.declared.MessageConfig.{MessageConfig}
 use Rattle.message_config.specs.Timing.{delayOf, filterClockError}
-use Rattle.pulse_shape.specs.declared.Crossing.the-variants.{At}
-use Rattle.pulse_shape.specs.Accepted.{allWithin16}
-use Rattle.pulse_shape.specs.GroupDelay.{groupDelay, modeACRatio}
-use Rattle.pulse_shape.proofs.DelayWithin.{Held, div-units, delay-most}
+use Rattle.pulse_shape.specs.GroupDelay.{modeACRatio}
 
 -- 0.0
 abbrev pub zeroF : Float
@@ -68,21 +62,6 @@ unfolding delayOf
 delay-of sps delays r Short = r .mode-s
 delay-of sps delays r Long = r .mode-s
 delay-of sps delays r ModeAc = r .mode-ac
-
--- by comparisons, at document 01's rate: at least 0, and below 28
-pub delay-between : (d : Float) → T (fits binary64 d) → T (le zeroF d) → T (lt d (fin false 7 (pos 2))) → DelayInRange four d
-delay-between d F l h =
-    let u = units-of d F l (lt-finite d 7 (pos 2) h) in
-    record { count = u .0; is = u .1; most = le-of-lt (lt-units d 7 (pos 2) (u .0) (28 * 2 ^ 1074) (u .1) refl .0 h) }
-
--- the group delay that a crossing gives is in range
-pub found-delay : (sps : ℕ) (level : Float) (p : List Float) (d : Float) → 0 < sps → sps ≤ 2 ^ 30 → T (fits binary32 level) → T (lt zeroF level) → Held p → allWithin16 p ≡ true → length p ≤ prototypeLength sps → groupDelay sps level p ≡ At d → DelayInRange sps d
-found-delay sps level p d S few FL z H w h e =
-    let r = delay-most sps level p d S few FL z H w h e in
-    record { count = r .0; is = r .1; most = le-trans (r .2) (le-trans (mul-le-mul-right (2 ^ 1068) (less sps)) (le-of-eq (mul-assoc (7 * sps) 64 (2 ^ 1068)))) }
-  where
-    less : (s : ℕ) → 64 * s * 7 - 1 ≤ 7 * s * 64
-    less s = omega arith
 
 -- ---- a clock error is within 0.1 in size, and so is the filter's; for Mode S they are one
 pub record ErrorInRange (kind : ReplyKind) (e : Float) : Type 0 where
@@ -141,5 +120,4 @@ pub record MessageInRange (sps : ℕ) (c : MessageConfig) : Type 0 where
   pub error : ErrorInRange (c .reply .kind) (c .error)
   pub offset-fit : T (fits binary64 (c .offset))
   pub offset : T (within (c .offset) (offsetLimit sps))
-  pub phase-fit : T (fits binary64 (c .phase))
-  pub phase : Between pi (c .phase)
+  pub phase : Within (c .phase) piUnits

@@ -3,4 +3,3 @@ pub mod Starts
 pub mod HoldBack
 pub mod FirstClock
 pub mod NeverNan
-pub mod DrawnInRange

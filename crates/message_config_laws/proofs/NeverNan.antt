@@ -22,7 +22,7 @@ use Rattle.math.specs.Phase.{pi, twoPi}
 use Rattle.rounding.proofs.Size as Size
 use Rattle.rounding.proofs.Size.{Within, units-within, within-neg, sum-within, le-or-lt, sub-is}
 use Rattle.math.proofs.Constants.{piUnits, twoPiUnits, pi-val, twoPi-val}
-use Rattle.math.proofs.InRange.{Between, within-of-tests, tests-of-within, wrapped-in-range}
+use Rattle.math.proofs.InRange.{Between, tests-of-within, wrapped-in-range}
 use Rattle.distributions.specs.Asked.{offsetLimit}
 use Rattle.message_config.specs.declared.Delays.{Delays}
 use Rattle.message_config.specs.declared.MessageConfig.{MessageConfig}
@@ -191,7 +191,7 @@ module _ (sps : ℕ) (S : 3 ≤ sps) (M : sps ≤ 2 ^ 30) (W : Turning sps) (del
         clock-phase = units-finite (clockPhase (c .time) (delayOf delays kind) (c .error) (filterClockError kind (c .error))) (p .0) (p .1);
         first-phase =
             subst (λ (z : ℤ). Between pi (firstPhase (c .phase) (c .time) z (carrierRate sps (c .offset)))) (sym h)
-            (phase-between (c .phase) (c .time) (carrierRate sps (c .offset)) s (within-of-tests (c .phase) pi piUnits (r .phase-fit) pi-val (r .phase)) (reply-time (c .time) d (counted (c .time) (r .time) f) (q .0) (8 * sps) s (q .1) (held-some sps S) (held-few sps M) (q .2) h small) (carrier-within sps S M W c r) small);
+            (phase-between (c .phase) (c .time) (carrierRate sps (c .offset)) s (r .phase) (reply-time (c .time) d (counted (c .time) (r .time) f) (q .0) (8 * sps) s (q .1) (held-some sps S) (held-few sps M) (q .2) h small) (carrier-within sps S M W c r) small);
       }
 
 -- ---- at document 01's rate

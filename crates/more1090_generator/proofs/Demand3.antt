@@ -75,6 +75,7 @@ calls-of s modeS modeAC memory o = record {
       ∙ ap (map seenFlat) (o .seen ls)
       ∙ each seenFlat (seenResult s modeS modeAC) (benchSeen s modeS modeAC) (bench-seen s modeS modeAC) (o .results (map (callOf s modeS modeAC) ls));
   demand3 = o .demand3;
+  finite = o .finite;
 }
 
 -- no refusal has the number 0

@@ -19,9 +19,6 @@ use Rattle.rounding.proofs.Val.{Val, neg-val, add-same, add-opposite, a
 abbrev pub Within : Float → ℕ → Type 0
 Within x b = (s : Bool) × (n : ℕ) × Val x s n × (n ≤ b)
 
-pub within-more : (x : Float) (b c : ℕ) → b ≤ c → Within x b → Within x c
-within-more x b c h w = (w .0, w .1, w .2, le-trans (w .3) h)
-
 pub within-neg : (x : Float) (b : ℕ) → Within x b → Within (neg x) b
 within-neg x b w = (not (w .0), w .1, neg-val x (w .0) (w .1) (w .2), w .3)
 

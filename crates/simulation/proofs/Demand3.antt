@@ -21,6 +21,7 @@ use Rattle.opening.specs.Opening as Opening
 use Rattle.opening.proofs.WhatIsOpened.{opened-run-in-range, opened-first}
 use Rattle.simulation.specs.Seen.{seenLeft, countsGiven, answerGiven, seenResult}
 use Rattle.simulation.specs.OpenedRuns.{OpenedRuns}
+use Rattle.simulation.proofs.FiniteSamples.{opened-finite}
 
 module _ (s : State) (modeS modeAC : List Float) where
   -- a call of the theory, as the code answers it, is seen as its result
@@ -59,4 +60,5 @@ module _ (tapsS tapsAC : List Float) (bytes : List ℕ) (lent : Opening.Lent) (s
             ∙ ap (λ (z : Machine.State G nan). map seenLeft (runsGiven s pS pAC z ls)) (opened-first Opening.half tapsS tapsAC bytes lent s opens)
             ∙ seen-all s pS pAC ls (Machine.opened G nan);
         demand3 = real-demand3 (filtersOf s pS pAC) (r .0) (s .total) (r .1) nan;
+        finite = opened-finite tapsS tapsAC bytes lent s opens (Machine.runs G nan) (real-demand3 (filtersOf s pS pAC) (r .0) (s .total) (r .1) nan);
       }

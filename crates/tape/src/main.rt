@@ -6,15 +6,8 @@ ghost use lib.ListN.{length};
 ghost use Rattle.io.specs.Counts.{Counts};
 use libc::STDIN_FILENO;
 use libc::STDOUT_FILENO;
-use running::State;
-use tape_feed::Feed;
 use tape_head::Beginning;
-
-// A run so far, and whether the noise section was short.
-pub struct Fed {
-    pub feed: Feed,
-    pub short: bool,
-}
+use tape_verdict::Feed;
 
 fn least(a: u64, b: u64) -> u64
     ensures { λ r. ⌜ r ≡ min a b ⌝ }
@@ -40,48 +33,15 @@ fn left_over() -> bool {
     0 < io::read_full(STDIN_FILENO, &mut b)
 }
 
-// So many bytes read; whether there were fewer.
-fn read_short(size: usize, bytes: &mut [u8]) -> bool
+// So many bytes read; none are counted where there were fewer.
+fn read_whole(size: usize, bytes: &mut [u8]) -> usize
     requires { ⌜ size ≤ length (now bytes) ⌝ }
+    ensures { λ r. ⌜ r ≤ size ⌝ }
 {
-    io::read_full(STDIN_FILENO, &mut bytes[..size]) < size
-}
-
-// The next so many noise values, read and fed to the run.
-fn turn(
-    f: Feed,
-    want: u64,
-    mode_s: &[f32],
-    mode_ac: &[f32],
-    memory: &mut [f32],
-    draws: &[u8],
-    records: &mut [u8],
-) -> Fed
-    requires { ⌜ want ≤ 16384 ⌝ }
-{
-    let size = 4 * want as usize;
-    let mut bytes = [0u8; 65536];
-    if read_short(size, &mut bytes) {
-        return Fed {
-            feed: f,
-            short: true,
-        };
+    if io::read_full(STDIN_FILENO, &mut bytes[..size]) < size {
+        return 0;
     }
-    let mut output = [0.0f32; 16386];
-    let g = tape_feed::feed_bytes(
-        f,
-        mode_s,
-        mode_ac,
-        memory,
-        draws,
-        &bytes[..size],
-        &mut output,
-        records,
-    );
-    Fed {
-        feed: g,
-        short: false,
-    }
+    size
 }
 
 // The values left after so many; none once the section was short.
@@ -97,70 +57,46 @@ fn left_after(left: u64, want: u64, short: bool) -> u64
     left - want
 }
 
-// The noise section of so many values, in chunks of up to 16,384; first none, so that a run of no samples is done.
-fn noise_section(
-    count: u64,
-    first: Feed,
-    mode_s: &[f32],
-    mode_ac: &[f32],
-    memory: &mut [f32],
-    draws: &[u8],
-    records: &mut [u8],
-) -> Fed {
-    let mut f = Fed {
-        feed: first,
-        short: false,
-    };
-    let mut left = count;
-    let mut want: u64 = 0;
-    let mut turns: u64 = 1;
-    while 0 < turns {
-        let g = f.feed;
-        f = turn(g, want, mode_s, mode_ac, memory, draws, records);
-        left = left_after(left, want, f.short);
-        want = least(left, 16384);
-        turns = least(want, 1);
-    }
-    f
-}
-
-fn finish(f: Fed, records: &[u8]) {
-    let g = f.feed;
-    let answer = g.answer;
-    let state = g.state;
-    let count = g.records;
-    let n = tape_feed::verdict(f.short, answer, left_over());
+fn finish(short: bool, f: Feed, records: &[u8]) {
+    let answer = f.answer;
+    let n = tape_verdict::verdict(short, answer, left_over());
     if n == 0 {
-        print_run(records, count, state.written);
+        print_run(records, f.records, f.state.written);
     } else {
         print_refused(n);
     }
 }
 
-// A run with n draws and so many noise values.
-fn run(
-    state: State,
-    n: u64,
-    count: u64,
-    head: &[u8],
-    mode_s: &[f32],
-    mode_ac: &[f32],
-    memory: &mut [f32],
-)
-    requires { ⌜ (n ≤ 400) × (38139 ≤ length (now head)) ⌝ }
-{
-    let end = 12135 + 65 * n as usize;
+// A run with so many noise values, in chunks of up to 16,384; first none, so that a run of no samples is done.
+// Of a short one nothing is fed, and the verdict is 11.
+fn run(first: Feed, count: u64, draws: &[u8], mode_s: &[f32], mode_ac: &[f32], memory: &mut [f32]) {
     let mut records = [0u8; 26400];
-    let f = noise_section(
-        count,
-        tape_feed::start(state),
-        mode_s,
-        mode_ac,
-        memory,
-        &head[12135..end],
-        &mut records,
-    );
-    finish(f, &records);
+    let mut f = first;
+    let mut short = false;
+    let mut left = count;
+    let mut want: u64 = 0;
+    let mut turns: u64 = 1;
+    while 0 < turns {
+        let size = 4 * want as usize;
+        let mut bytes = [0u8; 65536];
+        let mut output = [0.0f32; 16386];
+        let whole = read_whole(size, &mut bytes);
+        f = tape_feed::feed_bytes(
+            f,
+            mode_s,
+            mode_ac,
+            memory,
+            draws,
+            &bytes[..whole],
+            &mut output,
+            &mut records,
+        );
+        short = whole < size;
+        left = left_after(left, want, short);
+        want = least(left, 16384);
+        turns = least(want, 1);
+    }
+    finish(short, f, &records);
 }
 
 // The bytes of a tape up to its noise; how many there are.
@@ -186,7 +122,9 @@ fn main() {
     match tape_head::head(&bytes[..got], &mut mode_s, &mut mode_ac, &mut memory) {
         Beginning::Refused(number) => print_refused(number),
         Beginning::Run(state, n, count) => {
-            run(state, n, count, &bytes, &mode_s, &mode_ac, &mut memory)
+            let end = 12135 + 65 * n as usize;
+            let f = tape_verdict::start(state);
+            run(f, count, &bytes[12135..end], &mode_s, &mode_ac, &mut memory)
         }
     }
 }

@@ -1,7 +1,7 @@
--- The parts that a call is lent are the rest of the draws and of the room and the noise in the bytes, and what it leaves joins the records (`called`); and the joints of a verdict. Assumes nothing.
+-- The parts that a call is lent are the rest of the draws and of the room and the noise in the bytes, and what it leaves joins the records (`called`). Assumes nothing.
 use Prim.Native.Nat.{ℕ, _+_, _-_, _*_, _/_, _%_, _^_, _≤_, _<_, min}
 use mathlib.Core.Path.{_≡_, refl, sym, ap, _∙_}
-use mathlib.Core.Bool.{Bool, true, false, cond}
+use mathlib.Core.Bool.{Bool, true, false}
 use mathlib.Core.List.{List, [], _++_, append-nil}
 use native.Mathlib.Nat.{le-div-iff-mul-le, div-lt-iff-lt-mul, mul-comm}
 use native.Mathlib.Omega.{arith}
@@ -17,8 +17,8 @@ use Rattle.running.specs.declared.Answer as Answer
 use Rattle.running.specs.Calls.{runLeft}
 use Rattle.tape_floats.specs.Floats.{floatsOf}
 use Rattle.tape_floats.proofs.Rows.{length-floats}
-use Rattle.tape_feed.specs.declared.Feed.{Feed}
-use Rattle.tape_feed.specs.Feeding.{Fed, feedAfter, fedAfter, calledOf, fedThen, fedOf, noiseOf, answerThen, verdictOf}
+use Rattle.tape_verdict.specs.declared.Feed.{Feed}
+use Rattle.tape_feed.specs.Feeding.{Fed, feedAfter, fedAfter, calledOf, fedThen, fedOf, noiseOf}
 
 -- ---- places
 pub inside-place : (k size len : ℕ) → 0 < size → k ≤ len / size → size * k ≤ len
@@ -103,8 +103,3 @@ module _ (modeS modeAC : List Float) (draws : List ℕ) (noise : List Float) (d 
   pub goes-on : (w : Stop.Stop) {x : Fed} → d .feed .answer ≡ Answer.the-variants.Stopped w → x ≡ calledOf modeS modeAC draws noise d → x ≡ fedOf modeS modeAC draws noise d
   unfolding fedOf fedThen
   goes-on w e p = p ∙ sym (ap (fedThen modeS modeAC draws noise d) e)
-
--- ---- the verdict
-pub not-short : (over : Bool) (answer : Answer.Answer) {short : Bool} {r : ℕ} → short ≡ false → r ≡ answerThen over answer → r ≡ verdictOf short answer over
-unfolding verdictOf
-not-short over answer e p = p ∙ sym (ap (λ (b : Bool). cond b 11 (answerThen over answer)) e)

@@ -1,22 +1,14 @@
 -- A run that is fed its noise chunk by chunk, as the code does it: each chunk is a run call, lent the draws that are not taken and the room behind the records written. Definitions only.
 use Prim.Native.Nat.{ℕ, _+_, _*_, _/_, _%_, _^_, min}
-use mathlib.Core.Bool.{Bool, cond}
-use mathlib.Core.List.{List, [], _∷_, _++_}
+use mathlib.Core.List.{List, _++_}
 use lib.ListN.{length, take, drop}
 use lib.Ieee.{Float}
-use Rattle.refusals.specs.Number.{numberOf}
-use Rattle.running.specs.declared.State.{State}
-use Rattle.run_plans.specs.declared.Stop as Stop
 use Rattle.running.specs.declared.Answer as Answer
 use Rattle.running.specs.declared.Ran.{Ran}
 use Rattle.running.specs.Ended.{Left}
 use Rattle.running.specs.Calls.{runLeft}
 use Rattle.tape_floats.specs.Floats.{floatsOf}
-use Rattle.tape_feed.specs.declared.Feed.{Feed}
-
--- a run that nothing has been fed: no draw taken, no record written
-unfoldable pub startOf : State → Feed
-startOf s = record { state = s; taken = 0; records = 0; answer = Answer.the-variants.Stopped Stop.the-variants.WantsNoise }
+use Rattle.tape_verdict.specs.declared.Feed.{Feed}
 
 -- a run so far, and what is lent to it for writing
 pub record Fed : Type 0 where
@@ -55,18 +47,3 @@ module _ (modeS modeAC : List Float) (draws : List ℕ) (noise : List Float) whe
 -- the noise values in a chunk's bytes, 16,384 at most
 unfoldable pub noiseOf : List ℕ → List Float
 noiseOf bytes = floatsOf (min (length bytes / 4) 16384) bytes
-
--- the verdict on a tape whose noise is read: a refusal's number, or 0. "noise value by value to the last, used or not; then a run not Done, then bytes left over"; and a section's length before its values
-unfoldable pub stopThen : Bool → Stop.Stop → ℕ
-stopThen over Stop.the-variants.Done = cond over 11 0
-stopThen over Stop.the-variants.OutputFull = 11
-stopThen over Stop.the-variants.WantsNoise = 11
-stopThen over Stop.the-variants.WantsDraws = 11
-stopThen over Stop.the-variants.RecordsFull = 11
-
-unfoldable pub answerThen : Bool → Answer.Answer → ℕ
-answerThen over (Answer.the-variants.Stopped w) = stopThen over w
-answerThen over (Answer.the-variants.Refused q) = numberOf q
-
-unfoldable pub verdictOf : Bool → Answer.Answer → Bool → ℕ
-verdictOf short answer over = cond short 11 (answerThen over answer)

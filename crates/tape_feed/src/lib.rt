@@ -1,32 +1,10 @@
-// A run that is fed its noise chunk by chunk, and the verdict on it. Each public function is equal to a definition of specs/ on every input. Assumes nothing.
+// A run that is fed a chunk of its noise. The public function is equal to a definition of specs/ on every input. Assumes nothing.
 ghost use mathlib.Core.Path.{_≡_};
 ghost use Prim.Native.Nat.{_*_, _≤_, _<_, min};
-ghost use mathlib.Core.Bool.{cond};
-ghost use Rattle.tape_feed.specs.Feeding.{startOf, feedAfter, calledOf, fedOf, noiseOf, stopThen, verdictOf};
-use run_plans::Stop;
+ghost use Rattle.tape_feed.specs.Feeding.{feedAfter, calledOf, fedOf, noiseOf};
 use running::Answer;
 use running::Ran;
-use running::State;
-
-// A run so far: its state, the draws taken, the records written, and what its last call answered.
-pub struct Feed {
-    pub state: State,
-    pub taken: usize,
-    pub records: usize,
-    pub answer: Answer,
-}
-
-// A run that nothing has been fed.
-pub fn start(state: State) -> Feed
-    ensures { λ r. ⌜ r ≡ startOf state ⌝ }
-{
-    Feed {
-        state: state,
-        taken: 0,
-        records: 0,
-        answer: Answer::Stopped(Stop::WantsNoise),
-    }
-}
+use tape_verdict::Feed;
 
 // Where k entries of a size end, within a length; no product, so that no count can overflow.
 fn place(k: usize, size: usize, length: usize) -> usize
@@ -107,40 +85,5 @@ pub fn feed_bytes(
     match answer {
         Answer::Refused(_) => f,
         Answer::Stopped(_) => call(f, mode_s, mode_ac, memory, draws, bytes, output, records),
-    }
-}
-
-fn left_over(over: bool) -> u64
-    ensures { λ r. ⌜ r ≡ cond over 11 0 ⌝ }
-{
-    if over {
-        return 11;
-    }
-    0
-}
-
-// A run that is not done, then bytes left over.
-fn of_stop(w: Stop, over: bool) -> u64
-    ensures { λ r. ⌜ r ≡ stopThen over w ⌝ }
-{
-    match w {
-        Stop::Done => left_over(over),
-        Stop::OutputFull => 11,
-        Stop::WantsNoise => 11,
-        Stop::WantsDraws => 11,
-        Stop::RecordsFull => 11,
-    }
-}
-
-// The refusal of a tape whose noise is read, 0 for none: a short section, a noise value at fault, a run not Done, bytes left over.
-pub fn verdict(short: bool, answer: Answer, over: bool) -> u64
-    ensures { λ r. ⌜ r ≡ verdictOf short answer over ⌝ }
-{
-    if short {
-        return 11;
-    }
-    match answer {
-        Answer::Refused(q) => refusals::number(q),
-        Answer::Stopped(w) => of_stop(w, over),
     }
 }

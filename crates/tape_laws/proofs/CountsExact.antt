@@ -1,7 +1,7 @@
 -- From a run that nothing has been fed, over any chunks, no more draws are taken than the tape has, and no more records written than draws taken (`in-tape`).
 -- So the counts of a run, which `feedAfter` keeps modulo 2^64, are plain sums (`counts-exact`). Assumes nothing but that the bytes of a tape's draws are fewer than 2^64, as those of any slice are.
-use Prim.Native.Nat.{ℕ, zero, suc, _+_, _-_, _*_, _/_, _%_, _^_, _≤_, _<_}
-use mathlib.Core.Path.{_≡_, refl, sym, ap, _∙_, subst}
+use Prim.Native.Nat.{ℕ, zero, suc, _+_, _-_, _*_, _/_, _^_, _≤_, _<_}
+use mathlib.Core.Path.{_≡_, ap}
 use mathlib.Core.List.{List, [], _∷_}
 use mathlib.Core.Option.{Option, none, some}
 use native.Mathlib.Omega.{arith}
@@ -22,8 +22,8 @@ use Rattle.running.specs.declared.Answer as Answer
 use Rattle.running.specs.Ended.{Left, leftBy, callLeft}
 use Rattle.running.specs.Turns.{genOf}
 use Rattle.running.specs.Calls.{refusedBy, runBy, callRefusal, runLeft}
-use Rattle.tape_feed.specs.declared.Feed.{Feed}
-use Rattle.tape_feed.specs.Feeding.{Fed, startOf, feedAfter, fedAfter, calledOf, fedThen, fedOf}
+use Rattle.tape_verdict.specs.Verdict.{startOf}
+use Rattle.tape_feed.specs.Feeding.{Fed, feedAfter, fedAfter, calledOf, fedThen, fedOf}
 use Rattle.tape_laws.specs.Fed.{fedAll, leftFor}
 
 -- ---- a call's steps write no more records than they take draws

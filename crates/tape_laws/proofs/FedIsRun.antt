@@ -15,7 +15,8 @@ use Rattle.opening.specs.declared.Opened as Opened
 use Rattle.opening.specs.Opening as Opening
 use Rattle.simulation.specs.Seen.{seenLeft, seenResult}
 use Rattle.simulation.proofs.Demand3.{opened-runs}
-use Rattle.tape_feed.specs.Feeding.{Fed, startOf, feedAfter, fedAfter, calledOf, fedThen, fedOf}
+use Rattle.tape_verdict.specs.Verdict.{startOf}
+use Rattle.tape_feed.specs.Feeding.{Fed, feedAfter, fedAfter, calledOf, fedThen, fedOf}
 use Rattle.tape_laws.specs.Fed.{fedAll, lentFor, leftFor, lents, lefts, feedLefts}
 
 module _ (modeS modeAC : List Float) (draws : List ℕ) where

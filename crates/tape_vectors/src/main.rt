@@ -6,8 +6,8 @@ ghost use lib.ListN.{length};
 use libc::STDIN_FILENO;
 use libc::STDOUT_FILENO;
 use running::State;
-use tape_feed::Feed;
 use tape_head::Beginning;
+use tape_verdict::Feed;
 
 fn least(a: u64, b: u64) -> u64
     ensures { λ r. ⌜ r ≡ min a b ⌝ }
@@ -40,7 +40,7 @@ fn finish(short: bool, over: bool, f: Feed, records: &[u8]) {
     let answer = f.answer;
     let state = f.state;
     let count = f.records;
-    let n = tape_feed::verdict(short, answer, over);
+    let n = tape_verdict::verdict(short, answer, over);
     if n == 0 {
         print_run(records, count, state.written);
     } else {
@@ -113,7 +113,7 @@ fn run(
     let last = begin + 4 * used as usize;
     let mut records = [0u8; 26400];
     let f = feed_all(
-        tape_feed::start(state),
+        tape_verdict::start(state),
         mode_s,
         mode_ac,
         memory,

@@ -1,11 +1,15 @@
 -- `tape::main` is safe: a run that a tape begins has at most 400 draws. Assumes nothing.
-use borrow.Author.Needs.{needs}
-use Prim.Native.Nat.{ℕ, _≤_}
-use mathlib.Core.Path.{refl, sym, subst}
+use Prim.Native.Nat.{ℕ, _+_, _*_, _^_, _<_, _≤_}
+use native.Mathlib.Omega.{arith}
+use mathlib.Core.Path.{refl, sym}
 use native.Mathlib.Nat.{le-refl}
 use Rattle.tape_head.proofs.Within.{begun-within}
+use borrow.Author.Needs.{needs}
 use Rattle.tape.proofs.main.Statement.{statement}
 use Rattle.tape.proofs.main.Tie as tie
+
+few-fits : (n : ℕ) → n ≤ 400 → (65 * n < 2 ^ 64) × (12135 + 65 * n < 2 ^ 64)
+few-fits n h = (omega arith, omega arith)
 
 slice-aggregate-read-head : tie.Need-slice-aggregate-read-head
 slice-aggregate-read-head c = refl
@@ -40,20 +44,35 @@ print-refused-requires c κs = tt
 enum-known-state : tie.Need-enum-known-state
 enum-known-state c = search needs
 
+mul-end : tie.Need-mul-end
+mul-end c = record { fits = few-fits _ (begun-within _ _ _ _ _ _ (c .before .before .before .before .before .before .head .ensures) (c .before .state .given .1) .0) .0 }
+
+add-end : tie.Need-add-end
+add-end c = record { fits = few-fits _ (begun-within _ _ _ _ _ _ (c .before .before .before .before .before .before .head .ensures) (c .before .state .given .1) .0) .1 }
+
+start-requires : tie.Need-start-requires
+start-requires c κs = tt
+
+sub-run : tie.Need-sub-run
+sub-run c = search needs
+
+part-run-start : tie.Need-part-run-start
+part-run-start c = search needs
+
+part-run-end : tie.Need-part-run-end
+part-run-end c = search (needs, begun-within _ _ _ _ _ _ (c .before .before .before .before .before .before .before .before .head .ensures) (c .before .before .before .state .given .1) .0)
+
 slice-aggregate-run : tie.Need-slice-aggregate-run
-slice-aggregate-run c = sym (c .before .before .before .before .before .before .before .before .before .before .before .before .bytes2 .given)
+slice-aggregate-run c = sym (c .before .before .before .before .before .before .before .before .before .mode-s2 .given)
 
 slice-aggregate-run-2 : tie.Need-slice-aggregate-run-2
-slice-aggregate-run-2 c = sym (c .before .before .before .before .before .before .before .mode-s2 .given)
+slice-aggregate-run-2 c = sym (c .before .before .before .before .before .before .before .before .before .mode-ac2 .given)
 
 slice-aggregate-run-3 : tie.Need-slice-aggregate-run-3
-slice-aggregate-run-3 c = sym (c .before .before .before .before .before .before .before .mode-ac2 .given)
-
-slice-aggregate-run-4 : tie.Need-slice-aggregate-run-4
-slice-aggregate-run-4 c = sym (c .before .before .before .before .before .before .before .memory2 .given)
+slice-aggregate-run-3 c = sym (c .before .before .before .before .before .before .before .before .before .memory2 .given)
 
 run-requires : tie.Need-run-requires
-run-requires c κs = (begun-within _ _ _ _ _ _ (c .before .before .before .before .before .before .before .before .before .before .head .ensures) (c .before .before .before .before .before .state .given .1) .0, subst (λ (k : ℕ). 38139 ≤ k) (sym (c .before .before .before .before .before .before .before .before .before .before .before .before .before .before .before .bytes2 .given)) (le-refl _))
+run-requires c κs = tt
 
 returns : tie.Need-returns
 returns c = tt
@@ -76,10 +95,15 @@ main-spec =
     enum-known-number
     print-refused-requires
     enum-known-state
+    mul-end
+    add-end
+    start-requires
+    sub-run
+    part-run-start
+    part-run-end
     slice-aggregate-run
     slice-aggregate-run-2
     slice-aggregate-run-3
-    slice-aggregate-run-4
     run-requires
     returns
     returns-2)

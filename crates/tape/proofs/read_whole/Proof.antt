@@ -1,9 +1,9 @@
--- `tape::read_short` is safe. Assumes nothing.
-use borrow.Author.Needs.{needs}
+-- `tape::read_whole` is safe. Assumes nothing.
 use native.Mathlib.Omega.{arith}
 use lib.ListN.{length-take}
-use Rattle.tape.proofs.read_short.Statement.{statement}
-use Rattle.tape.proofs.read_short.Tie as tie
+use borrow.Author.Needs.{needs}
+use Rattle.tape.proofs.read_whole.Statement.{statement}
+use Rattle.tape.proofs.read_whole.Tie as tie
 
 slice-relend-prefix-read-full : tie.Need-slice-relend-prefix-read-full
 slice-relend-prefix-read-full c = search needs
@@ -12,20 +12,28 @@ slice-aggregate-read-full : tie.Need-slice-aggregate-read-full
 slice-aggregate-read-full c = simp length-take (omega arith)
 
 read-full-requires : tie.Need-read-full-requires
-read-full-requires c κs = tt
+read-full-requires c κs = search needs
 
 same-length : tie.Need-same-length
 same-length c = search needs
 
 returns : tie.Need-returns
-returns c = tt
+returns c = search needs
 
-pub read-short-spec : {M : Type 1} → statement M
-read-short-spec =
+same-length-2 : tie.Need-same-length-2
+same-length-2 c = search needs
+
+returns-2 : tie.Need-returns-2
+returns-2 c = search needs
+
+pub read-whole-spec : {M : Type 1} → statement M
+read-whole-spec =
     tie.close
     (tie.spec
     slice-relend-prefix-read-full
     slice-aggregate-read-full
     read-full-requires
     same-length
-    returns)
+    returns
+    same-length-2
+    returns-2)

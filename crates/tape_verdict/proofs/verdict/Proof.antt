@@ -1,10 +1,10 @@
--- `tape_feed::verdict` meets its contract. Assumes nothing.
+-- `tape_verdict::verdict` meets its contract. Assumes nothing.
 use borrow.Author.Needs.{needs}
 use mathlib.Core.Path.{refl, sym, ap, _∙_}
-use Rattle.tape_feed.specs.Feeding.{answerThen, verdictOf}
-use Rattle.tape_feed.proofs.Parts.{not-short}
-use Rattle.tape_feed.proofs.verdict.Statement.{statement}
-use Rattle.tape_feed.proofs.verdict.Tie as tie
+use Rattle.tape_verdict.specs.Verdict.{answerThen, verdictOf}
+use Rattle.tape_verdict.proofs.NotShort.{not-short}
+use Rattle.tape_verdict.proofs.verdict.Statement.{statement}
+use Rattle.tape_verdict.proofs.verdict.Tie as tie
 
 returns : tie.Need-returns
 unfolding verdictOf

@@ -1,9 +1,9 @@
--- `tape_feed::of_stop` meets its contract. Assumes nothing.
+-- `tape_verdict::of_stop` meets its contract. Assumes nothing.
 use borrow.Author.Needs.{needs}
 use mathlib.Core.Path.{refl, sym, ap, _∙_}
-use Rattle.tape_feed.specs.Feeding.{stopThen}
-use Rattle.tape_feed.proofs.of_stop.Statement.{statement}
-use Rattle.tape_feed.proofs.of_stop.Tie as tie
+use Rattle.tape_verdict.specs.Verdict.{stopThen}
+use Rattle.tape_verdict.proofs.of_stop.Statement.{statement}
+use Rattle.tape_verdict.proofs.of_stop.Tie as tie
 
 enum-told : tie.Need-enum-told
 enum-told c = search needs
