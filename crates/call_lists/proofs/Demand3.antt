@@ -207,7 +207,7 @@ module _ (G : Generator) (L : Laws G) (o : G .Value) where
       )
 
   -- more noise, and draws that the bench does not refuse, leave the samples a first part
-  samples-prefix : (b : Bench G) (ds : List Draw) (vs : List (NoisePair G)) → Reached G L b → Accepted G (timeOf G t0 (b .taken)) (b .mark) ds → Prefix (plainOutput G (b .taken) (b .used)) (plainOutput G (b .taken ++ ds) (b .used ++ vs))
+  pub samples-prefix : (b : Bench G) (ds : List Draw) (vs : List (NoisePair G)) → Reached G L b → Accepted G (timeOf G t0 (b .taken)) (b .mark) ds → Prefix (plainOutput G (b .taken) (b .used)) (plainOutput G (b .taken ++ ds) (b .used ++ vs))
   samples-prefix b ds vs g acc = (
     flatten more,
     sym (flatten-append (plainSamples G (b .taken) (b .used)) more)

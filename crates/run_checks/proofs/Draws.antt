@@ -34,7 +34,7 @@ module _ (rates : MessagesPerSecond) (all : Distributions) where
   abbrev G : Generator
   G = asked rates all
 
-  fault-same : (n k : ℕ) (bytes : List ℕ) → faultRead (faultFrom rates all n k bytes) ≡ Bench.firstFault (asked rates all) k (Bench.cut (asked rates all) n bytes)
+  pub fault-same : (n k : ℕ) (bytes : List ℕ) → faultRead (faultFrom rates all n k bytes) ≡ Bench.firstFault (asked rates all) k (Bench.cut (asked rates all) n bytes)
   unfolding faultFrom faultRead
   fault-same zero k bytes = refl
   fault-same (suc n) k bytes =

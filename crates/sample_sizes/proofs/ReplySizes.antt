@@ -67,17 +67,17 @@ turned-sized amplitude rate phase (v ∷ vs) a r w h =
     (sample-sized amplitude v phase a (h .0) w, turned-sized amplitude rate (phaseWrapOnce (add binary64 phase rate)) vs a r (stepped-within phase rate w r) (h .1))
 
 -- a prototype that a run is opened with
-pub record GoodPrototype (p : List Float) : Type 0 where
+pub record SmallPrototype (p : List Float) : Type 0 where
   pub whole : length p ≡ prototypeLength four
   pub small : allWithin16 p ≡ true
 
-own : (k : ReplyKind) (modeS modeAC : List Float) → GoodPrototype modeS → GoodPrototype modeAC → GoodPrototype (prototypeOf k modeS modeAC)
+own : (k : ReplyKind) (modeS modeAC : List Float) → SmallPrototype modeS → SmallPrototype modeAC → SmallPrototype (prototypeOf k modeS modeAC)
 unfolding prototypeOf
 own Short modeS modeAC p q = p
 own Long modeS modeAC p q = p
 own ModeAc modeS modeAC p q = q
 
-pub reply-sized : (modeS modeAC : List Float) → GoodPrototype modeS → GoodPrototype modeAC → (delays : Delays) (amplitude : Float) (c : MessageConfig) → AtMost (2 ^ 20) amplitude → ClockInRange delays c → Within (configRate four c) piUnits → Within (configPhase four delays c) piUnits
+pub reply-sized : (modeS modeAC : List Float) → SmallPrototype modeS → SmallPrototype modeAC → (delays : Delays) (amplitude : Float) (c : MessageConfig) → AtMost (2 ^ 20) amplitude → ClockInRange delays c → Within (configRate four c) piUnits → Within (configPhase four delays c) piUnits
     → Each Sized (replySamples four modeS modeAC delays amplitude c)
 unfolding replySamples samplesBy
 reply-sized modeS modeAC p q delays amplitude c a clock rate phase =

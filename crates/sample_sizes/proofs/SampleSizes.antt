@@ -40,7 +40,7 @@ use Rattle.generator.proofs.MessageInRange.{message-in-range, draw-finite, repl
 use Rattle.generator.proofs.RealDrawLaws.{time-in-range, fields, reply-at, below-52}
 use Rattle.generator.proofs.RealDemand3.{real-laws}
 use Rattle.sample_sizes.proofs.Values.{up-to-sized}
-use Rattle.sample_sizes.proofs.ReplySizes.{most, Sized, GoodPrototype, reply-sized}
+use Rattle.sample_sizes.proofs.ReplySizes.{most, Sized, SmallPrototype, reply-sized}
 
 -- ---- sums stop growing at 2 ^ 53
 stop : Rounds binary32 (2 ^ 53 + most) (2 ^ 53)
@@ -77,7 +77,7 @@ unfolding configPhase firstPhase phaseWrap
 phase-within delays c h = within-of-tests (configPhase four delays c) pi piUnits (sub-fits binary64 _ _) pi-val h
 
 -- ---- the filters' prototypes are good, and what the theorem about draws asks
-module _ (f : Filters) (R : FiltersInRange f) (total : ℕ) (few : total ≤ 2 ^ 52) (p : GoodPrototype (f .modeS)) (q : GoodPrototype (f .modeAC)) where
+module _ (f : Filters) (R : FiltersInRange f) (total : ℕ) (few : total ≤ 2 ^ 52) (p : SmallPrototype (f .modeS)) (q : SmallPrototype (f .modeAC)) where
   mapped : (zs : List Sample) → Each Sized zs → Each (Both (AtMost most)) (map pairOf zs)
   unfolding pairOf
   mapped [] h = tt

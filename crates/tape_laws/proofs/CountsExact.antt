@@ -23,8 +23,8 @@ use Rattle.running.specs.Ended.{Left, leftBy, callLeft}
 use Rattle.running.specs.Turns.{genOf}
 use Rattle.running.specs.Calls.{refusedBy, runBy, callRefusal, runLeft}
 use Rattle.tape_verdict.specs.Verdict.{startOf}
-use Rattle.tape_feed.specs.Feeding.{Fed, feedAfter, fedAfter, calledOf, fedThen, fedOf}
-use Rattle.tape_laws.specs.Fed.{fedAll, leftFor}
+use Rattle.tape_feed.specs.Feeding.{feedAfter, fedAfter, calledOf, fedThen, fedOf}
+use Rattle.tape_laws.specs.Fed.{Held, begun, Chunk, lend, keep, fedAll, leftFor}
 
 -- ---- a call's steps write no more records than they take draws
 module _ (G : Generator) (o : G .Value) where
@@ -93,40 +93,40 @@ module _ (s : State) (modeS modeAC memory : List Float) (draws : List ℕ) (nois
 -- ---- any chunks
 module _ (modeS modeAC : List Float) (draws : List ℕ) (few : length draws < 2 ^ 64) where
   -- the draws taken are on the tape, and each record is of one of them
-  pub record InTape (d : Fed) : Type 0 where
+  pub record InTape (d : Held) : Type 0 where
     pub draws-in : 65 * d .feed .taken ≤ length draws
     pub records-in : d .feed .records ≤ d .feed .taken
 
   -- the counts after a chunk are the sums
-  pub counts-exact : (d : Fed) (noise : List Float) → InTape d
-      → (feedAfter (d .feed) (leftFor modeS modeAC draws d noise .ran) .taken ≡ d .feed .taken + leftFor modeS modeAC draws d noise .ran .counts .taken)
-      × (feedAfter (d .feed) (leftFor modeS modeAC draws d noise .ran) .records ≡ d .feed .records + leftFor modeS modeAC draws d noise .ran .counts .records)
+  pub counts-exact : (d : Held) (c : Chunk) → InTape d
+      → (feedAfter (d .feed) (leftFor modeS modeAC draws d c .ran) .taken ≡ d .feed .taken + leftFor modeS modeAC draws d c .ran .counts .taken)
+      × (feedAfter (d .feed) (leftFor modeS modeAC draws d c .ran) .records ≡ d .feed .records + leftFor modeS modeAC draws d c .ran .counts .records)
   unfolding feedAfter leftFor
-  counts-exact d noise h =
-      let w = run-within (d .feed .state) modeS modeAC (d .memory) (drop (65 * d .feed .taken) draws) noise (d .output) (drop (66 * d .feed .records) (d .records)) in
+  counts-exact d c h =
+      let w = run-within (d .feed .state) modeS modeAC (d .memory) (drop (65 * d .feed .taken) draws) (c .noise) (c .output) (drop (66 * d .feed .records) (d .records)) in
       let e = length-drop (65 * d .feed .taken) draws in
       (mod-eq-of-lt (omega (arith, w .0, e, h .draws-in, few)), mod-eq-of-lt (omega (arith, w .0, w .1, e, h .draws-in, h .records-in, few)))
 
-  called-in : (d : Fed) (noise : List Float) → InTape d → InTape (calledOf modeS modeAC draws noise d)
-  unfolding calledOf fedAfter leftFor
-  called-in d noise h =
-      let w = run-within (d .feed .state) modeS modeAC (d .memory) (drop (65 * d .feed .taken) draws) noise (d .output) (drop (66 * d .feed .records) (d .records)) in
-      let x = counts-exact d noise h in
+  called-in : (d : Held) (c : Chunk) → InTape d → InTape (keep (calledOf modeS modeAC draws (c .noise) (lend c d)))
+  unfolding calledOf fedAfter leftFor lend keep
+  called-in d c h =
+      let w = run-within (d .feed .state) modeS modeAC (d .memory) (drop (65 * d .feed .taken) draws) (c .noise) (c .output) (drop (66 * d .feed .records) (d .records)) in
+      let x = counts-exact d c h in
       let e = length-drop (65 * d .feed .taken) draws in
       record { draws-in = omega (arith, x .0, w .0, e, h .draws-in); records-in = omega (arith, x .0, x .1, w .1, h .records-in) }
 
-  fed-in : (d : Fed) (noise : List Float) → InTape d → (a : Answer.Answer) → InTape (fedThen modeS modeAC draws noise d a)
-  unfolding fedThen
-  fed-in d noise h (Answer.the-variants.Stopped w) = called-in d noise h
-  fed-in d noise h (Answer.the-variants.Refused q) = h
+  fed-in : (d : Held) (c : Chunk) → InTape d → (a : Answer.Answer) → InTape (keep (fedThen modeS modeAC draws (c .noise) (lend c d) a))
+  unfolding fedThen lend keep
+  fed-in d c h (Answer.the-variants.Stopped w) = called-in d c h
+  fed-in d c h (Answer.the-variants.Refused q) = h
 
-  all-in : (chunks : List (List Float)) (d : Fed) → InTape d → InTape (fedAll modeS modeAC draws d chunks)
-  unfolding fedAll fedOf
+  all-in : (cs : List Chunk) (d : Held) → InTape d → InTape (fedAll modeS modeAC draws d cs)
+  unfolding fedAll fedOf lend
   all-in [] d h = h
-  all-in (noise ∷ chunks) d h = all-in chunks (fedOf modeS modeAC draws noise d) (fed-in d noise h (d .feed .answer))
+  all-in (c ∷ cs) d h = all-in cs (keep (fedOf modeS modeAC draws (c .noise) (lend c d))) (fed-in d c h (d .feed .answer))
 
   -- from the start, after any chunks
-  pub in-tape : (s : State) (memory output : List Float) (records : List ℕ) (chunks : List (List Float))
-      → InTape (fedAll modeS modeAC draws (record { feed = startOf s; memory = memory; output = output; records = records }) chunks)
-  unfolding startOf
-  in-tape s memory output records chunks = all-in chunks (record { feed = startOf s; memory = memory; output = output; records = records }) (record { draws-in = omega arith; records-in = omega arith })
+  pub in-tape : (s : State) (memory : List Float) (records : List ℕ) (cs : List Chunk)
+      → InTape (fedAll modeS modeAC draws (begun s memory records) cs)
+  unfolding begun startOf
+  in-tape s memory records cs = all-in cs (begun s memory records) (record { draws-in = omega arith; records-in = omega arith })

@@ -17,43 +17,43 @@ use Rattle.simulation.specs.Seen.{seenLeft, seenResult}
 use Rattle.simulation.proofs.Demand3.{opened-runs}
 use Rattle.tape_verdict.specs.Verdict.{startOf}
 use Rattle.tape_feed.specs.Feeding.{Fed, feedAfter, fedAfter, calledOf, fedThen, fedOf}
-use Rattle.tape_laws.specs.Fed.{fedAll, lentFor, leftFor, lents, lefts, feedLefts}
+use Rattle.tape_laws.specs.Fed.{Held, begun, Chunk, lend, keep, fedAll, lentFor, leftFor, heldAfter, lents, lefts, feedLefts}
 
 module _ (modeS modeAC : List Float) (draws : List ℕ) where
   -- the calls of a feed are run calls, call after call
-  pub fed-runs : (chunks : List (List Float)) (a : Answer.Answer) (d : Fed) → runsLeft (d .feed .state) modeS modeAC (d .memory) (lents modeS modeAC draws chunks a d) ≡ lefts modeS modeAC draws chunks a d
-  unfolding runsLeft lents lefts lentFor leftFor fedAfter feedAfter
+  pub fed-runs : (cs : List Chunk) (a : Answer.Answer) (d : Held) → runsLeft (d .feed .state) modeS modeAC (d .memory) (lents modeS modeAC draws cs a d) ≡ lefts modeS modeAC draws cs a d
+  unfolding runsLeft lents lefts lentFor leftFor heldAfter keep fedAfter feedAfter
   fed-runs [] a d = refl
-  fed-runs (noise ∷ chunks) (Answer.the-variants.Refused q) d = refl
-  fed-runs (noise ∷ chunks) (Answer.the-variants.Stopped w) d =
-      ap (λ (ls : List Left). leftFor modeS modeAC draws d noise ∷ ls) (fed-runs chunks (leftFor modeS modeAC draws d noise .ran .answer) (fedAfter (d .feed) (d .records) (leftFor modeS modeAC draws d noise)))
+  fed-runs (c ∷ cs) (Answer.the-variants.Refused q) d = refl
+  fed-runs (c ∷ cs) (Answer.the-variants.Stopped w) d =
+      ap (λ (ls : List Left). leftFor modeS modeAC draws d c ∷ ls) (fed-runs cs (leftFor modeS modeAC draws d c .ran .answer) (heldAfter modeS modeAC draws d (leftFor modeS modeAC draws d c)))
 
   -- once refused, nothing changes
-  refused-stays : (chunks : List (List Float)) (q : Refusal.Refusal) (d : Fed) → d .feed .answer ≡ Answer.the-variants.Refused q → fedAll modeS modeAC draws d chunks ≡ d
-  unfolding fedAll fedOf fedThen
+  pub refused-stays : (cs : List Chunk) (q : Refusal.Refusal) (d : Held) → d .feed .answer ≡ Answer.the-variants.Refused q → fedAll modeS modeAC draws d cs ≡ d
+  unfolding fedAll fedOf fedThen lend keep
   refused-stays [] q d e = refl
-  refused-stays (noise ∷ chunks) q d e = ap (λ (x : Fed). fedAll modeS modeAC draws x chunks) (ap (fedThen modeS modeAC draws noise d) e) ∙ refused-stays chunks q d e
+  refused-stays (c ∷ cs) q d e = ap (λ (x : Fed). fedAll modeS modeAC draws (keep x) cs) (ap (fedThen modeS modeAC draws (c .noise) (lend c d)) e) ∙ refused-stays cs q d e
 
   -- the run comes to what the calls leave
-  pub fed-all : (chunks : List (List Float)) (a : Answer.Answer) (d : Fed) → d .feed .answer ≡ a → fedAll modeS modeAC draws d chunks ≡ feedLefts modeS modeAC draws d (lefts modeS modeAC draws chunks a d)
-  unfolding fedAll lefts feedLefts leftFor fedOf fedThen calledOf fedAfter feedAfter
+  pub fed-all : (cs : List Chunk) (a : Answer.Answer) (d : Held) → d .feed .answer ≡ a → fedAll modeS modeAC draws d cs ≡ feedLefts modeS modeAC draws d (lefts modeS modeAC draws cs a d)
+  unfolding fedAll lefts feedLefts leftFor heldAfter keep lend fedOf fedThen calledOf fedAfter feedAfter
   fed-all [] a d e = refl
-  fed-all (noise ∷ chunks) (Answer.the-variants.Refused q) d e = refused-stays (noise ∷ chunks) q d e
-  fed-all (noise ∷ chunks) (Answer.the-variants.Stopped w) d e =
-      ap (λ (x : Fed). fedAll modeS modeAC draws x chunks) (ap (fedThen modeS modeAC draws noise d) e)
-      ∙ fed-all chunks (leftFor modeS modeAC draws d noise .ran .answer) (fedAfter (d .feed) (d .records) (leftFor modeS modeAC draws d noise)) refl
+  fed-all (c ∷ cs) (Answer.the-variants.Refused q) d e = refused-stays (c ∷ cs) q d e
+  fed-all (c ∷ cs) (Answer.the-variants.Stopped w) d e =
+      ap (λ (x : Fed). fedAll modeS modeAC draws (keep x) cs) (ap (fedThen modeS modeAC draws (c .noise) (lend c d)) e)
+      ∙ fed-all cs (leftFor modeS modeAC draws d c .ran .answer) (heldAfter modeS modeAC draws d (leftFor modeS modeAC draws d c)) refl
 
 -- what opening leaves, fed in any chunks: what is seen of its calls is what demand 3's results give
-module _ (tapsS tapsAC : List Float) (bytes : List ℕ) (lent : Opening.Lent) (s : State) (opens : Opening.openedOf four Opening.half tapsS tapsAC bytes lent ≡ Opened.the-variants.Run s) (draws : List ℕ) (output : List Float) (records : List ℕ) where
+module _ (tapsS tapsAC : List Float) (bytes : List ℕ) (lent : Opening.Lent) (s : State) (opens : Opening.openedOf four Opening.half tapsS tapsAC bytes lent ≡ Opened.the-variants.Run s) (draws records : List ℕ) where
   -- the run that nothing has been fed
-  abbrev pub started : Fed
-  started = record { feed = startOf s; memory = Opening.leftBy four tapsS tapsAC (Opened.the-variants.Run s) lent .memory; output = output; records = records }
+  abbrev pub started : Held
+  started = begun s (Opening.leftBy four tapsS tapsAC (Opened.the-variants.Run s) lent .memory) records
 
-  pub fed-opened : (chunks : List (List Float))
+  pub fed-opened : (chunks : List Chunk)
       → map seenLeft (lefts (modeSPrototype four tapsS) (modeACPrototype four tapsAC) draws chunks (startOf s .answer) started)
       ≡ map (seenResult s (modeSPrototype four tapsS) (modeACPrototype four tapsAC))
       (opened-runs tapsS tapsAC bytes lent s opens .results (map (callOf s (modeSPrototype four tapsS) (modeACPrototype four tapsAC)) (lents (modeSPrototype four tapsS) (modeACPrototype four tapsAC) draws chunks (startOf s .answer) started)))
-  unfolding startOf
+  unfolding startOf begun
   fed-opened chunks =
       sym (ap (map seenLeft) (fed-runs (modeSPrototype four tapsS) (modeACPrototype four tapsAC) draws chunks (startOf s .answer) started))
       ∙ opened-runs tapsS tapsAC bytes lent s opens .seen (lents (modeSPrototype four tapsS) (modeACPrototype four tapsAC) draws chunks (startOf s .answer) started)

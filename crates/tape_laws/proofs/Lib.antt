@@ -1,2 +1,9 @@
 pub mod FedIsRun
 pub mod CountsExact
+pub mod FedBench
+pub mod TextOfRecords
+pub mod FedCall
+pub mod FedPlain
+pub mod FedSamples
+pub mod PlainTape
+pub mod Section

@@ -1,0 +1,78 @@
+-- What the tape program says of a tape whose head is accepted: by the plain run on the tape's draws and all its noise, which knows no chunks (`plainText`); of a run that was fed its noise in chunks (`fedText`, as the program's last lines have it); and the claim that they are the same (`PlainTape`). Definitions only.
+use Prim.Native.Nat.{ℕ, zero, suc, _*_, _/_, _%_, _≤_, _<_}
+use mathlib.Core.Bool.{Bool, true, false, cond, _&&_, _||_}
+use mathlib.Core.Path.{_≡_}
+use mathlib.Core.List.{List, [], _∷_, _++_}
+use lib.Dec.{leb}
+use lib.ListN.{length}
+use lib.Ieee.{Float}
+use Rattle.call_lists.specs.Generator.{Generator}
+use Rattle.call_lists.specs.PlainRun.{ended, plainRecords}
+use Rattle.call_lists.specs.PlainBench.{pairs, drawsOf}
+use Rattle.call_lists.specs.Demand3.{Prefix, plainOutput, plainLines}
+use Rattle.run_plans.specs.declared.Stop as Stop
+use Rattle.running.specs.declared.State.{State}
+use Rattle.running.specs.declared.Answer as Answer
+use Rattle.running.specs.Turns.{genOf}
+use Rattle.tape_text.specs.Text.{runText, refusedText}
+use Rattle.tape_verdict.specs.Verdict.{verdictOf}
+use Rattle.tape_laws.specs.Fed.{Held, Chunk, begun, fedAll, samplesFed}
+
+-- the text by a verdict: 0 is no refusal
+unfoldable pub textBy : ℕ → List ℕ → ℕ → ℕ → List ℕ
+textBy zero records count samples = runText records count samples
+textBy (suc n) records count samples = refusedText (suc n)
+
+module _ (G : Generator) where
+  open Generator G using (Value, Draw, t0, loud, total)
+
+  -- some noise value is not finite or too large
+  unfoldable pub loudIn : List Value → Bool
+  loudIn [] = false
+  loudIn (v ∷ vs) = loud v || loudIn vs
+
+  -- the end draw is among the draws, and there is noise for every sample
+  unfoldable pub plainDone : List Draw → List Value → Bool
+  plainDone ds noise = ended G t0 ds && leb total (length (pairs noise))
+
+  -- "noise value by value to the last, used or not; then a run not Done, then bytes left over": 8, 11, or 0 for no refusal
+  unfoldable pub plainVerdict : Bool → List Draw → List Value → ℕ
+  plainVerdict over ds noise = cond (loudIn noise) 8 (cond (plainDone ds noise) (cond over 11 0) 11)
+
+-- of a run with this state and these prototypes: the text on all draws and noise of its tape, with or without bytes left over behind them
+module _ (s : State) (modeS modeAC : List Float) where
+  unfoldable pub plainText : Bool → List (genOf s modeS modeAC .Draw) → List Float → List ℕ
+  plainText over ds noise = textBy (plainVerdict (genOf s modeS modeAC) over ds noise) (plainLines (genOf s modeS modeAC) ds) (length (plainRecords (genOf s modeS modeAC) ds)) (s .total)
+
+-- the text of a run that was fed all its noise, by its verdict
+unfoldable pub fedText : Bool → Held → List ℕ
+fedText over f = textBy (verdictOf false (f .feed .answer) over) (f .records) (f .feed .records) (f .feed .state .written)
+
+-- noise cut as the tape program cuts it: each chunk but the last has an even number of values, and each is lent an even output of more values than it has
+abbrev pub Roomy : Chunk → Type 0
+Roomy c = (length (c .output) % 2 ≡ 0) × (length (c .noise) < length (c .output))
+
+unfoldable pub Cut : List Chunk → Type 0
+Cut [] = Unit {0}
+Cut (c ∷ []) = Roomy c
+Cut (c ∷ d ∷ cs) = (length (c .noise) % 2 ≡ 0) × Roomy c × Cut (d ∷ cs)
+
+-- all the noise
+unfoldable pub noiseIn : List Chunk → List Float
+noiseIn [] = []
+noiseIn (c ∷ cs) = c .noise ++ noiseIn cs
+
+-- a run that was fed some noise, so cut
+unfoldable pub FedCut : List Float → List Float → List ℕ → Held → Held → Type 0
+FedCut modeS modeAC draws d f = (c : Chunk) × (cs : List Chunk) × Cut (c ∷ cs) × (f ≡ fedAll modeS modeAC draws d (c ∷ cs))
+
+-- The claim on a run with this state, these prototypes and this working memory, and on the bytes of its tape's draws: lent record bytes with room for each draw, and fed its noise in any chunks so cut,
+-- it prints the plain run's text, with or without bytes left over; and the samples that the chunks give are a first part of the plain run's on all draws and noise, and all of them where the run is Done.
+pub record PlainTape (s : State) (modeS modeAC memory : List Float) (draws : List ℕ) : Type 0 where
+  pub text : (records : List ℕ) → 66 * (length draws / 65) ≤ length records → (c : Chunk) (cs : List Chunk) → Cut (c ∷ cs)
+      → (left : Bool) → fedText left (fedAll modeS modeAC draws (begun s memory records) (c ∷ cs)) ≡ plainText s modeS modeAC left (drawsOf (genOf s modeS modeAC) draws) (noiseIn (c ∷ cs))
+  pub samples : (records : List ℕ) → 66 * (length draws / 65) ≤ length records → (c : Chunk) (cs : List Chunk) → Cut (c ∷ cs)
+      → Prefix (samplesFed modeS modeAC draws (begun s memory records) (c ∷ cs)) (plainOutput (genOf s modeS modeAC) (drawsOf (genOf s modeS modeAC) draws) (pairs (noiseIn (c ∷ cs))))
+  pub all-samples : (records : List ℕ) → 66 * (length draws / 65) ≤ length records → (c : Chunk) (cs : List Chunk) → Cut (c ∷ cs)
+      → fedAll modeS modeAC draws (begun s memory records) (c ∷ cs) .feed .answer ≡ Answer.the-variants.Stopped Stop.the-variants.Done
+      → samplesFed modeS modeAC draws (begun s memory records) (c ∷ cs) ≡ plainOutput (genOf s modeS modeAC) (drawsOf (genOf s modeS modeAC) draws) (pairs (noiseIn (c ∷ cs)))
