@@ -1,17 +1,20 @@
 -- `cf32::convert` is safe: a run that a tape begins has at most 400 draws. Assumes nothing.
-use borrow.Author.Needs.{needs}
-use Prim.Native.Nat.{ℕ, _≤_}
-use mathlib.Core.Path.{refl, sym, subst}
-use native.Mathlib.Nat.{le-refl}
+use Prim.Native.Nat.{ℕ, _+_, _*_, _^_, _<_, _≤_}
+use native.Mathlib.Omega.{arith}
+use mathlib.Core.Path.{refl, sym}
 use Rattle.tape_head.proofs.Within.{begun-within}
+use borrow.Author.Needs.{needs}
 use Rattle.cf32.proofs.convert.Statement.{statement}
 use Rattle.cf32.proofs.convert.Tie as tie
+
+few-fits : (n : ℕ) → n ≤ 400 → (65 * n < 2 ^ 64) × (12135 + 65 * n < 2 ^ 64)
+few-fits n h = (omega arith, omega arith)
 
 slice-aggregate-read-head : tie.Need-slice-aggregate-read-head
 slice-aggregate-read-head c = refl
 
 read-head-requires : tie.Need-read-head-requires
-read-head-requires c κs = le-refl _
+read-head-requires c κs = tt
 
 array-share-prefix-bytes : tie.Need-array-share-prefix-bytes
 array-share-prefix-bytes c = search needs
@@ -43,20 +46,44 @@ tell-requires c κs = tt
 enum-known-state : tie.Need-enum-known-state
 enum-known-state c = search needs
 
-slice-aggregate-run : tie.Need-slice-aggregate-run
-slice-aggregate-run c = sym (c .before .before .before .before .before .before .before .before .before .before .before .before .bytes2 .given)
+mul-end : tie.Need-mul-end
+mul-end c = record { fits = few-fits _ (begun-within _ _ _ _ _ _ (c .before .before .before .before .before .before .head .ensures) (c .before .state .given .1) .0) .0 }
 
-slice-aggregate-run-2 : tie.Need-slice-aggregate-run-2
-slice-aggregate-run-2 c = sym (c .before .before .before .before .before .before .before .mode-s2 .given)
+add-end : tie.Need-add-end
+add-end c = record { fits = few-fits _ (begun-within _ _ _ _ _ _ (c .before .before .before .before .before .before .head .ensures) (c .before .state .given .1) .0) .1 }
 
-slice-aggregate-run-3 : tie.Need-slice-aggregate-run-3
-slice-aggregate-run-3 c = sym (c .before .before .before .before .before .before .before .mode-ac2 .given)
+start-requires : tie.Need-start-requires
+start-requires c κs = tt
 
-slice-aggregate-run-4 : tie.Need-slice-aggregate-run-4
-slice-aggregate-run-4 c = sym (c .before .before .before .before .before .before .before .memory2 .given)
+sub-feed-section : tie.Need-sub-feed-section
+sub-feed-section c = search needs
 
-run-requires : tie.Need-run-requires
-run-requires c κs = (begun-within _ _ _ _ _ _ (c .before .before .before .before .before .before .before .before .before .before .head .ensures) (c .before .before .before .before .before .state .given .1) .0, subst (λ (k : ℕ). 38139 ≤ k) (sym (c .before .before .before .before .before .before .before .before .before .before .before .before .before .before .before .bytes2 .given)) (le-refl _))
+part-feed-section-start : tie.Need-part-feed-section-start
+part-feed-section-start c = search needs
+
+part-feed-section-end : tie.Need-part-feed-section-end
+part-feed-section-end c = search (needs, begun-within _ _ _ _ _ _ (c .before .before .before .before .before .before .before .before .head .ensures) (c .before .before .before .state .given .1) .0)
+
+slice-aggregate-feed-section : tie.Need-slice-aggregate-feed-section
+slice-aggregate-feed-section c = sym (c .before .before .before .before .before .before .before .before .before .mode-s2 .given)
+
+slice-aggregate-feed-section-2 : tie.Need-slice-aggregate-feed-section-2
+slice-aggregate-feed-section-2 c = sym (c .before .before .before .before .before .before .before .before .before .mode-ac2 .given)
+
+slice-aggregate-feed-section-3 : tie.Need-slice-aggregate-feed-section-3
+slice-aggregate-feed-section-3 c = sym (c .before .before .before .before .before .before .before .before .before .memory2 .given)
+
+slice-aggregate-feed-section-4 : tie.Need-slice-aggregate-feed-section-4
+slice-aggregate-feed-section-4 c = refl
+
+feed-section-requires : tie.Need-feed-section-requires
+feed-section-requires c κs = tt
+
+slice-aggregate-finish : tie.Need-slice-aggregate-finish
+slice-aggregate-finish c = sym (c .before .records2 .given)
+
+finish-requires : tie.Need-finish-requires
+finish-requires c κs = tt
 
 returns : tie.Need-returns
 returns c = tt
@@ -80,10 +107,18 @@ convert-spec =
     slice-aggregate-tell
     tell-requires
     enum-known-state
-    slice-aggregate-run
-    slice-aggregate-run-2
-    slice-aggregate-run-3
-    slice-aggregate-run-4
-    run-requires
+    mul-end
+    add-end
+    start-requires
+    sub-feed-section
+    part-feed-section-start
+    part-feed-section-end
+    slice-aggregate-feed-section
+    slice-aggregate-feed-section-2
+    slice-aggregate-feed-section-3
+    slice-aggregate-feed-section-4
+    feed-section-requires
+    slice-aggregate-finish
+    finish-requires
     returns
     returns-2)

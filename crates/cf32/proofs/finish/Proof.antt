@@ -20,9 +20,6 @@ slice-aggregate-write-all c = simp length-take (omega arith)
 write-all-requires : tie.Need-write-all-requires
 write-all-requires c κs = search needs
 
-left-over-requires : tie.Need-left-over-requires
-left-over-requires c κs = search needs
-
 verdict-requires : tie.Need-verdict-requires
 verdict-requires c κs = search needs
 
@@ -53,7 +50,6 @@ finish-spec =
     least-requires-2
     slice-aggregate-write-all
     write-all-requires
-    left-over-requires
     verdict-requires
     slice-aggregate-tell
     tell-requires

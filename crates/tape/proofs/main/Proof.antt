@@ -2,7 +2,6 @@
 use Prim.Native.Nat.{ℕ, _+_, _*_, _^_, _<_, _≤_}
 use native.Mathlib.Omega.{arith}
 use mathlib.Core.Path.{refl, sym}
-use native.Mathlib.Nat.{le-refl}
 use Rattle.tape_head.proofs.Within.{begun-within}
 use borrow.Author.Needs.{needs}
 use Rattle.tape.proofs.main.Statement.{statement}
@@ -15,7 +14,7 @@ slice-aggregate-read-head : tie.Need-slice-aggregate-read-head
 slice-aggregate-read-head c = refl
 
 read-head-requires : tie.Need-read-head-requires
-read-head-requires c κs = le-refl _
+read-head-requires c κs = tt
 
 array-share-prefix-bytes : tie.Need-array-share-prefix-bytes
 array-share-prefix-bytes c = search needs
@@ -53,26 +52,35 @@ add-end c = record { fits = few-fits _ (begun-within _ _ _ _ _ _ (c .before .bef
 start-requires : tie.Need-start-requires
 start-requires c κs = tt
 
-sub-run : tie.Need-sub-run
-sub-run c = search needs
+sub-feed-section : tie.Need-sub-feed-section
+sub-feed-section c = search needs
 
-part-run-start : tie.Need-part-run-start
-part-run-start c = search needs
+part-feed-section-start : tie.Need-part-feed-section-start
+part-feed-section-start c = search needs
 
-part-run-end : tie.Need-part-run-end
-part-run-end c = search (needs, begun-within _ _ _ _ _ _ (c .before .before .before .before .before .before .before .before .head .ensures) (c .before .before .before .state .given .1) .0)
+part-feed-section-end : tie.Need-part-feed-section-end
+part-feed-section-end c = search (needs, begun-within _ _ _ _ _ _ (c .before .before .before .before .before .before .before .before .head .ensures) (c .before .before .before .state .given .1) .0)
 
-slice-aggregate-run : tie.Need-slice-aggregate-run
-slice-aggregate-run c = sym (c .before .before .before .before .before .before .before .before .before .mode-s2 .given)
+slice-aggregate-feed-section : tie.Need-slice-aggregate-feed-section
+slice-aggregate-feed-section c = sym (c .before .before .before .before .before .before .before .before .before .mode-s2 .given)
 
-slice-aggregate-run-2 : tie.Need-slice-aggregate-run-2
-slice-aggregate-run-2 c = sym (c .before .before .before .before .before .before .before .before .before .mode-ac2 .given)
+slice-aggregate-feed-section-2 : tie.Need-slice-aggregate-feed-section-2
+slice-aggregate-feed-section-2 c = sym (c .before .before .before .before .before .before .before .before .before .mode-ac2 .given)
 
-slice-aggregate-run-3 : tie.Need-slice-aggregate-run-3
-slice-aggregate-run-3 c = sym (c .before .before .before .before .before .before .before .before .before .memory2 .given)
+slice-aggregate-feed-section-3 : tie.Need-slice-aggregate-feed-section-3
+slice-aggregate-feed-section-3 c = sym (c .before .before .before .before .before .before .before .before .before .memory2 .given)
 
-run-requires : tie.Need-run-requires
-run-requires c κs = tt
+slice-aggregate-feed-section-4 : tie.Need-slice-aggregate-feed-section-4
+slice-aggregate-feed-section-4 c = refl
+
+feed-section-requires : tie.Need-feed-section-requires
+feed-section-requires c κs = tt
+
+slice-aggregate-finish : tie.Need-slice-aggregate-finish
+slice-aggregate-finish c = sym (c .before .records2 .given)
+
+finish-requires : tie.Need-finish-requires
+finish-requires c κs = tt
 
 returns : tie.Need-returns
 returns c = tt
@@ -98,12 +106,15 @@ main-spec =
     mul-end
     add-end
     start-requires
-    sub-run
-    part-run-start
-    part-run-end
-    slice-aggregate-run
-    slice-aggregate-run-2
-    slice-aggregate-run-3
-    run-requires
+    sub-feed-section
+    part-feed-section-start
+    part-feed-section-end
+    slice-aggregate-feed-section
+    slice-aggregate-feed-section-2
+    slice-aggregate-feed-section-3
+    slice-aggregate-feed-section-4
+    feed-section-requires
+    slice-aggregate-finish
+    finish-requires
     returns
     returns-2)

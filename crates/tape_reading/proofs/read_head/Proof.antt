@@ -1,10 +1,13 @@
--- `tape::read_head` is safe, and what it counts lies in the bytes. Assumes nothing.
+-- `tape_reading::read_head` is safe, and what it counts lies in the bytes. Assumes nothing.
 use borrow.Author.Needs.{needs}
 use native.Mathlib.Omega.{arith}
 use lib.ListN.{length-take}
 use Rattle.io.proofs.Counting.{counts}
-use Rattle.tape.proofs.read_head.Statement.{statement}
-use Rattle.tape.proofs.read_head.Tie as tie
+use Rattle.tape_reading.proofs.read_head.Statement.{statement}
+use Rattle.tape_reading.proofs.read_head.Tie as tie
+
+returns : tie.Need-returns
+returns c = search needs
 
 slice-relend-prefix-read-full : tie.Need-slice-relend-prefix-read-full
 slice-relend-prefix-read-full c = search needs
@@ -18,8 +21,8 @@ read-full-requires c κs = search needs
 same-length : tie.Need-same-length
 same-length c = search needs
 
-returns : tie.Need-returns
-returns c = counts _ _ (search needs)
+returns-2 : tie.Need-returns-2
+returns-2 c = counts _ _ (search needs)
 
 slice-reshare-prefix-head-length : tie.Need-slice-reshare-prefix-head-length
 slice-reshare-prefix-head-length c = search needs
@@ -48,18 +51,19 @@ add-result c = search needs
 same-length-2 : tie.Need-same-length-2
 same-length-2 c = search needs
 
-returns-2 : tie.Need-returns-2
-returns-2 c = counts _ _ (search needs)
+returns-3 : tie.Need-returns-3
+returns-3 c = counts _ _ (search needs)
 
 pub read-head-spec : {M : Type 1} → statement M
 read-head-spec =
     tie.close
     (tie.spec
+    returns
     slice-relend-prefix-read-full
     slice-aggregate-read-full
     read-full-requires
     same-length
-    returns
+    returns-2
     slice-reshare-prefix-head-length
     slice-aggregate-head-length
     head-length-requires
@@ -69,4 +73,4 @@ read-head-spec =
     read-full-requires-2
     add-result
     same-length-2
-    returns-2)
+    returns-3)

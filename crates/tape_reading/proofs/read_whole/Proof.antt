@@ -1,9 +1,9 @@
--- `tape::read_whole` is safe. Assumes nothing.
+-- `tape_reading::read_whole` is safe, and counts all that was asked for or nothing. Assumes nothing.
+use borrow.Author.Needs.{needs}
 use native.Mathlib.Omega.{arith}
 use lib.ListN.{length-take}
-use borrow.Author.Needs.{needs}
-use Rattle.tape.proofs.read_whole.Statement.{statement}
-use Rattle.tape.proofs.read_whole.Tie as tie
+use Rattle.tape_reading.proofs.read_whole.Statement.{statement}
+use Rattle.tape_reading.proofs.read_whole.Tie as tie
 
 slice-relend-prefix-read-full : tie.Need-slice-relend-prefix-read-full
 slice-relend-prefix-read-full c = search needs
@@ -14,14 +14,14 @@ slice-aggregate-read-full c = simp length-take (omega arith)
 read-full-requires : tie.Need-read-full-requires
 read-full-requires c κs = search needs
 
+all-or-none-requires : tie.Need-all-or-none-requires
+all-or-none-requires c κs = search needs
+
 same-length : tie.Need-same-length
 same-length c = search needs
 
 returns : tie.Need-returns
 returns c = search needs
-
-same-length-2 : tie.Need-same-length-2
-same-length-2 c = search needs
 
 returns-2 : tie.Need-returns-2
 returns-2 c = search needs
@@ -33,7 +33,7 @@ read-whole-spec =
     slice-relend-prefix-read-full
     slice-aggregate-read-full
     read-full-requires
+    all-or-none-requires
     same-length
     returns
-    same-length-2
     returns-2)

@@ -1,9 +1,9 @@
--- `cf32::write_samples` is safe. Assumes nothing.
+-- `tape_stream::write_samples` is safe. Assumes nothing.
 use borrow.Author.Needs.{needs}
 use native.Mathlib.Omega.{arith}
 use lib.ListN.{length-take}
-use Rattle.cf32.proofs.write_samples.Statement.{statement}
-use Rattle.cf32.proofs.write_samples.Tie as tie
+use Rattle.tape_stream.proofs.write_samples.Statement.{statement}
+use Rattle.tape_stream.proofs.write_samples.Tie as tie
 
 difference-requires : tie.Need-difference-requires
 difference-requires c κs = search needs
@@ -38,6 +38,9 @@ slice-aggregate-write-all c = simp length-take (omega arith)
 write-all-requires : tie.Need-write-all-requires
 write-all-requires c κs = search needs
 
+progress-requires : tie.Need-progress-requires
+progress-requires c κs = tt
+
 returns : tie.Need-returns
 returns c = search needs
 
@@ -56,4 +59,5 @@ write-samples-spec =
     slice-aggregate-all
     slice-aggregate-write-all
     write-all-requires
+    progress-requires
     returns)

@@ -1,0 +1,132 @@
+// The noise section of a tape on standard input, fed to its run in chunks, with the samples that come of it on standard output where they are asked for (cf32: interleaved little-endian f32).
+// What is read and written is not stated, since it is not known; that the noise is cut as tape_laws/specs/PlainTape asks, is. Assumes nothing but the kit's io and libc.
+ghost use mathlib.Core.Path.{_≡_};
+ghost use mathlib.Core.Bool.{cond};
+ghost use Prim.Native.Nat.{_-_, _≤_, min};
+ghost use Rattle.tape_laws.specs.PlainTape.{FedCut};
+use libc::STDERR_FILENO;
+use libc::STDIN_FILENO;
+use libc::STDOUT_FILENO;
+use tape_verdict::Feed;
+
+fn least(a: u64, b: u64) -> u64
+    ensures { λ r. ⌜ r ≡ min a b ⌝ }
+{
+    if a < b { a } else { b }
+}
+
+fn difference(a: u64, b: u64) -> u64
+    ensures { λ r. ⌜ r ≡ a - b ⌝ }
+{
+    if a < b {
+        return 0;
+    }
+    a - b
+}
+
+// A line on standard error for each second of signal.
+fn progress(before: u64, after: u64) {
+    let second = after / 8000000;
+    if before / 8000000 < second {
+        io::write_all(STDERR_FILENO, b"second ");
+        io::print_decimal(STDERR_FILENO, second);
+        io::write_all(STDERR_FILENO, b", samples ");
+        io::print_decimal(STDERR_FILENO, after);
+        io::write_all(STDERR_FILENO, b"\n");
+    }
+}
+
+// Bytes are left over.
+fn left_over() -> bool {
+    let mut b = [0u8; 1];
+    0 < io::read_full(STDIN_FILENO, &mut b)
+}
+
+// The samples that a call wrote, from one number of samples to the next; true where nobody takes them.
+fn write_samples(before: u64, after: u64, output: &[f32]) -> bool {
+    let k = least(difference(after, before), 8193);
+    let n = least(2 * k, output.len() as u64) as usize;
+    let mut out = [0u8; 65544];
+    tape_floats::float_bytes(&output[..n], &mut out);
+    let size = 4 * n;
+    let all: &[u8] = &out;
+    let taken = io::write_all(STDOUT_FILENO, &all[..size]);
+    progress(before, after);
+    !taken
+}
+
+// Where samples are asked for, they are written; true where nobody takes them.
+fn put_samples(asked: bool, before: u64, after: u64, output: &[f32]) -> bool {
+    if asked {
+        return write_samples(before, after, output);
+    }
+    false
+}
+
+// The values left after so many; none once the section was short, or where nobody takes the samples.
+fn left_after(left: u64, want: u64, short: bool, gone: bool) -> u64
+    ensures { λ r. ⌜ r ≤ cond short 0 (left - want) ⌝ }
+{
+    if short {
+        return 0;
+    }
+    if gone {
+        return 0;
+    }
+    difference(left, want)
+}
+
+// A run after its noise section; whether that was short, and whether bytes are left over behind it.
+pub struct Section {
+    pub feed: Feed,
+    pub short: bool,
+    pub over: bool,
+}
+
+// A noise section of so many values, in chunks of up to 16,384; first none, so that a run of no samples is done. Of a
+// short one nothing is fed. Once the section was short, or nobody takes the samples, no more is read.
+pub fn feed_section(
+    first: Feed,
+    count: u64,
+    samples: bool,
+    draws: &[u8],
+    mode_s: &[f32],
+    mode_ac: &[f32],
+    memory: &mut [f32],
+    records: &mut [u8],
+) -> Section
+    ensures { λ r. ⌜ FedCut (now («mode_s» .entry)) (now («mode_ac» .entry)) (now (draws .entry)) (record { feed = first; memory = now (memory .entry); records = now (records .entry) }) (record { feed = r .feed; memory = now (memory .exit); records = now (records .exit) }) ⌝ }
+{
+    let mut f = first;
+    let mut short = false;
+    let mut left = count;
+    let mut want: u64 = 0;
+    let mut turns: u64 = 1;
+    while 0 < turns {
+        let size = 4 * want as usize;
+        let mut bytes = [0u8; 65536];
+        let mut output = [0.0f32; 16386];
+        let whole = tape_reading::read_whole(size, &mut bytes);
+        let before = f.state.written;
+        f = tape_feed::feed_bytes(
+            f,
+            mode_s,
+            mode_ac,
+            memory,
+            draws,
+            &bytes[..whole],
+            &mut output,
+            records,
+        );
+        short = whole < size;
+        let gone = put_samples(samples, before, f.state.written, &output);
+        left = left_after(left, want, short, gone);
+        want = least(left, 16384);
+        turns = least(want, 1);
+    }
+    Section {
+        feed: f,
+        short: short,
+        over: left_over(),
+    }
+}
