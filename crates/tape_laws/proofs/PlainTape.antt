@@ -1,5 +1,5 @@
 -- `plain-tape`: what is claimed of a tape holds of each tape whose head begins a run: fed its noise in any cut, it prints and gives what the plain run on all its draws and noise does (`PlainTape` of specs/).
--- `text-alike`, `samples-alike`: so two ways of cutting print and give the same. Assumes nothing.
+-- `text-alike`, `samples-alike`: so two ways of cutting print and give the same. `section-text`: so what `tape_stream::feed_section` leaves prints the plain run's text. Assumes nothing.
 use Prim.Native.Nat.{ℕ, _+_, _*_, _/_, _≤_}
 use mathlib.Core.Bool.{Bool, true, false, cond}
 use mathlib.Core.List.{List, [], _∷_}
@@ -39,7 +39,7 @@ use Rattle.tape_head.specs.Head.{tapeFault, noiseThen, faultThen, drawsThen, op
 use Rattle.tape_head.proofs.Within.{head-within}
 use Rattle.tape_verdict.specs.Verdict.{startOf}
 use Rattle.tape_laws.specs.Fed.{Held, Chunk, begun, fedAll, samplesFed}
-use Rattle.tape_laws.specs.PlainTape.{plainText, fedText, Cut, noiseIn, PlainTape}
+use Rattle.tape_laws.specs.PlainTape.{plainText, fedText, Cut, noiseIn, FedCut, PlainTape}
 use Rattle.tape_laws.proofs.FedCall.{Tape, standing}
 use Rattle.tape_laws.proofs.FedPlain.{fed-text}
 use Rattle.tape_laws.proofs.FedSamples.{fed-samples}
@@ -171,3 +171,10 @@ module _ (s : State) (modeS modeAC memory : List Float) (draws : List ℕ) (plai
       plain .all-samples records room c cs cut done
       ∙ ap (λ (noise : List Float). plainOutput (genOf s modeS modeAC) (Bench.drawsOf (genOf s modeS modeAC) draws) (Bench.pairs noise)) same
       ∙ sym (plain .all-samples records′ room′ c′ cs′ cut′ done′)
+
+-- ---- and a run that was fed a whole section, as the contract of `tape_stream::feed_section` has it, prints the text of the plain run on so many noise values
+module _ (s : State) (modeS modeAC memory : List Float) (draws : List ℕ) (plain : PlainTape s modeS modeAC memory draws) (records : List ℕ) (room : 66 * (length draws / 65) ≤ length records) (count : ℕ) (f : Held) where
+  pub section-text : FedCut modeS modeAC draws count (begun s memory records) false f
+      → (noise : List Float) × (length noise ≡ count) × ((left : Bool) → fedText left f ≡ plainText s modeS modeAC left (Bench.drawsOf (genOf s modeS modeAC) draws) noise)
+  unfolding FedCut
+  section-text h = (noiseIn (h .0 ∷ h .1), h .4 refl, λ left. ap (fedText left) (h .3) ∙ plain .text records room (h .0) (h .1) (h .2) left)

@@ -1,12 +1,12 @@
 -- Chunks fed one after the other: while more are to come each has an even number of values, so that with the last one the noise is cut as `PlainTape` asks (`going-end`); and so it is as a program reads it, 16,384 values at a time (`next-turn`). Assumes nothing.
 use Prim.Native.Nat.{ℕ, _+_, _-_, _*_, _/_, _%_, _≤_, _<_, min}
-use mathlib.Core.Bool.{Bool, true, false, cond}
+use mathlib.Core.Bool.{Bool, true, false, cond, true≢false}
 use mathlib.Core.Logic.{_⊎_, inl, inr}
 use mathlib.Core.List.{List, [], _∷_, _++_}
 use mathlib.Core.Path.{_≡_, refl, sym, ap, _∙_, subst}
 use native.Mathlib.Omega.{arith}
 use lib.Dec.{ltb}
-use lib.ListN.{length, take}
+use lib.ListN.{length, take, length-append}
 use lib.Seq.{length-take-le}
 use lib.Ieee.{Float}
 use borrow.Author.Tests.{ltb-false}
@@ -14,7 +14,7 @@ use Rattle.tape_floats.proofs.Rows.{length-floats}
 use Rattle.tape_verdict.specs.declared.Feed.{Feed}
 use Rattle.tape_feed.specs.Feeding.{fedOf, noiseOf}
 use Rattle.tape_laws.specs.Fed.{Held, Chunk, lend, keep, fedAll}
-use Rattle.tape_laws.specs.PlainTape.{Roomy, Cut, FedCut}
+use Rattle.tape_laws.specs.PlainTape.{Roomy, Cut, noiseIn, FedCut}
 
 abbrev Evens : List Chunk → Type 0
 Evens [] = Unit {0}
@@ -34,38 +34,46 @@ cut-last [] c h r = r
 cut-last (d ∷ []) c h r = (h .0, h .1, r)
 cut-last (d ∷ b ∷ cs) c h r = (h .0, h .1, cut-last (b ∷ cs) c (h .2) r)
 
+length-more : (cs : List Chunk) (c : Chunk) → length (noiseIn (cs ++ (c ∷ []))) ≡ length (noiseIn cs) + length (c .noise)
+unfolding noiseIn
+length-more [] c = length-append (c .noise) [] ∙ omega arith
+length-more (b ∷ cs) c = length-append (b .noise) (noiseIn (cs ++ (c ∷ []))) ∙ omega (arith, length-more cs c, length-append (b .noise) (noiseIn cs))
+
 module _ (modeS modeAC : List Float) (draws : List ℕ) (d : Held) where
   fed-more : (cs : List Chunk) (c : Chunk) (g : Held) → fedAll modeS modeAC draws g (cs ++ (c ∷ [])) ≡ keep (fedOf modeS modeAC draws (c .noise) (lend c (fedAll modeS modeAC draws g cs)))
   unfolding fedAll
   fed-more [] c g = refl
   fed-more (b ∷ cs) c g = fed-more cs c (keep (fedOf modeS modeAC draws (b .noise) (lend b g)))
 
-  -- a run fed so far, with so many turns to come
-  pub record Going (turns : ℕ) (f : Held) : Type 0 where
+  -- a run fed so far, with so many turns to come and so many values left of a section, unless that is cut short
+  pub record Going (count turns left : ℕ) (short : Bool) (f : Held) : Type 0 where
     chunks : List Chunk
     fed : f ≡ fedAll modeS modeAC draws d chunks
     evens : 0 < turns → Evens chunks
     ended : turns ≡ 0 → Ended chunks
+    counted : short ≡ false → length (noiseIn chunks) + left ≡ count
 
-  pub going-first : Going 1 d
-  unfolding fedAll
-  going-first = record { chunks = []; fed = refl; evens = λ h. tt; ended = λ e. absurd (omega arith) }
+  pub going-first : (count : ℕ) → Going count 1 count false d
+  unfolding fedAll noiseIn
+  going-first count = record { chunks = []; fed = refl; evens = λ h. tt; ended = λ e. absurd (omega arith); counted = λ e. omega arith }
 
-  pub going-on : (turns turns′ : ℕ) (f f′ : Held) (c : Chunk) → Going turns f → 0 < turns → Roomy c → (0 < turns′ → length (c .noise) % 2 ≡ 0) → f′ ≡ keep (fedOf modeS modeAC draws (c .noise) (lend c f)) → Going turns′ f′
-  going-on turns turns′ f f′ c g more roomy even e = record {
+  pub going-on : (count turns turns′ left left′ : ℕ) (short short′ : Bool) (f f′ : Held) (c : Chunk) → Going count turns left short f → 0 < turns → Roomy c → (0 < turns′ → length (c .noise) % 2 ≡ 0)
+      → (short′ ≡ false → (short ≡ false) × (length (c .noise) + left′ ≡ left)) → f′ ≡ keep (fedOf modeS modeAC draws (c .noise) (lend c f)) → Going count turns′ left′ short′ f′
+  going-on count turns turns′ left left′ short short′ f f′ c g more roomy even count-on e = record {
     chunks = g .chunks ++ (c ∷ []);
     fed = e ∙ ap (λ (x : Held). keep (fedOf modeS modeAC draws (c .noise) (lend c x))) (g .fed) ∙ sym (fed-more (g .chunks) c d);
     evens = λ h. evens-more (g .chunks) c (g .evens more) roomy (even h);
     ended = λ h. cut-last (g .chunks) c (g .evens more) roomy;
+    counted = λ h. omega (arith, length-more (g .chunks) c, g .counted (count-on h .0), count-on h .1);
   }
 
-  pub going-end : (turns : ℕ) (f : Held) → Going turns f → turns ≡ 0 → FedCut modeS modeAC draws d f
+  pub going-end : (count turns left : ℕ) (short : Bool) (f : Held) → Going count turns left short f → turns ≡ 0 → left ≡ 0 → FedCut modeS modeAC draws count d short f
   unfolding FedCut
-  going-end turns f g over = go (g .chunks) (g .fed) (g .ended over)
+  going-end count turns left short f g over none-left = go (g .chunks) (g .fed) (g .ended over) (λ h. omega (arith, g .counted h))
     where
-      go : (cs : List Chunk) → f ≡ fedAll modeS modeAC draws d cs → Ended cs → FedCut modeS modeAC draws d f
-      go [] e h = absurd h
-      go (c ∷ cs) e h = (c, cs, h, e)
+      go : (cs : List Chunk) → f ≡ fedAll modeS modeAC draws d cs → Ended cs → (short ≡ false → length (noiseIn cs) ≡ count) → FedCut modeS modeAC draws count d short f
+      go [] e h k = absurd h
+      go (c ∷ cs) e h k = (c, cs, h, e, k)
 
 -- ---- as a program reads a section: so many values are wanted at a time, 16,384 at most, and a turn more only where the section was not short and some are left
 pub no-more : {a b : ℕ} → a ≡ b → a ≤ b
@@ -79,13 +87,34 @@ fewer-left left want turns next want′ turns′ false h m e t = omega (arith, e
 pub as-read : {X : Type 0} (n : ℕ) (bytes : List X) → n ≤ length bytes → (n ≡ 0) ⊎ (n ≡ 65536) → (length (take n bytes) ≡ 0) ⊎ (length (take n bytes) ≡ 65536)
 as-read n bytes h d = subst (λ (k : ℕ). (k ≡ 0) ⊎ (k ≡ 65536)) (sym (length-take-le n bytes h)) d
 
--- of a chunk behind which another comes, all bytes were read, none or 65,536
-pub whole-chunk : (whole want left next turns : ℕ) (short : Bool) → whole ≤ 4 * want → (whole < 4 * want → whole ≡ 0) → short ≡ ltb whole (4 * want) → (want ≡ 0) ⊎ (want ≡ min left 16384)
-    → next ≤ cond short 0 (left - want) → turns ≡ min (min next 16384) 1 → 0 < turns → (whole ≡ 0) ⊎ (whole ≡ 65536)
-whole-chunk whole want left next turns true within none e (inl h) n t more = absurd (omega (arith, n, t))
-whole-chunk whole want left next turns true within none e (inr h) n t more = absurd (omega (arith, n, t))
-whole-chunk whole want left next turns false within none e (inl h) n t more = inl (omega arith)
-whole-chunk whole want left next turns false within none e (inr h) n t more = inr (omega (arith, n, t, ltb-false whole (4 * want) (sym e)))
+-- what a turn comes to, by what was read, whether the samples were taken, and what is then left: behind a chunk that is not the last, none or 65,536 bytes of it were read;
+-- where the section is not cut short, as many values as were wanted; a section that goes on is not cut short; and where there is no turn more, nothing is left
+pub record Turned (whole want left left′ turns′ : ℕ) (short′ : Bool) : Type 0 where
+  pub even : 0 < turns′ → (whole ≡ 0) ⊎ (whole ≡ 65536)
+  pub read : short′ ≡ false → (whole ≡ 4 * want) × (want + left′ ≡ left)
+  pub goes-on : 0 < turns′ → short′ ≡ false
+  pub over : turns′ ≡ 0 → left′ ≡ 0
+
+pub turned : (whole want left left′ want′ turns′ : ℕ) (gone short′ : Bool) → whole ≤ 4 * want → (whole < 4 * want → whole ≡ 0) → (want ≡ 0) ⊎ (want ≡ min left 16384) → want ≤ left
+    → short′ ≡ cond (ltb whole (4 * want)) true gone → left′ ≡ cond short′ 0 (left - want) → want′ ≡ min left′ 16384 → turns′ ≡ min want′ 1 → Turned whole want left left′ turns′ short′
+turned whole want left left′ want′ turns′ gone true within none w h s l n t = record {
+  even = λ more. absurd (omega (arith, l, n, t));
+  read = λ e. absurd (true≢false e);
+  goes-on = λ more. absurd (omega (arith, l, n, t));
+  over = λ e. l;
+}
+turned whole want left left′ want′ turns′ gone false within none w h s l n t = record { even = λ more. by w more; read = λ e. (all, omega (arith, l)); goes-on = λ more. refl; over = λ e. omega (arith, n, t) }
+  where
+    not-early : (early : Bool) → ltb whole (4 * want) ≡ early → false ≡ cond early true gone → early ≡ false
+    not-early true e q = absurd (true≢false (sym q))
+    not-early false e q = refl
+
+    all : whole ≡ 4 * want
+    all = omega (arith, ltb-false whole (4 * want) (not-early (ltb whole (4 * want)) refl s))
+
+    by : (want ≡ 0) ⊎ (want ≡ min left 16384) → 0 < turns′ → (whole ≡ 0) ⊎ (whole ≡ 65536)
+    by (inl e) more = inl (omega (arith, all))
+    by (inr e) more = inr (omega (arith, all, l, n, t))
 
 length-noise : (bytes : List ℕ) → length (noiseOf bytes) ≡ min (length bytes / 4) 16384
 unfolding noiseOf
@@ -96,11 +125,12 @@ even-noise bytes (inl h) = omega (arith, length-noise bytes)
 even-noise bytes (inr h) = omega (arith, length-noise bytes)
 
 module _ (modeS modeAC : List Float) (draws : List ℕ) (d : Held) where
-  pub next-turn : (turns turns′ : ℕ) (f f′ : Feed) (memory memory′ : List Float) (records records′ bytes : List ℕ) (output output′ : List Float)
-      → Going modeS modeAC draws d turns (record { feed = f; memory = memory; records = records }) → 0 < turns → length output ≡ 16386 → (0 < turns′ → (length bytes ≡ 0) ⊎ (length bytes ≡ 65536))
+  pub next-turn : (count turns turns′ left left′ want : ℕ) (short short′ : Bool) (f f′ : Feed) (memory memory′ : List Float) (records records′ bytes : List ℕ) (output output′ : List Float)
+      → Going modeS modeAC draws d count turns left short (record { feed = f; memory = memory; records = records }) → 0 < turns → length output ≡ 16386 → (0 < turns′ → (length bytes ≡ 0) ⊎ (length bytes ≡ 65536))
+      → want ≤ 16384 → short ≡ false → (short′ ≡ false → (length bytes ≡ 4 * want) × (want + left′ ≡ left))
       → record { feed = f′; memory = memory′; output = output′; records = records′ } ≡ fedOf modeS modeAC draws (noiseOf bytes) (record { feed = f; memory = memory; output = output; records = records })
-      → Going modeS modeAC draws d turns′ (record { feed = f′; memory = memory′; records = records′ })
+      → Going modeS modeAC draws d count turns′ left′ short′ (record { feed = f′; memory = memory′; records = records′ })
   unfolding keep lend
-  next-turn turns turns′ f f′ memory memory′ records records′ bytes output output′ g more long even e =
-      going-on modeS modeAC draws d turns turns′ (record { feed = f; memory = memory; records = records }) (record { feed = f′; memory = memory′; records = records′ }) (record { noise = noiseOf bytes; output = output }) g more
-      (omega (arith, long), omega (arith, long, length-noise bytes)) (λ h. even-noise bytes (even h)) (ap keep e)
+  next-turn count turns turns′ left left′ want short short′ f f′ memory memory′ records records′ bytes output output′ g more long even few so-far read e =
+      going-on modeS modeAC draws d count turns turns′ left left′ short short′ (record { feed = f; memory = memory; records = records }) (record { feed = f′; memory = memory′; records = records′ }) (record { noise = noiseOf bytes; output = output }) g more
+      (omega (arith, long), omega (arith, long, length-noise bytes)) (λ h. even-noise bytes (even h)) (λ h. (so-far, omega (arith, length-noise bytes, read h .0, read h .1))) (ap keep e)

@@ -62,9 +62,10 @@ unfoldable pub noiseIn : List Chunk → List Float
 noiseIn [] = []
 noiseIn (c ∷ cs) = c .noise ++ noiseIn cs
 
--- a run that was fed some noise, so cut
-unfoldable pub FedCut : List Float → List Float → List ℕ → Held → Held → Type 0
-FedCut modeS modeAC draws d f = (c : Chunk) × (cs : List Chunk) × Cut (c ∷ cs) × (f ≡ fedAll modeS modeAC draws d (c ∷ cs))
+-- a run that was fed noise, so cut: all of a section of so many values, but where that is cut short
+unfoldable pub FedCut : List Float → List Float → List ℕ → ℕ → Held → Bool → Held → Type 0
+FedCut modeS modeAC draws count d short f =
+    (c : Chunk) × (cs : List Chunk) × Cut (c ∷ cs) × (f ≡ fedAll modeS modeAC draws d (c ∷ cs)) × (short ≡ false → length (noiseIn (c ∷ cs)) ≡ count)
 
 -- The claim on a run with this state, these prototypes and this working memory, and on the bytes of its tape's draws: lent record bytes with room for each draw, and fed its noise in any chunks so cut,
 -- it prints the plain run's text, with or without bytes left over; and the samples that the chunks give are a first part of the plain run's on all draws and noise, and all of them where the run is Done.

@@ -1,7 +1,7 @@
 // The noise section of a tape on standard input, fed to its run in chunks, with the samples that come of it on standard output where they are asked for (cf32: interleaved little-endian f32).
 // What is read and written is not stated, since it is not known; that the noise is cut as tape_laws/specs/PlainTape asks, is. Assumes nothing but the kit's io and libc.
 ghost use mathlib.Core.Path.{_≡_};
-ghost use mathlib.Core.Bool.{cond};
+ghost use mathlib.Core.Bool.{true, cond};
 ghost use Prim.Native.Nat.{_-_, _≤_, min};
 ghost use Rattle.tape_laws.specs.PlainTape.{FedCut};
 use libc::STDERR_FILENO;
@@ -63,20 +63,26 @@ fn put_samples(asked: bool, before: u64, after: u64, output: &[f32]) -> bool {
     false
 }
 
-// The values left after so many; none once the section was short, or where nobody takes the samples.
-fn left_after(left: u64, want: u64, short: bool, gone: bool) -> u64
-    ensures { λ r. ⌜ r ≤ cond short 0 (left - want) ⌝ }
+fn either(a: bool, b: bool) -> bool
+    ensures { λ r. ⌜ r ≡ cond a true b ⌝ }
+{
+    if a {
+        return true;
+    }
+    b
+}
+
+// The values left after so many; none once the section is cut short.
+fn left_after(left: u64, want: u64, short: bool) -> u64
+    ensures { λ r. ⌜ r ≡ cond short 0 (left - want) ⌝ }
 {
     if short {
-        return 0;
-    }
-    if gone {
         return 0;
     }
     difference(left, want)
 }
 
-// A run after its noise section; whether that was short, and whether bytes are left over behind it.
+// A run after its noise section; whether that was cut short, since there were fewer values or nobody takes the samples; and whether bytes are left over behind it.
 pub struct Section {
     pub feed: Feed,
     pub short: bool,
@@ -84,7 +90,7 @@ pub struct Section {
 }
 
 // A noise section of so many values, in chunks of up to 16,384; first none, so that a run of no samples is done. Of a
-// short one nothing is fed. Once the section was short, or nobody takes the samples, no more is read.
+// chunk that is not whole nothing is fed, and once the section is cut short no more is read.
 pub fn feed_section(
     first: Feed,
     count: u64,
@@ -95,7 +101,7 @@ pub fn feed_section(
     memory: &mut [f32],
     records: &mut [u8],
 ) -> Section
-    ensures { λ r. ⌜ FedCut (now («mode_s» .entry)) (now («mode_ac» .entry)) (now (draws .entry)) (record { feed = first; memory = now (memory .entry); records = now (records .entry) }) (record { feed = r .feed; memory = now (memory .exit); records = now (records .exit) }) ⌝ }
+    ensures { λ r. ⌜ FedCut (now («mode_s» .entry)) (now («mode_ac» .entry)) (now (draws .entry)) count (record { feed = first; memory = now (memory .entry); records = now (records .entry) }) (r .short) (record { feed = r .feed; memory = now (memory .exit); records = now (records .exit) }) ⌝ }
 {
     let mut f = first;
     let mut short = false;
@@ -118,9 +124,9 @@ pub fn feed_section(
             &mut output,
             records,
         );
-        short = whole < size;
         let gone = put_samples(samples, before, f.state.written, &output);
-        left = left_after(left, want, short, gone);
+        short = either(whole < size, gone);
+        left = left_after(left, want, short);
         want = least(left, 16384);
         turns = least(want, 1);
     }
