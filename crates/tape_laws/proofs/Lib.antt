@@ -6,4 +6,5 @@ pub mod FedCall
 pub mod FedPlain
 pub mod FedSamples
 pub mod PlainTape
+pub mod TapeText
 pub mod Section
