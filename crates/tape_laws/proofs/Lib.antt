@@ -6,5 +6,6 @@ pub mod FedCall
 pub mod FedPlain
 pub mod FedSamples
 pub mod PlainTape
+pub mod ReadParts
 pub mod TapeText
 pub mod Section
