@@ -3,8 +3,6 @@
 ghost use mathlib.Core.Path.{_≡_};
 ghost use Prim.Native.Nat.{min};
 use libc::STDERR_FILENO;
-use tape_head::Beginning;
-use tape_stream::Section;
 
 fn least(a: u64, b: u64) -> u64
     ensures { λ r. ⌜ r ≡ min a b ⌝ }
@@ -21,45 +19,17 @@ fn tell(word: &[u8], number: u64, samples: u64) {
     io::write_all(STDERR_FILENO, b"\n");
 }
 
-// The records, and how the run ended.
-fn finish(fd: i32, s: Section, records: &[u8]) {
-    let f = s.feed;
-    let answer = f.answer;
-    let count = f.records as u64;
-    let end = least(66 * least(count, 400), records.len() as u64) as usize;
-    io::write_all(fd, &records[..end]);
-    let n = tape_verdict::verdict(s.short, answer, s.over);
-    if n == 0 {
-        tell(b"records ", count, f.state.written);
-    } else {
-        tell(b"refused ", n, f.state.written);
-    }
-}
-
+// The samples, then the records, and how the run ended.
 fn convert(fd: i32) {
-    let mut bytes = [0u8; 38139];
-    let got = tape_reading::read_head(&mut bytes);
-    let mut mode_s = [0.0f32; 1792];
-    let mut mode_ac = [0.0f32; 1792];
-    let mut memory = [0.0f32; 2252];
-    match tape_head::head(&bytes[..got], &mut mode_s, &mut mode_ac, &mut memory) {
-        Beginning::Refused(number) => tell(b"refused ", number, 0),
-        Beginning::Run(state, n, count) => {
-            let end = 12135 + 65 * n as usize;
-            let f = tape_verdict::start(state);
-            let mut records = [0u8; 26400];
-            let s = tape_stream::feed_section(
-                f,
-                count,
-                true,
-                &bytes[12135..end],
-                &mode_s,
-                &mode_ac,
-                &mut memory,
-                &mut records,
-            );
-            finish(fd, s, &records)
-        }
+    let mut records = [0u8; 26400];
+    let r = tape_run::run_tape(true, &mut records);
+    let count = r.records as u64;
+    let end = 66 * least(count, 400) as usize;
+    io::write_all(fd, &records[..end]);
+    if r.verdict == 0 {
+        tell(b"records ", count, r.samples);
+    } else {
+        tell(b"refused ", r.verdict, r.samples);
     }
 }
 

@@ -9,3 +9,4 @@ pub mod PlainTape
 pub mod ReadParts
 pub mod TapeText
 pub mod Section
+pub mod Told

@@ -1,3 +1,4 @@
 pub mod Fed
 pub mod PlainTape
 pub mod TapeText
+pub mod Told
