@@ -45,3 +45,8 @@ run-text-over ls buffer samples a h =
   where
     same : min (length ls) (min (length (over (join ls) buffer) / 66) 400) ≡ min (length ls) (min (length (join ls) / 66) 400)
     same = omega (arith, length-join 66 ls a, length-over (join ls) buffer (omega (arith, length-join 66 ls a)))
+
+-- the text's bound of 400 lines is idle where there are no more records, as on a tape, which has 400 draws at most
+pub every-line : (ls : List (List ℕ)) (samples : ℕ) → AllOf 66 ls → length ls ≤ 400 → runText (join ls) (length ls) samples ≡ header ++ linesOf (length ls) (join ls) ++ samplesWord ++ number samples 10
+unfolding runText
+every-line ls samples a h = ap (λ (n : ℕ). header ++ linesOf n (join ls) ++ samplesWord ++ number samples 10) {x = min (length ls) (min (length (join ls) / 66) 400)} {y = length ls} (omega (arith, length-join 66 ls a))

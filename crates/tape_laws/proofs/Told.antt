@@ -1,4 +1,4 @@
--- What a head and the section that is fed behind it come to is right to tell (`told-refused`, `told-run`). Assumes nothing.
+-- What a head and the section that is fed behind it come to is right to tell (`told-refused`, `told-run`); and what that says in the plain run's terms (`told-plainly`). Assumes nothing.
 use Prim.Native.Nat.{ℕ, _+_, _*_, _/_, _≤_, _<_}
 use mathlib.Core.Bool.{Bool, true, false}
 use mathlib.Core.List.{List, _++_}
@@ -21,11 +21,11 @@ use Rattle.tape_verdict.specs.Verdict.{startOf, verdictOf}
 use Rattle.tape_laws.specs.Fed.{Held, begun}
 use Rattle.tape_laws.specs.PlainTape.{textBy, fedText, FedCut}
 use Rattle.tape_laws.specs.TapeText.{drawsSection}
-use Rattle.tape_laws.specs.Told.{Told, no-room, head-refused, cut-short, told}
+use Rattle.tape_laws.specs.Told.{modeSOf, modeACOf, Told, head-refused, told, PlainlyTold, number-refused, cut-short, plain}
 use Rattle.tape_laws.proofs.PlainTape.{plain-tape, section-text}
 
-pub told-refused : (tape : List ℕ) (lent : Lent) (b : Begun) → b ≡ headOf four tape lent → (number : ℕ) → b .head ≡ Beginning.the-variants.Refused number → (records samples : ℕ) (before after : List ℕ) → Told number records samples before after
-told-refused tape lent b e number h records samples before after = head-refused tape lent (sym (ap (λ (x : Begun). x .head) e) ∙ h)
+pub told-refused : (tape : List ℕ) (lent : Lent) (b : Begun) → b ≡ headOf four tape lent → (number : ℕ) → b .head ≡ Beginning.the-variants.Refused number → (records samples : ℕ) (before : List ℕ) → Told number records samples before before
+told-refused tape lent b e number h records samples before = head-refused tape lent (sym (ap (λ (x : Begun). x .head) e) ∙ h) refl
 
 -- the draws of a head that stands at the start of more bytes
 same-draws : (n got : ℕ) (bytes : List ℕ) → 12135 + 65 * n ≤ length (take got bytes) → take (65 * n) (drop 12135 (take got bytes)) ≡ take (65 * n) (drop 12135 bytes)
@@ -46,27 +46,29 @@ module _ (tape : List ℕ) (lent : Lent) (s : State) (n count : ℕ) (modeS mode
 
   module _ (size : ℕ) (sized : size ≡ 65 * n) (first f : Feed) (starts : first ≡ startOf s) (records records′ : List ℕ) (memory′ : List Float) (short over : Bool)
       (fed : FedCut modeS modeAC (take size (drop 12135 bytes)) count (record { feed = first; memory = memory; records = records }) short (record { feed = f; memory = memory′; records = records′ })) where
-    rooms : 26400 ≤ length records → 66 * (length (take (65 * n) (drop 12135 tape)) / 65) ≤ length records
-    rooms room = omega (arith, room, length-take (65 * n) (drop 12135 tape), head-within tape lent s n count run .0)
-
-    -- what was fed, in the tape's own terms
-    fed-tape : short ≡ false → FedCut (modeSPrototype four (tapsS four tape)) (modeACPrototype four (tapsAC four tape)) (take (65 * n) (drop 12135 tape)) count (begun s (headOf four tape lent .left .memory) records) false (record { feed = f; memory = memory′; records = records′ })
-    unfolding begun leftBy
-    fed-tape not-short =
-        subst (λ (X : Type 0). X)
-        (λ i. FedCut (left-is i .modeS) (left-is i .modeAC) (draws i) count (record { feed = starts i; memory = e i .left .memory; records = records }) (not-short i) (record { feed = f; memory = memory′; records = records′ }))
-        fed
+    pub told-run : Told (verdictOf short (f .answer) over) (f .records) (f .state .written) records records′
+    unfolding begun leftBy drawsSection
+    told-run =
+        told tape lent s n count run (record { feed = f; memory = memory′; records = records′ }) short over
+        (subst (λ (X : Type 0). X)
+        (λ i. FedCut (left-is i .modeS) (left-is i .modeAC) (draws i) count (record { feed = starts i; memory = e i .left .memory; records = records }) short (record { feed = f; memory = memory′; records = records′ }))
+        fed)
+        refl refl refl refl
       where
         draws : take size (drop 12135 bytes) ≡ take (65 * n) (drop 12135 tape)
         draws = ap (λ (k : ℕ). take k (drop 12135 bytes)) sized ∙ sym (ap (λ (l : List ℕ). take (65 * n) (drop 12135 l)) first-part ∙ same-draws n got bytes (omega (arith, head-within tape lent s n count run .1, ap length first-part)))
 
-    pub told-run : Told (verdictOf short (f .answer) over) (f .records) (f .state .written) records records′
-    unfolding verdictOf fedText drawsSection
-    told-run = go (decLe 26400 (length records)) short refl
-      where
-        go : Dec (26400 ≤ length records) → (x : Bool) → short ≡ x → Told (verdictOf short (f .answer) over) (f .records) (f .state .written) records records′
-        go (no q) x y = no-room (omega arith)
-        go (yes room) true y = cut-short (ap (λ (b : Bool). verdictOf b (f .answer) over) y)
-        go (yes room) false y =
-            let t = section-text s (modeSPrototype four (tapsS four tape)) (modeACPrototype four (tapsAC four tape)) (headOf four tape lent .left .memory) (take (65 * n) (drop 12135 tape)) (plain-tape tape lent s n count run) records (rooms room) count (record { feed = f; memory = memory′; records = records′ }) (fed-tape y) in
-            told tape lent s n count run (t .0) (t .1) over (ap (λ (b : Bool). textBy (verdictOf b (f .answer) over) records′ (f .records) (f .state .written)) y ∙ t .2 over)
+-- what is told, in the plain run's terms
+pub told-plainly : (verdict records samples : ℕ) (before after : List ℕ) → 26400 ≤ length before → Told verdict records samples before after → PlainlyTold verdict records samples after
+unfolding verdictOf fedText drawsSection
+told-plainly verdict records samples before after room (head-refused tape lent h same) = number-refused tape lent h
+told-plainly verdict records samples before after room (told tape lent s n count run f short over fed ev er es ea) = go short refl
+  where
+    rooms : 66 * (length (take (65 * n) (drop 12135 tape)) / 65) ≤ length before
+    rooms = omega (arith, room, length-take (65 * n) (drop 12135 tape), head-within tape lent s n count run .0)
+
+    go : (x : Bool) → short ≡ x → PlainlyTold verdict records samples after
+    go true y = cut-short tape lent s n count run (ev ∙ ap (λ (b : Bool). verdictOf b (f .feed .answer) over) y)
+    go false y =
+        let t = section-text s (modeSOf tape) (modeACOf tape) (headOf four tape lent .left .memory) (drawsSection tape n) (plain-tape tape lent s n count run) before rooms count f (subst (λ (b : Bool). FedCut (modeSOf tape) (modeACOf tape) (drawsSection tape n) count (begun s (headOf four tape lent .left .memory) before) b f) y fed) in
+        plain tape lent s n count run (t .0) (t .1) over ((λ i. textBy ((ev ∙ ap (λ (b : Bool). verdictOf b (f .feed .answer) over) y) i) (ea i) (er i) (es i)) ∙ t .2 over)
