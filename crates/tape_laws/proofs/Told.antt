@@ -24,8 +24,8 @@ use Rattle.tape_laws.specs.TapeText.{drawsSection}
 use Rattle.tape_laws.specs.Told.{modeSOf, modeACOf, Told, head-refused, told, PlainlyTold, number-refused, cut-short, plain}
 use Rattle.tape_laws.proofs.PlainTape.{plain-tape, section-text}
 
-pub told-refused : (tape : List ℕ) (lent : Lent) (b : Begun) → b ≡ headOf four tape lent → (number : ℕ) → b .head ≡ Beginning.the-variants.Refused number → (records samples : ℕ) (before : List ℕ) → Told number records samples before before
-told-refused tape lent b e number h records samples before = head-refused tape lent (sym (ap (λ (x : Begun). x .head) e) ∙ h) refl
+pub told-refused : (tape : List ℕ) (lent : Lent) (b : Begun) → b ≡ headOf four tape lent → (number : ℕ) → b .head ≡ Beginning.the-variants.Refused number → (before : List ℕ) → Told number 0 0 before before
+told-refused tape lent b e number h before = head-refused tape lent (sym (ap (λ (x : Begun). x .head) e) ∙ h) refl refl refl
 
 -- the draws of a head that stands at the start of more bytes
 same-draws : (n got : ℕ) (bytes : List ℕ) → 12135 + 65 * n ≤ length (take got bytes) → take (65 * n) (drop 12135 (take got bytes)) ≡ take (65 * n) (drop 12135 bytes)
@@ -61,7 +61,7 @@ module _ (tape : List ℕ) (lent : Lent) (s : State) (n count : ℕ) (modeS mode
 -- what is told, in the plain run's terms
 pub told-plainly : (verdict records samples : ℕ) (before after : List ℕ) → 26400 ≤ length before → Told verdict records samples before after → PlainlyTold verdict records samples after
 unfolding verdictOf fedText drawsSection
-told-plainly verdict records samples before after room (head-refused tape lent h same) = number-refused tape lent h
+told-plainly verdict records samples before after room (head-refused tape lent h no-records no-samples same) = number-refused tape lent h
 told-plainly verdict records samples before after room (told tape lent s n count run f short over fed ev er es ea) = go short refl
   where
     rooms : 66 * (length (take (65 * n) (drop 12135 tape)) / 65) ≤ length before

@@ -28,8 +28,8 @@ module _ (tape : List ℕ) where
 
 -- what is right to tell of some tape
 pub data Told (verdict records samples : ℕ) (before after : List ℕ) : Type 0 where
-  -- of one whose head is refused, its number; and the record bytes are as they were
-  head-refused : (tape : List ℕ) (lent : Lent) → headOf four tape lent .head ≡ Beginning.the-variants.Refused verdict → after ≡ before → Told verdict records samples before after
+  -- of one whose head is refused, its number, no record and no sample; and the record bytes are as they were
+  head-refused : (tape : List ℕ) (lent : Lent) → headOf four tape lent .head ≡ Beginning.the-variants.Refused verdict → records ≡ 0 → samples ≡ 0 → after ≡ before → Told verdict records samples before after
   -- of one whose head begins a run, what that run comes to, fed noise that is so cut: as many values as the count says, unless the section is cut short; with or without bytes left over
   told : (tape : List ℕ) (lent : Lent) (s : State) (n count : ℕ) → headOf four tape lent .head ≡ Beginning.the-variants.Run s n count → (f : Held) (short over : Bool)
       → FedCut (modeSOf tape) (modeACOf tape) (drawsSection tape n) count (begun s (headOf four tape lent .left .memory) before) short f

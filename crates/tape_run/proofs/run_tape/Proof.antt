@@ -81,7 +81,7 @@ of-section-requires : tie.Need-of-section-requires
 of-section-requires c κs = tt
 
 returns : tie.Need-returns
-returns c = told-refused _ _ _ (c .before .before .before .before .before .before .head .ensures) _ (c .before .number .given .1) _ _ _
+returns c = told-refused _ _ _ (c .before .before .before .before .before .before .head .ensures) _ (c .before .number .given .1) _
 
 same-length : tie.Need-same-length
 same-length c = search needs
