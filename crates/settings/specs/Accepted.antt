@@ -37,15 +37,15 @@ totalFits t = lt (ofBits binary64 0) t && finite t
 -- the refusal of the first distribution at fault, in the order of the settings, or all three
 unfoldable pub withClock : ℕ → CarrierOffset → CarrierPhase → Answers.Answer ClockError → Checked.Checked
 withClock n carrier phase (Answers.accepted clock) = Checked.the-variants.Accepted n (record { carrier = carrier; phase = phase; clock = clock })
-withClock n carrier phase (Answers.refused refusal) = Checked.the-variants.Refused refusal
+withClock n carrier phase (Answers.refused q) = Checked.the-variants.Refused q
 
 unfoldable pub withPhase : ℕ → CarrierOffset → Answers.Answer CarrierPhase → Answers.Answer ClockError → Checked.Checked
 withPhase n carrier (Answers.accepted phase) clock = withClock n carrier phase clock
-withPhase n carrier (Answers.refused refusal) clock = Checked.the-variants.Refused refusal
+withPhase n carrier (Answers.refused q) clock = Checked.the-variants.Refused q
 
 unfoldable pub withOffset : ℕ → Answers.Answer CarrierOffset → Answers.Answer CarrierPhase → Answers.Answer ClockError → Checked.Checked
 withOffset n (Answers.accepted carrier) phase clock = withPhase n carrier phase clock
-withOffset n (Answers.refused refusal) phase clock = Checked.the-variants.Refused refusal
+withOffset n (Answers.refused q) phase clock = Checked.the-variants.Refused q
 
 unfoldable pub distributionsOf : ℕ → ℕ → Settings → Checked.Checked
 distributionsOf sps n s = withOffset n (offsetAnswer (carrierOffset sps (s .carrier))) (phaseAnswer (carrierPhase (s .phase))) (clockAnswer (clockError (s .clock)))
