@@ -5,10 +5,13 @@ use crate::judge::{self, Rng, Stopped};
 use crate::make::{self, MODE_AC_LIMIT};
 use crate::tape::Tape;
 use reference::math;
+use reference::mode_s::ModeSMessage;
+use reference::simulation::{MessageType, SSRReply, duration_as_samples};
 use std::f64::consts::PI;
 use std::panic::catch_unwind;
+use std::time::Duration;
 
-pub const ALL: [(&str, fn() -> bool); 7] = [
+pub const ALL: [(&str, fn() -> bool); 10] = [
     ("the Rust fills bytes 1 to 3 of an all-call", all_call_bytes),
     (
         "smaller batches panic: starts 1102, 1096 with 1,100",
@@ -25,6 +28,12 @@ pub const ALL: [(&str, fn() -> bool); 7] = [
     ("a prototype that does not cross 0.5 panics", no_crossing),
     ("the Rust takes noise, amplitudes and taps of any size", any_size),
     ("phase_wrap_f64 can give PI", wrap_gives_pi),
+    ("a duration of 2^64 samples or more panics", duration_panics),
+    ("Duration::new carries nanoseconds", duration_carries),
+    (
+        "an all-call with overlay 0 is classed as an acquisition squitter",
+        overlay_of_0,
+    ),
 ];
 
 /// `random_all_call_reply` asks for three random bytes; the stand-in fills 0 there for document 01's sake. Here it is
@@ -98,4 +107,24 @@ fn any_size() -> bool {
 
 fn wrap_gives_pi() -> bool {
     catch_unwind(|| math::phase_wrap_f64((-PI).next_down()) == PI).unwrap_or(false)
+}
+
+fn duration_panics() -> bool {
+    let panics = |s, ns| catch_unwind(|| duration_as_samples(Duration::new(s, ns))).is_err();
+    let last = duration_as_samples(Duration::new(2_305_843_009_213, 693_951_999));
+    last == u64::MAX && panics(2_305_843_009_213, 693_952_000) && panics(2_305_843_009_214, 0)
+}
+
+fn duration_carries() -> bool {
+    duration_as_samples(Duration::new(0, 1_000_000_000)) == 8_000_000
+}
+
+/// The address 0 and II 0; with overlay 16, which names no interrogator, it is an all-call.
+fn overlay_of_0() -> bool {
+    let class = |last| {
+        let bytes = [0x58, 0, 0, 0, 0xe0, 0xef, last];
+        MessageType::from_message(&SSRReply::ModeS(ModeSMessage::Short(bytes)))
+    };
+    class(0x0d) == Some(MessageType::AcquisitionSquitter)
+        && class(0x1d) == Some(MessageType::AllCallReply)
 }

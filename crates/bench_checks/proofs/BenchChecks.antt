@@ -14,7 +14,7 @@ use Rattle.message.specs.Types.{typeNumber}
 use Rattle.message_type.specs.Classing.{shortClass, longClass, kindClass}
 use Rattle.pulses.specs.ModeS.{modeSBits, modeSLength}
 use Rattle.pulses.specs.ModeAC.{modeACLength, dataPlaces, modeACPlaces}
-use Rattle.pulse_length.specs.Length.{modeSNumSamples, modeACNumSamples, requiredSamples}
+use Rattle.pulse_length.specs.Length.{modeSNumSamples, modeACNumSamples}
 use Rattle.bench_checks.specs.Table.{Value, ofClass, noClass, class, durations, parity, lengths, replies, table, gives, says}
 
 -- the format of a message does not depend on the low three bits
@@ -31,7 +31,7 @@ short-four low later h =
     ap (λ (df : ℕ). ofClass (shortClass df (take 7 ((4 * 8 + low) ∷ later)))) e
 
 pub bench-checks : (low : ℕ) (later : List ℕ) → low < 8 → gives (table low later) ≡ says (table low later)
-unfolding durationOf bitsOf bitOf placeOf fromData fromDigits reduced brought remainder bits parityOf kindClass modeSBits modeSLength modeACLength dataPlaces modeACPlaces modeSNumSamples modeACNumSamples requiredSamples
+unfolding durationOf bitsOf bitOf placeOf fromData fromDigits reduced brought remainder bits parityOf kindClass modeSBits modeSLength modeACLength dataPlaces modeACPlaces modeSNumSamples modeACNumSamples
 bench-checks low later h =
     ap (λ (vs : List Value). says (durations ++ (parity ++ (lengths ++ replies))) ++ vs)
     (ap₂ (λ (v w : Value). v ∷ w ∷ []) (long-eleven low h) (short-four low later h))

@@ -2,7 +2,7 @@
 use Prim.Native.Nat.{ℕ, _+_, _*_, _^_}
 use mathlib.Core.Bool.{Bool, true, false}
 use mathlib.Core.List.{List, [], _∷_, _++_}
-use Rattle.constants.specs.Rate.{four}
+use Rattle.constants.specs.Rate.{four, requiredSamples}
 use Rattle.duration.specs.Duration.{durationOf}
 use Rattle.duration.specs.Duration as duration
 use Rattle.mode_ac.specs.Building.{fromData, fromDigits}
@@ -14,7 +14,7 @@ use Rattle.message.specs.declared.ReplyKind.the-variants.{Short, Long}
 use Rattle.message.specs.declared.TypeFound.{TypeFound}
 use Rattle.message.specs.declared.TypeFound.the-variants.{Of, Unknown}
 use Rattle.message_type.specs.Classing.{kindClass}
-use Rattle.pulse_length.specs.Length.{modeSNumSamples, modeACNumSamples, requiredSamples}
+use Rattle.pulse_length.specs.Length.{modeSNumSamples, modeACNumSamples}
 
 -- what a line speaks of: a number, a refusal by its number, the places of pulses, a message type by its number, or none
 pub data Value : Type 0 where

@@ -1,4 +1,4 @@
--- At 4 samples per pulse the definitions give document 01's numbers. Assumes nothing.
+-- At 4 samples per pulse the definitions give document 01's numbers, and at 8 those of the doubled rate. Assumes nothing.
 use mathlib.Core.Path.{_≡_, refl}
 use Prim.Native.Nat.{ℕ}
 use mathlib.Core.List.{List, [], _∷_}
@@ -9,3 +9,6 @@ of sps = sampleRate sps ∷ branches sps ∷ prototypeLength sps ∷ modeSPulse 
 
 pub numbers : of four ≡ (8000000 ∷ 256 ∷ 1792 ∷ 307 ∷ 278 ∷ 1486 ∷ 1515 ∷ 1094 ∷ 32 ∷ 2252 ∷ 4000000 ∷ [])
 numbers = refl
+
+pub numbers-doubled : of 8 ≡ (16000000 ∷ 512 ∷ 3584 ∷ 614 ∷ 556 ∷ 2971 ∷ 3029 ∷ 2187 ∷ 64 ∷ 4502 ∷ 8000000 ∷ [])
+numbers-doubled = refl

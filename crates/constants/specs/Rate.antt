@@ -1,5 +1,5 @@
 -- The numbers that follow from the samples per pulse, a pulse being 500 ns. Document 01 has 4 samples per pulse, and says them as numbers; each comment gives its number. Definitions only.
-use Prim.Native.Nat.{ℕ, _+_, _-_, _*_, _/_}
+use Prim.Native.Nat.{ℕ, zero, suc, _+_, _-_, _*_, _/_}
 
 -- samples per pulse in document 01
 abbrev pub four : ℕ
@@ -58,12 +58,18 @@ modeSTaps sps = prototypeLength sps - modeSPulse sps + 1
 abbrev pub modeACTaps : ℕ → ℕ
 modeACTaps sps = prototypeLength sps - modeACPulse sps + 1
 
--- the pulses of the longest message, and the most samples that it becomes: 1,094, that is 246 pulses at 4/0.9 samples, rounded up
+-- the most samples that a number of pulses becomes at any clock rate, the Rust's `required_samples_for_apply`: none for none; else the pulses and the taps after the last one, 6 more,
+-- each at sps / 0.9 samples, since the clock is at most 0.1 slow; rounded up
+abbrev pub requiredSamples : ℕ → ℕ → ℕ
+requiredSamples sps zero = 0
+requiredSamples sps (suc n) = ((suc n + tapsPerBranch - 1) * sps * 10 + 8) / 9
+
+-- the pulses of the longest message, and the most samples that it becomes: 1,094
 abbrev pub longestPulses : ℕ
 longestPulses = 240
 
 abbrev pub replyLimit : ℕ → ℕ
-replyLimit sps = ((longestPulses + tapsPerBranch - 1) * sps * 10 + 8) / 9
+replyLimit sps = requiredSamples sps longestPulses
 
 -- samples held back: 32
 abbrev pub holdBack : ℕ → ℕ

@@ -1,4 +1,4 @@
--- Document 01's three distributions as the settings ask for them, a kind byte and two numbers each, and which are accepted. Turned away is document 01's refusal 4, with the distribution's number: 0 for the carrier offset, 1 for the phase, 2 for the clock error. Definitions only.
+-- Document 01's three distributions as the settings ask for them, a kind byte and two numbers each, and which are accepted; the others are refusal 4. Definitions only.
 use Prim.Native.Nat.{ℕ, zero, suc}
 use mathlib.Core.Bool.{Bool, _&&_, cond}
 use lib.IntN.{pos}
@@ -7,6 +7,8 @@ use lib.Ieee.Scale.{finite}
 use Rattle.constants.specs.Rate.{largestOffset}
 use Rattle.float_bits.specs.Range.{within}
 use Rattle.math.specs.Phase.{phaseWrap}
+use Rattle.refusals.specs.declared.Refusal.the-variants.{Distribution}
+use Rattle.refusals.specs.Answer.{Answer, accepted, refused}
 use Rattle.distributions.specs.declared.Asked.{Asked}
 use Rattle.distributions.specs.declared.CarrierOffset as Offset
 use Rattle.distributions.specs.declared.CarrierPhase as Phase
@@ -62,3 +64,16 @@ clockError d =
     byKind (d .kind) (cond (within (d .first) tenth) (ClockAnswer.the-variants.Accepted (Clock.the-variants.Constant (d .first))) ClockAnswer.the-variants.Refused)
     (cond (upTo (d .first) tenth) (ClockAnswer.the-variants.Accepted (Clock.the-variants.Uniform (d .first))) ClockAnswer.the-variants.Refused)
     ClockAnswer.the-variants.Refused
+
+-- the answers in document 01's terms: "unknown distribution kind, or its parameter out of range" is refusal 4, with the distribution: 0 for the carrier offset, 1 for the phase, 2 for the clock error
+unfoldable pub offsetAnswer : OffsetAnswer.OffsetAnswer → Answer Offset.CarrierOffset
+offsetAnswer (OffsetAnswer.the-variants.Accepted d) = accepted d
+offsetAnswer OffsetAnswer.the-variants.Refused = refused (Distribution 0)
+
+unfoldable pub phaseAnswer : PhaseAnswer.PhaseAnswer → Answer Phase.CarrierPhase
+phaseAnswer (PhaseAnswer.the-variants.Accepted d) = accepted d
+phaseAnswer PhaseAnswer.the-variants.Refused = refused (Distribution 1)
+
+unfoldable pub clockAnswer : ClockAnswer.ClockAnswer → Answer Clock.ClockError
+clockAnswer (ClockAnswer.the-variants.Accepted d) = accepted d
+clockAnswer ClockAnswer.the-variants.Refused = refused (Distribution 2)

@@ -1,10 +1,10 @@
 // Pulse maps, lengths and durations under C names, for the differential harness to call: each function only calls, turns an answer into numbers, and promises what it calls promises. Assumes nothing.
 use duration::InSamples;
 ghost use mathlib.Core.Path.{_≡_};
-ghost use Rattle.constants.specs.Rate.{four};
+ghost use Rattle.constants.specs.Rate.{four, replyLimit};
 ghost use Rattle.pulses.specs.ModeS.{modeSPulses};
 ghost use Rattle.pulses.specs.ModeAC.{modeACPulses};
-ghost use Rattle.pulse_length.specs.Length.{modeSNumSamples, modeACNumSamples, requiredSamples};
+ghost use Rattle.pulse_length.specs.Length.{modeSNumSamples, modeACNumSamples};
 ghost use Rattle.duration.specs.Duration.{answerOf, durationOf};
 ghost use Rattle.exports_pulses.specs.Crossing.{samplesNumber};
 
@@ -43,10 +43,10 @@ pub extern "C" fn port_mode_ac_pulses(
 }
 
 #[no_mangle]
-pub extern "C" fn port_required_samples_for_apply(num_pulses: u32) -> u64
-    ensures { λ r. ⌜ r ≡ requiredSamples four «num_pulses» ⌝ }
+pub extern "C" fn port_reply_limit() -> u64
+    ensures { λ r. ⌜ r ≡ replyLimit four ⌝ }
 {
-    pulse_length::required_samples_for_apply(num_pulses)
+    pulse_length::reply_limit()
 }
 
 fn samples_number(answer: InSamples) -> u64

@@ -1,3 +1,4 @@
+pub mod FieldRefused
 pub mod SameDraw
 pub mod ReplyBytes
 pub mod DrawInRange

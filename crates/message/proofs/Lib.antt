@@ -2,3 +2,4 @@ pub mod Numbers
 pub mod InRange
 pub mod Bytes
 pub mod Replies
+pub mod Refused

@@ -3,6 +3,7 @@
 use Prim.Native.Nat.{ℕ, _+_, _-_, _*_, _/_, _%_}
 use mathlib.Core.Bool.{Bool, true, false}
 use mathlib.Core.List.{List, [], _∷_, _++_}
+use mathlib.Core.Option.{Option, none, some}
 use lib.Dec.{eqb, ltb}
 use lib.ListN.{length, getD, take, drop, replicate}
 use Rattle.mode_s.specs.Formats.{
@@ -15,6 +16,9 @@ use Rattle.mode_s.specs.Formats.{
   controls,
 }
 use Rattle.mode_s.specs.Parity.{sealed}
+use Rattle.refusals.specs.declared.Refusal.{Refusal}
+use Rattle.refusals.specs.declared.Refusal.the-variants.{Draw}
+use Rattle.refusals.specs.Answer.{Answer, unless}
 use Rattle.message.specs.declared.MessageType.{MessageType}
 use Rattle.message.specs.declared.MessageType.the-variants.{
   ExtendedSquitter,
@@ -165,3 +169,12 @@ madeWhere (Wrong field) r = record { fault = Wrong field; reply = record { kind 
 -- what making answers: the fault, and the reply
 unfoldable pub made : MessageType → Picks → Made
 made t p = madeWhere (fieldFault t p) (replyOf t p)
+
+-- in document 01's terms: "a draw field out of range" is refusal 7, with the place of the draw and the field
+unfoldable pub fieldRefusal : ℕ → Field → Option Refusal
+fieldRefusal draw Fine = none
+fieldRefusal draw (Wrong field) = some (Draw draw field)
+
+-- what making answers for the draw at a place: a reply, or that refusal
+unfoldable pub madeAnswer : ℕ → Made → Answer Reply
+madeAnswer draw m = unless (fieldRefusal draw (m .fault)) (m .reply)

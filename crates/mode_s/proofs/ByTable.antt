@@ -10,10 +10,10 @@ use lib.Dec.{T, eqb, eqb→eq}
 use lib.ListN.{length, getD, drop, drop-of-length-le}
 use lib.Seq.{drop-cons}
 use lib.Bits.{bitXor, xor-lt, xor-zero-r, xor-comm, xor-shifted}
-use Rattle.mode_s.specs.Parity.{reduced, brought, remainder, bits, parityOf}
+use Rattle.mode_s.specs.Parity.{reduced, brought, remainder, bits, parityOf, laid}
 use Rattle.mode_s.proofs.Below.{every, below}
 use Rattle.mode_s.proofs.ByBytes.{byteOver, over, parity-over, byteOver-xor, byteOver-small, reduced-lt}
-use Rattle.mode_s.proofs.Laws.{parity-lt, laid, parity-laid, shifted, shifted-xor, shifted-zero, parity-shifted, three}
+use Rattle.mode_s.proofs.Laws.{parity-lt, parity-laid, shifted, shifted-xor, shifted-zero, parity-shifted, three}
 use Rattle.mode_s.proofs.Xor.{xor-assoc}
 
 first : (r : ℕ) → shifted (byteOver r 0) ≡ byteOver (shifted r) 0

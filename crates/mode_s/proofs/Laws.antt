@@ -9,20 +9,13 @@ use native.Mathlib.Omega.{arith}
 use lib.Dec.{T, eqb}
 use lib.ListN.{length, replicate}
 use lib.Bits.{bitXor, xor-block, xor-lt, xor-zero-r, xor-comm}
-use Rattle.mode_s.specs.Parity.{reduced, brought, remainder, bits, parityOf, parityBytes, sealed}
+use Rattle.mode_s.specs.Parity.{reduced, brought, remainder, bits, parityOf, parityBytes, sealed, laid}
 use Rattle.mode_s.proofs.Below.{every, below}
 use Rattle.mode_s.proofs.ByBytes.{byteOver, over, parity-over, over-append, byteOver-xor, byteOver-small, over-lt}
 use Rattle.mode_s.proofs.Xor.{xor-twice}
 
 pub parity-lt : (bs : List ℕ) → parityOf bs < 0x1000000
 parity-lt bs = subst (λ (n : ℕ). n < 0x1000000) (sym (parity-over bs)) (over-lt 0 (bs ++ (0 ∷ 0 ∷ 0 ∷ [])) (omega arith))
-
--- two messages of one length laid over each other, byte by byte
-unfoldable pub laid : List ℕ → List ℕ → List ℕ
-laid [] [] = []
-laid [] (y ∷ ys) = []
-laid (x ∷ xs) [] = []
-laid (x ∷ xs) (y ∷ ys) = bitXor x y ∷ laid xs ys
 
 pub over-xor : (r s : ℕ) (xs ys : List ℕ) → length xs ≡ length ys
     → over (bitXor r s) (laid xs ys) ≡ bitXor (over r xs) (over s ys)

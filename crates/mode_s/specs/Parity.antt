@@ -38,3 +38,10 @@ parityBytes p o = p / 65536 % 256 ∷ p / 256 % 256 ∷ bitXor o (p % 256) ∷ [
 -- a message that ends in the parity of what precedes, with an overlay (0 for none)
 unfoldable pub sealed : List ℕ → ℕ → List ℕ
 sealed head o = head ++ parityBytes (parityOf head) o
+
+-- two messages of one length laid over each other by exclusive or, byte by byte
+unfoldable pub laid : List ℕ → List ℕ → List ℕ
+laid [] [] = []
+laid [] (y ∷ ys) = []
+laid (x ∷ xs) [] = []
+laid (x ∷ xs) (y ∷ ys) = bitXor x y ∷ laid xs ys

@@ -14,7 +14,7 @@ use Rattle.pulse_shape.specs.declared.Crossing.the-variants.{At, Nowhere}
 use Rattle.pulse_shape.specs.Prototype.{modeSPrototype, modeACPrototype}
 use Rattle.pulse_shape.proofs.Whole.{length-prototype}
 use Rattle.pulse_shape.specs.Accepted.{allWithin16, modeSTapsAccepted, modeACTapsAccepted}
-use Rattle.pulse_shape.specs.GroupDelay.{groupDelay, modeACGroupDelay}
+use Rattle.pulse_shape.specs.GroupDelay.{groupDelay, modeACGroupDelay, crossingAnswer}
 use Rattle.refusals.specs.declared.Refusal.{Refusal}
 use Rattle.refusals.specs.declared.Refusal.the-variants as Cause
 use Rattle.running.specs.declared.State.{State}
@@ -30,7 +30,7 @@ use Rattle.opening.specs.declared.Opened.{Opened}
 use Rattle.opening.specs.declared.Prepared.{Prepared}
 use Rattle.opening.specs.declared.Opened.the-variants.{Run, Refused}
 use Rattle.opening.specs.FirstCause.{Fits}
-use Rattle.opening.specs.Opening.{Lent, firstState, lentFits, modeSDelay, modeACDelay, delaysThen, delaysOf, tapsOf, settingsThen, openedFor, openedOf, preparedOf, isRun, leftBy}
+use Rattle.opening.specs.Opening.{Lent, firstState, lentFits, modeSDelay, modeACDelay, delaysGiven, delaysThen, delaysOf, tapsOf, settingsThen, openedFor, openedOf, preparedOf, isRun, leftBy}
 
 -- the lengths, from facts and to facts
 pub fits-if : (modeS modeAC memory : ℕ) → Fits modeS modeAC memory → true ≡ lentFits four modeS modeAC memory
@@ -84,15 +84,15 @@ a-refusal r q e = sym (ap isRun e)
 -- refusal 6, for either delay; or the first state
 module _ (rates : MessagesPerSecond) (total : ℕ) (all : Distributions) (x y : Crossing) where
   pub no-mode-s : x ≡ Nowhere → Refused Cause.Prototype ≡ delaysThen rates total all x y
-  unfolding delaysThen
+  unfolding delaysThen delaysGiven crossingAnswer
   no-mode-s e = λ i. delaysThen rates total all (sym e i) y
 
   pub no-mode-ac : (a : Float) → x ≡ At a → y ≡ Nowhere → Refused Cause.Prototype ≡ delaysThen rates total all x y
-  unfolding delaysThen
+  unfolding delaysThen delaysGiven crossingAnswer
   no-mode-ac a e f = λ i. delaysThen rates total all (sym e i) (sym f i)
 
   pub both-found : (a b : Float) → x ≡ At a → y ≡ At b → Run (firstState rates total all a b) ≡ delaysThen rates total all x y
-  unfolding delaysThen
+  unfolding delaysThen delaysGiven crossingAnswer
   both-found a b e f = λ i. delaysThen rates total all (sym e i) (sym f i)
 
 module _ (level : Float) (tapsS tapsAC : List Float) where

@@ -14,7 +14,7 @@ use Rattle.pulse_shape.specs.declared.Crossing.{Crossing}
 use Rattle.pulse_shape.specs.declared.Crossing.the-variants.{At, Nowhere}
 use Rattle.pulse_shape.specs.Prototype.{modeSPrototype, modeACPrototype}
 use Rattle.pulse_shape.specs.Accepted.{within16, allWithin16, modeSTapsAccepted, modeACTapsAccepted}
-use Rattle.pulse_shape.specs.GroupDelay.{crosses, delayAt, choose, delayFrom, groupDelay, modeACRatio, over, modeACGroupDelay}
+use Rattle.pulse_shape.specs.GroupDelay.{crosses, delayAt, choose, delayFrom, groupDelay, modeACRatio, over, modeACGroupDelay, crossingAnswer}
 use Rattle.refusals.specs.declared.Refusal.{Refusal}
 use Rattle.refusals.specs.declared.Refusal.the-variants as Cause
 use Rattle.running.specs.declared.State.{State}
@@ -26,7 +26,7 @@ use Rattle.settings.specs.FirstCause as Settings
 use Rattle.settings.proofs.FirstCause as SettingsCause
 use Rattle.opening.specs.declared.Opened.{Opened}
 use Rattle.opening.specs.declared.Opened.the-variants.{Run, Refused}
-use Rattle.opening.specs.Opening.{Lent, firstState, lentFits, modeSDelay, modeACDelay, delaysThen, delaysOf, tapsOf, settingsThen, openedFor, openedOf}
+use Rattle.opening.specs.Opening.{Lent, firstState, lentFits, modeSDelay, modeACDelay, delaysGiven, delaysThen, delaysOf, tapsOf, settingsThen, openedFor, openedOf}
 use Rattle.opening.specs.FirstCause.{Fits, AllWithin16, GoodTaps, Crosses, GoodPrototype, LentFits, Passed, BothTaps, BothPrototypes, Answered, refused-9, refused-1-to-4, refused-5, refused-6, accepted}
 use Rattle.opening.proofs.Decided.{fits-if, fits-for, mode-s-delay-of, mode-ac-delay-of, no-mode-s, no-mode-ac, both-found, mode-s-taps-refused, mode-ac-taps-refused, taps-pass, lent-refused, settings-refused, settings-pass}
 
@@ -129,7 +129,7 @@ module _ (level : Float) (tapsS tapsAC : List Float) (bytes : List ℕ) (l : Len
       → (x : Crossing) → DelaySays level (modeSPrototype four tapsS) (groupDelay four level (modeSPrototype four tapsS)) x
       → (y : Crossing) → DelaySays level (modeACPrototype four tapsAC) (modeACGroupDelay four level (modeACPrototype four tapsAC)) y
       → Right (delaysThen (settingsOf bytes .rates) n d x y)
-  unfolding delaysThen
+  unfolding delaysThen delaysGiven crossingAnswer
   by-delays n d P t (At a) f (At b) g = accepted P t (f .0, g .0) (f .1) (g .1)
   by-delays n d P t (At a) f Nowhere g = refused-6 P t (λ both. g (both .1))
   by-delays n d P t Nowhere f y g = refused-6 P t (λ both. f (both .0))

@@ -11,8 +11,9 @@ use Rattle.due_samples.specs.Due.{zeros}
 use Rattle.pulse_shape.specs.declared.Crossing as Crossing
 use Rattle.pulse_shape.specs.Prototype.{modeSPrototype, modeACPrototype}
 use Rattle.pulse_shape.specs.Accepted.{allWithin16, modeSTapsAccepted, modeACTapsAccepted}
-use Rattle.pulse_shape.specs.GroupDelay.{groupDelay, modeACGroupDelay}
+use Rattle.pulse_shape.specs.GroupDelay.{groupDelay, modeACGroupDelay, crossingAnswer}
 use Rattle.refusals.specs.declared.Refusal as Refusal
+use Rattle.refusals.specs.Answer.{Answer, accepted, refused}
 use Rattle.running.specs.declared.State.{State}
 use Rattle.settings.specs.declared.MessagesPerSecond.{MessagesPerSecond}
 use Rattle.settings.specs.declared.Distributions.{Distributions}
@@ -52,11 +53,15 @@ modeSDelay sps level prototype = cond (allWithin16 prototype) (groupDelay sps le
 unfoldable pub modeACDelay : ℕ → Float → List Float → Crossing.Crossing
 modeACDelay sps level prototype = cond (allWithin16 prototype) (modeACGroupDelay sps level prototype) Crossing.the-variants.Nowhere
 
+-- the run's first state, or the refusal of the first prototype without a delay
+unfoldable pub delaysGiven : MessagesPerSecond → ℕ → Distributions → Answer Float → Answer Float → Opened.Opened
+delaysGiven rates total all (accepted a) (accepted b) = Opened.the-variants.Run (firstState rates total all a b)
+delaysGiven rates total all (accepted a) (refused refusal) = Opened.the-variants.Refused refusal
+delaysGiven rates total all (refused refusal) b = Opened.the-variants.Refused refusal
+
 -- refusal 6, "a prototype value not finite or above 16 in size, or no 0.5 crossing"; or the run's first state
 unfoldable pub delaysThen : MessagesPerSecond → ℕ → Distributions → Crossing.Crossing → Crossing.Crossing → Opened.Opened
-delaysThen rates total all (Crossing.the-variants.At a) (Crossing.the-variants.At b) = Opened.the-variants.Run (firstState rates total all a b)
-delaysThen rates total all (Crossing.the-variants.At a) Crossing.the-variants.Nowhere = Opened.the-variants.Refused Refusal.the-variants.Prototype
-delaysThen rates total all Crossing.the-variants.Nowhere b = Opened.the-variants.Refused Refusal.the-variants.Prototype
+delaysThen rates total all modeS modeAC = delaysGiven rates total all (crossingAnswer modeS) (crossingAnswer modeAC)
 
 -- 0.5, the level that document 01's prototypes cross
 abbrev pub half : Float

@@ -1,7 +1,8 @@
-// How many samples a message lasts, and how many a number of pulses can become. Assumes nothing.
+// How many samples a message lasts at the nominal clock rate, and the most that one can have. Assumes nothing.
 ghost use mathlib.Core.Path.{_≡_};
-ghost use Rattle.constants.specs.Rate.{four};
-ghost use Rattle.pulse_length.specs.Length.{modeSNumSamples, modeACNumSamples, requiredSamples};
+ghost use Prim.Native.Nat.{_≤_};
+ghost use Rattle.constants.specs.Rate.{four, requiredSamples, longestPulses, replyLimit};
+ghost use Rattle.pulse_length.specs.Length.{modeSNumSamples, modeACNumSamples};
 
 // The samples of a Mode S message at the nominal clock rate.
 pub fn mode_s_num_samples(long: bool) -> usize
@@ -17,18 +18,20 @@ pub fn mode_ac_num_samples(spi: bool) -> usize
     if spi { 201 } else { 166 }
 }
 
-fn wide(x: u32) -> u64
-    ensures { λ r. ⌜ r ≡ x ⌝ }
-{
-    x as u64
-}
-
-// The most samples that so many pulses become at any clock rate. A message has at most 240.
-pub fn required_samples_for_apply(num_pulses: u32) -> u64
+// The most samples that a number of pulses becomes at any clock rate.
+fn required_samples_for_apply(num_pulses: u64) -> u64
+    requires { ⌜ «num_pulses» ≤ longestPulses ⌝ }
     ensures { λ r. ⌜ r ≡ requiredSamples four «num_pulses» ⌝ }
 {
     if num_pulses == 0 {
         return 0;
     }
-    ((wide(num_pulses) + 6) * 40 + 8) / 9
+    ((num_pulses + 6) * 40 + 8) / 9
+}
+
+// The most samples of a reply at any clock rate: those of the longest message, of 240 pulses.
+pub fn reply_limit() -> u64
+    ensures { λ r. ⌜ r ≡ replyLimit four ⌝ }
+{
+    required_samples_for_apply(240)
 }

@@ -1,10 +1,12 @@
--- The delay of a prototype: `compute_group_delay`, with the level as an argument. Nowhere is document 01's refusal 6. Definitions only.
+-- The delay of a prototype: `compute_group_delay`, with the level as an argument. Definitions only.
 use Prim.Native.Nat.{ℕ, _+_, _/_}
 use mathlib.Core.List.{List, [], _∷_}
 use mathlib.Core.Bool.{Bool, true, false, _&&_}
 use lib.IntN.{pos}
 use lib.Ieee.{Float, binary64, ofInt, add, sub, div, lt, le}
 use Rattle.constants.specs.Rate.{branches}
+use Rattle.refusals.specs.declared.Refusal.the-variants.{Prototype}
+use Rattle.refusals.specs.Answer.{Answer, accepted, refused}
 use Rattle.pulse_shape.specs.declared.Crossing.{Crossing}
 use Rattle.pulse_shape.specs.declared.Crossing.the-variants.{At, Nowhere}
 
@@ -41,3 +43,8 @@ over ratio Nowhere = Nowhere
 -- the delay of a Mode A/C prototype, in samples of the Mode S rate
 unfoldable pub modeACGroupDelay : ℕ → Float → List Float → Crossing
 modeACGroupDelay sps level prototype = over modeACRatio (groupDelay sps level prototype)
+
+-- a crossing in document 01's terms: a delay, or, for "no 0.5 crossing", refusal 6
+unfoldable pub crossingAnswer : Crossing → Answer Float
+crossingAnswer (At delay) = accepted delay
+crossingAnswer Nowhere = refused Prototype

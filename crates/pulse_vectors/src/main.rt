@@ -183,16 +183,6 @@ fn digest_mode_s(long: bool) -> u64 {
     h
 }
 
-fn say_required() {
-    let mut n: u32 = 0;
-    while n < 241 {
-        io::print_decimal(STDOUT_FILENO, pulse_length::required_samples_for_apply(n));
-        io::write_all(STDOUT_FILENO, b" ");
-        n += 1;
-    }
-    io::write_all(STDOUT_FILENO, b"\n");
-}
-
 fn durations() {
     say_samples(duration::duration_as_samples(0, 124));
     say_samples(duration::duration_as_samples(0, 125));
@@ -203,7 +193,7 @@ fn durations() {
 }
 
 fn lengths() {
-    say_required();
+    say(pulse_length::reply_limit());
     say(pulse_length::mode_s_num_samples(true) as u64);
     say(pulse_length::mode_s_num_samples(false) as u64);
     say(pulse_length::mode_ac_num_samples(false) as u64);

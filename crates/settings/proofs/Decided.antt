@@ -2,7 +2,7 @@
 use Prim.Native.Nat.{ℕ}
 use mathlib.Core.Path.{_≡_, ap, _∙_}
 use mathlib.Core.Bool.{Bool, true, false, cond}
-use Rattle.distributions.specs.Asked.{carrierOffset, carrierPhase, clockError}
+use Rattle.distributions.specs.Asked.{carrierOffset, carrierPhase, clockError, offsetAnswer, phaseAnswer, clockAnswer}
 use Rattle.distributions.specs.declared.CarrierOffset.{CarrierOffset}
 use Rattle.distributions.specs.declared.CarrierPhase.{CarrierPhase}
 use Rattle.distributions.specs.declared.ClockError.{ClockError}
@@ -42,32 +42,32 @@ module _ (sps n : ℕ) (s : Settings) where
   pub rates-pass : firstBadRate 0 (ratesOf (s .rates)) ≡ Nowhere → totalFits (totalOf (ratesOf (s .rates))) ≡ true → ratesThen sps n s ≡ distributionsOf sps n s
   rates-pass = by-total true
 
-  by-offset : (a : Offset.OffsetAnswer) → carrierOffset sps (s .carrier) ≡ a → distributionsOf sps n s ≡ withOffset n a (carrierPhase (s .phase)) (clockError (s .clock))
+  by-offset : (a : Offset.OffsetAnswer) → carrierOffset sps (s .carrier) ≡ a → distributionsOf sps n s ≡ withOffset n (offsetAnswer a) (phaseAnswer (carrierPhase (s .phase))) (clockAnswer (clockError (s .clock)))
   unfolding distributionsOf
-  by-offset a = ap (λ (x : Offset.OffsetAnswer). withOffset n x (carrierPhase (s .phase)) (clockError (s .clock)))
+  by-offset a = ap (λ (x : Offset.OffsetAnswer). withOffset n (offsetAnswer x) (phaseAnswer (carrierPhase (s .phase))) (clockAnswer (clockError (s .clock))))
 
   pub offset-refused : carrierOffset sps (s .carrier) ≡ Offset.the-variants.Refused → distributionsOf sps n s ≡ Refused (Refusal.Distribution 0)
-  unfolding withOffset
+  unfolding withOffset offsetAnswer
   offset-refused = by-offset Offset.the-variants.Refused
 
   module _ (o : CarrierOffset) (f : carrierOffset sps (s .carrier) ≡ Offset.the-variants.Accepted o) where
-    by-phase : (a : Phase.PhaseAnswer) → carrierPhase (s .phase) ≡ a → distributionsOf sps n s ≡ withPhase n o a (clockError (s .clock))
-    unfolding withOffset
-    by-phase a g = by-offset (Offset.the-variants.Accepted o) f ∙ ap (λ (x : Phase.PhaseAnswer). withPhase n o x (clockError (s .clock))) g
+    by-phase : (a : Phase.PhaseAnswer) → carrierPhase (s .phase) ≡ a → distributionsOf sps n s ≡ withPhase n o (phaseAnswer a) (clockAnswer (clockError (s .clock)))
+    unfolding withOffset offsetAnswer
+    by-phase a g = by-offset (Offset.the-variants.Accepted o) f ∙ ap (λ (x : Phase.PhaseAnswer). withPhase n o (phaseAnswer x) (clockAnswer (clockError (s .clock)))) g
 
     pub phase-refused : carrierPhase (s .phase) ≡ Phase.the-variants.Refused → distributionsOf sps n s ≡ Refused (Refusal.Distribution 1)
-    unfolding withPhase
+    unfolding withPhase phaseAnswer
     phase-refused = by-phase Phase.the-variants.Refused
 
     module _ (p : CarrierPhase) (g : carrierPhase (s .phase) ≡ Phase.the-variants.Accepted p) where
-      by-clock : (a : Clock.ClockAnswer) → clockError (s .clock) ≡ a → distributionsOf sps n s ≡ withClock n o p a
-      unfolding withPhase
-      by-clock a h = by-phase (Phase.the-variants.Accepted p) g ∙ ap (withClock n o p) h
+      by-clock : (a : Clock.ClockAnswer) → clockError (s .clock) ≡ a → distributionsOf sps n s ≡ withClock n o p (clockAnswer a)
+      unfolding withPhase phaseAnswer
+      by-clock a h = by-phase (Phase.the-variants.Accepted p) g ∙ ap (λ (x : Clock.ClockAnswer). withClock n o p (clockAnswer x)) h
 
       pub clock-refused : clockError (s .clock) ≡ Clock.the-variants.Refused → distributionsOf sps n s ≡ Refused (Refusal.Distribution 2)
-      unfolding withClock
+      unfolding withClock clockAnswer
       clock-refused = by-clock Clock.the-variants.Refused
 
       pub all-accepted : (c : ClockError) → clockError (s .clock) ≡ Clock.the-variants.Accepted c → distributionsOf sps n s ≡ Accepted n (record { carrier = o; phase = p; clock = c })
-      unfolding withClock
+      unfolding withClock clockAnswer
       all-accepted c = by-clock (Clock.the-variants.Accepted c)

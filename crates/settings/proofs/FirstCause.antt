@@ -7,7 +7,7 @@ use native.Mathlib.Nat.{zero-add}
 use native.Mathlib.Omega.{arith}
 use lib.Dec.{leb, ltb}
 use borrow.Author.Tests.{ltb-false}
-use Rattle.distributions.specs.Asked.{finiteNotNegative, carrierOffset, carrierPhase, clockError}
+use Rattle.distributions.specs.Asked.{finiteNotNegative, carrierOffset, carrierPhase, clockError, offsetAnswer, phaseAnswer, clockAnswer}
 use Rattle.distributions.specs.declared.CarrierOffset.{CarrierOffset}
 use Rattle.distributions.specs.declared.CarrierPhase.{CarrierPhase}
 use Rattle.distributions.specs.declared.OffsetAnswer as Offset
@@ -50,19 +50,19 @@ lasts-for sps a b n = go (leb 1000000000 b) (ltb mostSamples (samplesOf sps a b)
 
 module _ (sps : ℕ) (s : Settings) where
   by-clock : (n : ℕ) (o : CarrierOffset) (p : CarrierPhase) → Passed sps s n → carrierOffset sps (s .carrier) ≡ Offset.the-variants.Accepted o
-      → carrierPhase (s .phase) ≡ Phase.the-variants.Accepted p → (a : Clock.ClockAnswer) → clockError (s .clock) ≡ a → Answered sps s (withClock n o p a)
-  unfolding withClock
+      → carrierPhase (s .phase) ≡ Phase.the-variants.Accepted p → (a : Clock.ClockAnswer) → clockError (s .clock) ≡ a → Answered sps s (withClock n o p (clockAnswer a))
+  unfolding withClock clockAnswer
   by-clock n o p P f g (Clock.the-variants.Accepted c) e = accepted P f g e
   by-clock n o p P f g Clock.the-variants.Refused e = refused-4-2 P f g e
 
   by-phase : (n : ℕ) (o : CarrierOffset) → Passed sps s n → carrierOffset sps (s .carrier) ≡ Offset.the-variants.Accepted o
-      → (a : Phase.PhaseAnswer) → carrierPhase (s .phase) ≡ a → Answered sps s (withPhase n o a (clockError (s .clock)))
-  unfolding withPhase
+      → (a : Phase.PhaseAnswer) → carrierPhase (s .phase) ≡ a → Answered sps s (withPhase n o (phaseAnswer a) (clockAnswer (clockError (s .clock))))
+  unfolding withPhase phaseAnswer
   by-phase n o P f (Phase.the-variants.Accepted p) e = by-clock n o p P f e (clockError (s .clock)) refl
   by-phase n o P f Phase.the-variants.Refused e = refused-4-1 P f e
 
-  by-offset : (n : ℕ) → Passed sps s n → (a : Offset.OffsetAnswer) → carrierOffset sps (s .carrier) ≡ a → Answered sps s (withOffset n a (carrierPhase (s .phase)) (clockError (s .clock)))
-  unfolding withOffset
+  by-offset : (n : ℕ) → Passed sps s n → (a : Offset.OffsetAnswer) → carrierOffset sps (s .carrier) ≡ a → Answered sps s (withOffset n (offsetAnswer a) (phaseAnswer (carrierPhase (s .phase))) (clockAnswer (clockError (s .clock))))
+  unfolding withOffset offsetAnswer
   by-offset n P (Offset.the-variants.Accepted o) e = by-phase n o P e (carrierPhase (s .phase)) refl
   by-offset n P Offset.the-variants.Refused e = refused-4-0 P e
 

@@ -4,14 +4,13 @@ use mathlib.Core.Bool.{Bool, _&&_, cond}
 use mathlib.Core.List.{List, [], _∷_}
 use lib.Ieee.{Float, binary64, ofBits, add, lt}
 use lib.Ieee.Scale.{finite}
-use Rattle.distributions.specs.Asked.{finiteNotNegative, carrierOffset, carrierPhase, clockError}
+use Rattle.distributions.specs.Asked.{finiteNotNegative, carrierOffset, carrierPhase, clockError, offsetAnswer, phaseAnswer, clockAnswer}
 use Rattle.distributions.specs.declared.CarrierOffset.{CarrierOffset}
 use Rattle.distributions.specs.declared.CarrierPhase.{CarrierPhase}
-use Rattle.distributions.specs.declared.OffsetAnswer as OffsetAnswer
-use Rattle.distributions.specs.declared.PhaseAnswer as PhaseAnswer
-use Rattle.distributions.specs.declared.ClockAnswer as ClockAnswer
+use Rattle.distributions.specs.declared.ClockError.{ClockError}
 use Rattle.duration.specs.Duration.{Answer, samples, refusal, durationOf}
 use Rattle.refusals.specs.declared.Refusal as Refusal
+use Rattle.refusals.specs.Answer as Answers
 use Rattle.settings.specs.declared.Settings.{Settings}
 use Rattle.settings.specs.declared.BadRate as BadRate
 use Rattle.settings.specs.declared.Checked as Checked
@@ -35,21 +34,21 @@ totalOf (r ∷ rs) = sumFrom r rs
 unfoldable pub totalFits : Float → Bool
 totalFits t = lt (ofBits binary64 0) t && finite t
 
--- refusal 4, with the first distribution at fault: 0 the carrier offset, 1 the phase, 2 the clock error
-unfoldable pub withClock : ℕ → CarrierOffset → CarrierPhase → ClockAnswer.ClockAnswer → Checked.Checked
-withClock n carrier phase (ClockAnswer.the-variants.Accepted clock) = Checked.the-variants.Accepted n (record { carrier = carrier; phase = phase; clock = clock })
-withClock n carrier phase ClockAnswer.the-variants.Refused = Checked.the-variants.Refused (Refusal.the-variants.Distribution 2)
+-- the refusal of the first distribution at fault, in the order of the settings, or all three
+unfoldable pub withClock : ℕ → CarrierOffset → CarrierPhase → Answers.Answer ClockError → Checked.Checked
+withClock n carrier phase (Answers.accepted clock) = Checked.the-variants.Accepted n (record { carrier = carrier; phase = phase; clock = clock })
+withClock n carrier phase (Answers.refused q) = Checked.the-variants.Refused q
 
-unfoldable pub withPhase : ℕ → CarrierOffset → PhaseAnswer.PhaseAnswer → ClockAnswer.ClockAnswer → Checked.Checked
-withPhase n carrier (PhaseAnswer.the-variants.Accepted phase) clock = withClock n carrier phase clock
-withPhase n carrier PhaseAnswer.the-variants.Refused clock = Checked.the-variants.Refused (Refusal.the-variants.Distribution 1)
+unfoldable pub withPhase : ℕ → CarrierOffset → Answers.Answer CarrierPhase → Answers.Answer ClockError → Checked.Checked
+withPhase n carrier (Answers.accepted phase) clock = withClock n carrier phase clock
+withPhase n carrier (Answers.refused q) clock = Checked.the-variants.Refused q
 
-unfoldable pub withOffset : ℕ → OffsetAnswer.OffsetAnswer → PhaseAnswer.PhaseAnswer → ClockAnswer.ClockAnswer → Checked.Checked
-withOffset n (OffsetAnswer.the-variants.Accepted carrier) phase clock = withPhase n carrier phase clock
-withOffset n OffsetAnswer.the-variants.Refused phase clock = Checked.the-variants.Refused (Refusal.the-variants.Distribution 0)
+unfoldable pub withOffset : ℕ → Answers.Answer CarrierOffset → Answers.Answer CarrierPhase → Answers.Answer ClockError → Checked.Checked
+withOffset n (Answers.accepted carrier) phase clock = withPhase n carrier phase clock
+withOffset n (Answers.refused q) phase clock = Checked.the-variants.Refused q
 
 unfoldable pub distributionsOf : ℕ → ℕ → Settings → Checked.Checked
-distributionsOf sps n s = withOffset n (carrierOffset sps (s .carrier)) (carrierPhase (s .phase)) (clockError (s .clock))
+distributionsOf sps n s = withOffset n (offsetAnswer (carrierOffset sps (s .carrier))) (phaseAnswer (carrierPhase (s .phase))) (clockAnswer (clockError (s .clock)))
 
 -- refusal 2, with the first rate at fault; then 3; then 4
 unfoldable pub totalThen : ℕ → ℕ → Settings → BadRate.BadRate → Checked.Checked

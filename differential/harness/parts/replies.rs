@@ -31,7 +31,7 @@ unsafe extern "C" {
         samples: &mut usize,
     ) -> usize;
     safe fn port_mode_ac_pulses(data: u16, spi: bool, on: &mut [bool; 240], samples: &mut usize) -> usize;
-    safe fn port_required_samples_for_apply(pulses: u32) -> u64;
+    safe fn port_reply_limit() -> u64;
     safe fn port_duration_as_samples(seconds: u64, nanoseconds: u32) -> u64;
 }
 
@@ -44,14 +44,24 @@ pub fn compare(t: &mut Tally, r: &mut Random, count: u64) {
     made(t, r, count / 4);
     every_mode_ac(t);
     for n in 0..=240 {
-        let ours = port_required_samples_for_apply(n) as usize;
         t.alike(
             "required_samples_for_apply",
             n,
-            required_samples_for_apply(n as usize),
-            ours,
+            required_samples_for_apply(n),
+            required_by_rule(n),
         );
     }
+    t.alike(
+        "limit of a reply",
+        240,
+        required_samples_for_apply(240),
+        port_reply_limit() as usize,
+    );
+}
+
+/// The definition of the port, in whole numbers: six more pulses than there are, at 4 / 0.9 samples each, rounded up.
+fn required_by_rule(pulses: usize) -> usize {
+    if pulses == 0 { 0 } else { ((pulses + 6) * 40).div_ceil(9) }
 }
 
 fn parity(t: &mut Tally, r: &mut Random) {

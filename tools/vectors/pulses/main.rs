@@ -376,10 +376,7 @@ fn main() {
     say_samples(562_949_953, 421_312_125);
     say_samples(12_345, 999_999_999);
     say_samples(0, 1_000_000_000);
-    for n in 0..=240 {
-        print!("{} ", required_samples_for_apply(n));
-    }
-    println!();
+    println!("{}", required_samples_for_apply(240));
     println!(
         "{}",
         message_num_samples(&SSRReply::ModeS(ModeSMessage::Long([0; 14])))

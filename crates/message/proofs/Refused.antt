@@ -1,0 +1,17 @@
+-- What making answers, in document 01's terms: for the draw at any place, the reply of its type, or refusal 7 with the first field at fault (`made-answers`). Assumes nothing.
+use Prim.Native.Nat.{ℕ}
+use mathlib.Core.Path.{_≡_, refl}
+use Rattle.refusals.specs.Answer.{unless}
+use Rattle.message.specs.declared.Field.{Field}
+use Rattle.message.specs.declared.Field.the-variants.{Fine, Wrong}
+use Rattle.message.specs.declared.MessageType.{MessageType}
+use Rattle.message.specs.declared.Picks.{Picks}
+use Rattle.message.specs.Making.{replyOf, fieldFault, madeWhere, made, fieldRefusal, madeAnswer}
+
+pub made-answers : (draw : ℕ) (t : MessageType) (p : Picks) → madeAnswer draw (made t p) ≡ unless (fieldRefusal draw (fieldFault t p)) (replyOf t p)
+unfolding made madeAnswer
+made-answers draw t p = go (fieldFault t p)
+  where
+    go : (f : Field) → unless (fieldRefusal draw (madeWhere f (replyOf t p) .fault)) (madeWhere f (replyOf t p) .reply) ≡ unless (fieldRefusal draw f) (replyOf t p)
+    go Fine = unfold madeWhere fieldRefusal unless in refl
+    go (Wrong field) = unfold madeWhere fieldRefusal unless in refl
