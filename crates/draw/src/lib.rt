@@ -2,8 +2,8 @@
 ghost use mathlib.Core.Path.{_≡_};
 ghost use Rattle.draw.specs.Draw.{drawAt};
 ghost use Rattle.draw.specs.Config.{timeAfter};
-use message::Picks;
 pub use le_at::byte_at;
+use message::Picks;
 
 pub struct Draw {
     pub gap: f64,

@@ -78,7 +78,14 @@ fn prepared(tape: &[u8], mode_s: usize, mode_ac: usize, memory: usize) -> Prepar
 {
     let taps = read_taps(tape);
     let all: &[f32] = &taps;
-    opening::prepare(&tape[4..123], &all[..1486], &all[1486..], mode_s, mode_ac, memory)
+    opening::prepare(
+        &tape[4..123],
+        &all[..1486],
+        &all[1486..],
+        mode_s,
+        mode_ac,
+        memory,
+    )
 }
 
 // Refusals 5, 6 and 9 of opening, then the draws.
