@@ -57,7 +57,8 @@ enum {
     MORE1090_BAD_DRAW = 7,      /* a field out of range; value: the first such draw, field: its first such field. Or a first
                                  * draw that jumps back: its time is before `latest` of the state; value 0, field 0 */
     MORE1090_NOISE = 8,         /* a noise value not finite or above 64 in size; value: its place */
-    MORE1090_LENT = 9           /* of a wrong length: settings, memory, a prototype, output (0 or odd), draws (no multiple of 65) */
+    MORE1090_LENT = 9           /* settings, memory, a prototype, output (0 or odd) or draws (no multiple of 65) of a wrong
+                                 * length */
 };
 
 /* Why a run call came back. */

@@ -66,14 +66,16 @@ unsafe extern "C" {
         taps_ac: *const f32, taps_ac_length: usize, mode_s: *mut f32, mode_s_length: usize,
         mode_ac: *mut f32, mode_ac_length: usize, memory: *mut f32, memory_length: usize) -> Opened;
     fn more1090_run(state: State, mode_s: *const f32, mode_s_length: usize, mode_ac: *const f32, mode_ac_length: usize,
-        memory: *mut f32, memory_length: usize, draws: *const u8, draws_length: usize, noise: *const f32, noise_length: usize,
-        output: *mut f32, output_length: usize, records: *mut u8, records_length: usize) -> Ran;
+        memory: *mut f32, memory_length: usize, draws: *const u8, draws_length: usize,
+        noise: *const f32, noise_length: usize, output: *mut f32, output_length: usize,
+        records: *mut u8, records_length: usize) -> Ran;
 }
 
 /// `more1090_open`, on slices of any length.
 #[rustfmt::skip]
-pub fn open(settings: &[u8], taps_s: &[f32], taps_ac: &[f32], mode_s: &mut [f32], mode_ac: &mut [f32], memory: &mut [f32]) -> Opened {
-    // Slices are there, aligned and good for their lengths, and those to be written overlap with nothing: all that is asked.
+pub fn open(settings: &[u8], taps_s: &[f32], taps_ac: &[f32],
+    mode_s: &mut [f32], mode_ac: &mut [f32], memory: &mut [f32]) -> Opened {
+    // Slices are aligned and good for their lengths, and those to be written overlap with nothing: all that is asked.
     unsafe {
         more1090_open(settings.as_ptr(), settings.len(), taps_s.as_ptr(), taps_s.len(), taps_ac.as_ptr(), taps_ac.len(),
             mode_s.as_mut_ptr(), mode_s.len(), mode_ac.as_mut_ptr(), mode_ac.len(), memory.as_mut_ptr(), memory.len())
@@ -82,16 +84,17 @@ pub fn open(settings: &[u8], taps_s: &[f32], taps_ac: &[f32], mode_s: &mut [f32]
 
 /// `more1090_run`, on any state and slices of any length.
 #[rustfmt::skip]
-pub fn run(state: State, mode_s: &[f32], mode_ac: &[f32], memory: &mut [f32], draws: &[u8], noise: &[f32], output: &mut [f32], records: &mut [u8]) -> Ran {
+pub fn run(state: State, mode_s: &[f32], mode_ac: &[f32], memory: &mut [f32],
+    draws: &[u8], noise: &[f32], output: &mut [f32], records: &mut [u8]) -> Ran {
     unsafe {
-        more1090_run(state, mode_s.as_ptr(), mode_s.len(), mode_ac.as_ptr(), mode_ac.len(), memory.as_mut_ptr(), memory.len(),
-            draws.as_ptr(), draws.len(), noise.as_ptr(), noise.len(), output.as_mut_ptr(), output.len(),
-            records.as_mut_ptr(), records.len())
+        more1090_run(state, mode_s.as_ptr(), mode_s.len(), mode_ac.as_ptr(), mode_ac.len(),
+            memory.as_mut_ptr(), memory.len(), draws.as_ptr(), draws.len(), noise.as_ptr(), noise.len(),
+            output.as_mut_ptr(), output.len(), records.as_mut_ptr(), records.len())
     }
 }
 
-/// The bytes of a stored run: the state's 23 numbers of eight bytes, then the Mode S prototype, the Mode A/C prototype and the
-/// working memory in f32, all little-endian.
+/// The bytes of a stored run: the state's 23 numbers of eight bytes, then the Mode S prototype, the Mode A/C prototype and
+/// the working memory in f32, all little-endian.
 pub const STORED_BYTES: usize = size_of::<State>() + 4 * (2 * PROTOTYPE + MEMORY);
 
 pub struct Run {
@@ -122,7 +125,7 @@ impl Run {
         ran
     }
 
-    /// The run between two calls as `STORED_BYTES` bytes, for `restore`. There is no check sum: store them where they are safe.
+    /// The run between two calls as `STORED_BYTES` bytes, for `restore`. There is no check sum.
     pub fn save(&self) -> Vec<u8> {
         // A state is 23 numbers of eight bytes with no padding, so any 184 bytes are one.
         let words = unsafe { std::mem::transmute::<State, [u64; 23]>(self.state) };
@@ -133,8 +136,8 @@ impl Run {
         bytes
     }
 
-    /// Takes up the run that `save` gave as these bytes; it goes on with the draws not taken and the noise not used. Bytes of
-    /// another length are no run. Any others are taken: changed ones give other samples, and nothing tells.
+    /// Takes up the run that `save` gave as these bytes; it goes on with the draws not taken and the noise not used. Bytes
+    /// of another length are no run. Any others are taken: changed ones give other samples, and nothing refuses them.
     pub fn restore(bytes: &[u8]) -> Option<Run> {
         if bytes.len() != STORED_BYTES {
             return None;
