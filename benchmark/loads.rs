@@ -147,7 +147,7 @@ impl Load {
     }
 
     /// The settings as the port reads them.
-    pub fn settings(&self) -> [u8; 119] {
+    pub fn settings(&self) -> Vec<u8> {
         let mut b = Vec::new();
         b.extend((self.seconds as u64).to_le_bytes());
         b.extend(0u32.to_le_bytes());
@@ -159,6 +159,6 @@ impl Load {
             b.extend(f64::to_le_bytes(first));
             b.extend(f64::to_le_bytes(second));
         }
-        b.try_into().unwrap()
+        b
     }
 }

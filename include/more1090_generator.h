@@ -6,9 +6,9 @@
  * else; the same arguments give the same answer and the same bytes.
  *
  * What is said of each call here is proved of its source, for every input, refused ones too (crates/more1090_generator, and
- * its proofs/Demand3.antt for lists of calls). Asked of the caller, since no proof can see it: a pointer is not NULL, also
- * where its length is 0; it is aligned to its type, and good for its length; what a call writes overlaps with nothing else
- * that is lent to it. Calls that share no memory may run at the same time.
+ * its proofs/Demand3.antt for lists of calls). Asked of the caller, since no proof can see it: a pointer is aligned to its
+ * type and good for its length, and may be NULL only where that is 0; what a call writes overlaps with nothing else that is
+ * lent to it. Calls that share no memory may run at the same time.
  *
  * Lengths count values of the pointer's type: floats or bytes. Places and draws are counted from 0 in what is lent to that
  * call. Settings, draws and records are packed and little-endian, as in document 01's tape:
@@ -57,7 +57,8 @@ enum {
     MORE1090_BAD_DRAW = 7,      /* a field out of range; value: the first such draw, field: its first such field. Or a first
                                  * draw that jumps back: its time is before `latest` of the state; value 0, field 0 */
     MORE1090_NOISE = 8,         /* a noise value not finite or above 64 in size; value: its place */
-    MORE1090_LENT = 9           /* memory, a prototype, output (0 or odd) or draws (no multiple of 65) of a wrong length */
+    MORE1090_LENT = 9           /* settings, memory, a prototype, output (0 or odd) or draws (no multiple of 65) of a wrong
+                                 * length */
 };
 
 /* Why a run call came back. */
@@ -76,9 +77,10 @@ typedef struct more1090_distribution {
     double second;
 } more1090_distribution;
 
-/* A run between two calls: plain data with no pointers and no padding, to be copied, stored and taken up again, with the
- * prototypes that opening filled and the working memory as the last call left it. Any bytes are taken: a kind or `ended`
- * that is not 0 is read as 1, and a number that its kind does not use is ignored; such a state comes back with 1 and 0.0. */
+/* A run between two calls: plain data with no pointers and no padding. To store a run and take it up again, keep the state,
+ * the prototypes that opening filled and the working memory as the last call left it, all three: a state with memory opened
+ * anew gives another run, and nothing refuses it. Any bytes are taken as a state: a kind or `ended` that is not 0 is read as
+ * 1, and a number that its kind does not use is ignored; such a state comes back with 1 and 0.0. */
 typedef struct more1090_state {
     uint64_t written;    /* samples written so far */
     uint64_t total;      /* samples of the run */
@@ -111,10 +113,10 @@ typedef struct more1090_ran {
     uint64_t field;
 } more1090_ran;
 
-/* Opens a run. Checks 9 (mode_s, mode_ac, memory), then 1 to 6, and answers the first that fails: state is then all zero,
- * and nothing lent is changed. Else the refusal is 0, state is the run's before its first call, mode_s and mode_ac hold the
- * prototypes and memory is all 0.0. Settings and taps are not needed any more. */
-more1090_opened more1090_open(const uint8_t *settings, /* 119 bytes */
+/* Opens a run. Checks 9 (settings, mode_s, mode_ac, memory), then 1 to 6, and answers the first that fails: state is then
+ * all zero, and nothing lent is changed. Else the refusal is 0, state is the run's before its first call, mode_s and mode_ac
+ * hold the prototypes and memory is all 0.0. Settings and taps are not needed any more. */
+more1090_opened more1090_open(const uint8_t *settings, size_t settings_length,
                               const float *taps_s, size_t taps_s_length,
                               const float *taps_ac, size_t taps_ac_length,
                               float *mode_s, size_t mode_s_length,

@@ -88,19 +88,21 @@ pub struct Bench {
 }
 
 impl Bench {
-    pub fn open(s: &Settings, mode_s: &[f32], mode_ac: &[f32], lent: Lengths) -> Result<Bench, Refusal> {
-        if lent.wrong() {
+    /// Opens a run on settings of any length.
+    pub fn open(settings: &[u8], mode_s: &[f32], mode_ac: &[f32], lent: Lengths) -> Result<Bench, Refusal> {
+        if settings.len() != SETTINGS_BYTES || lent.wrong() {
             return Err(refusal(9));
         }
-        rules::settings(s)?;
+        let s = Settings::from_bytes(settings);
+        rules::settings(&s)?;
         rules::taps(mode_s, mode_ac)?;
         let taps = [mode_s, mode_ac].concat();
         let [a, b] = judge::prototypes(&taps);
         rules::prototypes([&a, &b])?;
         Ok(Bench {
-            settings: *s,
+            settings: s,
             taps,
-            distributions: judge::distributions(s).expect("the reference takes the distributions"),
+            distributions: judge::distributions(&s).expect("the reference takes the distributions"),
             total: u64::try_from(s.samples()).unwrap(),
             time: 0.0,
             ended: false,

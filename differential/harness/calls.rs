@@ -24,8 +24,10 @@ pub struct List {
 }
 
 impl List {
-    pub fn open(s: &Settings, mode_s: &[f32], mode_ac: &[f32], lent: Lengths) -> List {
-        let mut input = s.to_bytes();
+    pub fn open(settings: &[u8], mode_s: &[f32], mode_ac: &[f32], lent: Lengths) -> List {
+        let mut input = Vec::new();
+        put_u32(&mut input, settings.len());
+        input.extend(settings);
         put_lengths(&mut input, lent);
         put_u32(&mut input, mode_s.len());
         put_u32(&mut input, mode_ac.len());
@@ -34,7 +36,7 @@ impl List {
         let calls_at = input.len();
         put_u32(&mut input, 0);
         let mut expected = Vec::new();
-        let bench = Bench::open(s, mode_s, mode_ac, lent);
+        let bench = Bench::open(settings, mode_s, mode_ac, lent);
         match &bench {
             Ok(_) => {
                 put_words(&mut expected, [0; 6]);
@@ -200,7 +202,7 @@ impl Cut {
 pub fn random_cuts(r: &mut Random, tape: &Tape) -> Cut {
     let (mode_s, mode_ac) = tape.taps.split_at(MODE_S_TAPS);
     let mut cut = Cut {
-        list: List::open(&tape.settings, mode_s, mode_ac, RIGHT_LENGTHS),
+        list: List::open(&tape.settings.to_bytes(), mode_s, mode_ac, RIGHT_LENGTHS),
         draws: tape.draws.clone(),
         samples: Vec::new(),
         records: Vec::new(),
@@ -267,16 +269,21 @@ fn spoil(r: &mut Random, c: &mut Call) {
     }
 }
 
+/// Lengths of settings to try: none, too short, right, too long, and those of later settings.
+pub const SETTINGS_LENGTHS: [usize; 6] = [0, 118, 119, 120, 123, 124];
+
 /// An opening whose lengths, settings or taps may be wrong, with no call after it.
 pub fn random_opening(r: &mut Random, tape: &Tape) -> List {
     let (mut mode_s, mut mode_ac) = tape.taps.split_at(MODE_S_TAPS);
     let mut lent = RIGHT_LENGTHS;
-    match r.below(6) {
+    let mut length = SETTINGS_BYTES;
+    match r.below(7) {
         0 => lent.memory = r.pick(&[0, 2251, 2253]),
         1 => lent.mode_s = r.pick(&[0, 1791, 1793]),
         2 => lent.mode_ac = r.pick(&[0, 1791, 1793]),
         3 => mode_s = &mode_s[..r.pick(&[0, 1, 1485])],
         4 => mode_ac = &mode_ac[..r.pick(&[0, 1, 1514])],
+        5 => length = r.pick(&SETTINGS_LENGTHS),
         _ => (mode_s, mode_ac) = tape.taps.split_at(r.pick(&[1485, 1487])),
     }
     let mut s = tape.settings;
@@ -287,5 +294,7 @@ pub fn random_opening(r: &mut Random, tape: &Tape) -> List {
         3 => s.clock.kind = 2,
         _ => {}
     }
-    List::open(&s, mode_s, mode_ac, lent)
+    let mut bytes = s.to_bytes();
+    bytes.resize(length, 0);
+    List::open(&bytes, mode_s, mode_ac, lent)
 }

@@ -187,8 +187,8 @@ fn calls_of_ours(tally: &mut Tally, ours: &Ours, seed: &str, list: &calls::List)
 /// The plain bench, given everything in one call, writes what the reference writes.
 fn plain(tally: &mut Tally, seed: &str, tape: &Tape, bytes: &[u8], run: &judge::Run) {
     let (mode_s, mode_ac) = tape.taps.split_at(MODE_S_TAPS);
-    let mut bench =
-        Bench::open(&tape.settings, mode_s, mode_ac, RIGHT_LENGTHS).expect("the tape was accepted");
+    let mut bench = Bench::open(&tape.settings.to_bytes(), mode_s, mode_ac, RIGHT_LENGTHS)
+        .expect("the tape was accepted");
     let ran = bench
         .call(&calls::lend_all(&tape.draws, &tape.noise, run.samples.len() / 2))
         .expect("the tape was accepted");

@@ -8,7 +8,9 @@
 mod draws;
 mod more1090_generator;
 use draws::{CLOCK_MAX, Random, WEIGHTS};
-use more1090_generator::{DONE, DRAW_BYTES, MODE_AC_TAPS, MODE_S_TAPS, RECORD_BYTES, Run};
+use more1090_generator::{
+    DONE, DRAW_BYTES, MODE_AC_TAPS, MODE_S_TAPS, RECORD_BYTES, Run, SETTINGS_BYTES,
+};
 use std::f64::consts::PI;
 use std::fs::File;
 use std::io::{BufWriter, Error, ErrorKind, Result, Write, sink, stdout};
@@ -25,7 +27,7 @@ fn lowpass(taps: usize, cutoff: f64) -> Vec<f32> {
     (0..taps).map(|k| (tap(k) / sum) as f32).collect()
 }
 
-fn settings(seconds: f64, rate: f64) -> [u8; 119] {
+fn settings(seconds: f64, rate: f64) -> [u8; SETTINGS_BYTES] {
     let mut s = Vec::new();
     s.extend((seconds as u64).to_le_bytes());
     s.extend(((seconds.fract() * 1e9) as u32).to_le_bytes());

@@ -1,8 +1,13 @@
-//! include/more1090_generator.h for Rust: its structs, and its two calls on slices. A `Run` holds a run's state with the
-//! prototypes and the working memory that belong to it.
+//! include/more1090_generator.h for Rust: its structs, and its two calls on slices. A `Run` holds all that a run needs
+//! between two calls: its state, the prototypes and the working memory. It can be stored and taken up again.
+// A program uses a part of it.
+#![allow(dead_code)]
 
+pub const SETTINGS_BYTES: usize = 119;
 pub const MODE_S_TAPS: usize = 1486;
 pub const MODE_AC_TAPS: usize = 1515;
+pub const PROTOTYPE: usize = 1792;
+pub const MEMORY: usize = 2252;
 pub const DRAW_BYTES: usize = 65;
 pub const RECORD_BYTES: usize = 66;
 
@@ -57,13 +62,40 @@ const _: () =
 
 #[rustfmt::skip]
 unsafe extern "C" {
-    fn more1090_open(settings: *const u8, taps_s: *const f32, taps_s_length: usize, taps_ac: *const f32, taps_ac_length: usize,
-        mode_s: *mut f32, mode_s_length: usize, mode_ac: *mut f32, mode_ac_length: usize,
-        memory: *mut f32, memory_length: usize) -> Opened;
+    fn more1090_open(settings: *const u8, settings_length: usize, taps_s: *const f32, taps_s_length: usize,
+        taps_ac: *const f32, taps_ac_length: usize, mode_s: *mut f32, mode_s_length: usize,
+        mode_ac: *mut f32, mode_ac_length: usize, memory: *mut f32, memory_length: usize) -> Opened;
     fn more1090_run(state: State, mode_s: *const f32, mode_s_length: usize, mode_ac: *const f32, mode_ac_length: usize,
-        memory: *mut f32, memory_length: usize, draws: *const u8, draws_length: usize, noise: *const f32, noise_length: usize,
-        output: *mut f32, output_length: usize, records: *mut u8, records_length: usize) -> Ran;
+        memory: *mut f32, memory_length: usize, draws: *const u8, draws_length: usize,
+        noise: *const f32, noise_length: usize, output: *mut f32, output_length: usize,
+        records: *mut u8, records_length: usize) -> Ran;
 }
+
+/// `more1090_open`, on slices of any length.
+#[rustfmt::skip]
+pub fn open(settings: &[u8], taps_s: &[f32], taps_ac: &[f32],
+    mode_s: &mut [f32], mode_ac: &mut [f32], memory: &mut [f32]) -> Opened {
+    // Slices are aligned and good for their lengths, and those to be written overlap with nothing: all that is asked.
+    unsafe {
+        more1090_open(settings.as_ptr(), settings.len(), taps_s.as_ptr(), taps_s.len(), taps_ac.as_ptr(), taps_ac.len(),
+            mode_s.as_mut_ptr(), mode_s.len(), mode_ac.as_mut_ptr(), mode_ac.len(), memory.as_mut_ptr(), memory.len())
+    }
+}
+
+/// `more1090_run`, on any state and slices of any length.
+#[rustfmt::skip]
+pub fn run(state: State, mode_s: &[f32], mode_ac: &[f32], memory: &mut [f32],
+    draws: &[u8], noise: &[f32], output: &mut [f32], records: &mut [u8]) -> Ran {
+    unsafe {
+        more1090_run(state, mode_s.as_ptr(), mode_s.len(), mode_ac.as_ptr(), mode_ac.len(),
+            memory.as_mut_ptr(), memory.len(), draws.as_ptr(), draws.len(), noise.as_ptr(), noise.len(),
+            output.as_mut_ptr(), output.len(), records.as_mut_ptr(), records.len())
+    }
+}
+
+/// The bytes of a stored run: the state's 23 numbers of eight bytes, then the Mode S prototype, the Mode A/C prototype and
+/// the working memory in f32, all little-endian.
+pub const STORED_BYTES: usize = size_of::<State>() + 4 * (2 * PROTOTYPE + MEMORY);
 
 pub struct Run {
     pub state: State,
@@ -75,12 +107,10 @@ pub struct Run {
 impl Run {
     /// Opens a run, or answers the refusal's number and value.
     #[rustfmt::skip]
-    pub fn open(settings: &[u8; 119], taps_s: &[f32], taps_ac: &[f32]) -> Result<Run, (u64, u64)> {
-        let (mut mode_s, mut mode_ac, mut memory) = (vec![0.0; 1792], vec![0.0; 1792], vec![0.0; 2252]);
-        let o = unsafe {
-            more1090_open(settings.as_ptr(), taps_s.as_ptr(), taps_s.len(), taps_ac.as_ptr(), taps_ac.len(),
-                mode_s.as_mut_ptr(), mode_s.len(), mode_ac.as_mut_ptr(), mode_ac.len(), memory.as_mut_ptr(), memory.len())
-        };
+    pub fn open(settings: &[u8], taps_s: &[f32], taps_ac: &[f32]) -> Result<Run, (u64, u64)> {
+        let (mut mode_s, mut mode_ac) = (vec![0.0; PROTOTYPE], vec![0.0; PROTOTYPE]);
+        let mut memory = vec![0.0; MEMORY];
+        let o = open(settings, taps_s, taps_ac, &mut mode_s, &mut mode_ac, &mut memory);
         if o.refusal != 0 {
             return Err((o.refusal, o.value));
         }
@@ -90,12 +120,40 @@ impl Run {
     /// A run call; the state for the next one is kept.
     #[rustfmt::skip]
     pub fn call(&mut self, draws: &[u8], noise: &[f32], output: &mut [f32], records: &mut [u8]) -> Ran {
-        let ran = unsafe {
-            more1090_run(self.state, self.mode_s.as_ptr(), self.mode_s.len(), self.mode_ac.as_ptr(), self.mode_ac.len(),
-                self.memory.as_mut_ptr(), self.memory.len(), draws.as_ptr(), draws.len(), noise.as_ptr(), noise.len(),
-                output.as_mut_ptr(), output.len(), records.as_mut_ptr(), records.len())
-        };
+        let ran = run(self.state, &self.mode_s, &self.mode_ac, &mut self.memory, draws, noise, output, records);
         self.state = ran.state;
         ran
+    }
+
+    /// The run between two calls as `STORED_BYTES` bytes, for `restore`. There is no check sum.
+    pub fn save(&self) -> Vec<u8> {
+        // A state is 23 numbers of eight bytes with no padding, so any 184 bytes are one.
+        let words = unsafe { std::mem::transmute::<State, [u64; 23]>(self.state) };
+        let mut bytes: Vec<u8> = words.iter().flat_map(|w| w.to_le_bytes()).collect();
+        for list in [&self.mode_s, &self.mode_ac, &self.memory] {
+            bytes.extend(list.iter().flat_map(|x| x.to_le_bytes()));
+        }
+        bytes
+    }
+
+    /// Takes up the run that `save` gave as these bytes; it goes on with the draws not taken and the noise not used. Bytes
+    /// of another length are no run. Any others are taken: changed ones give other samples, and nothing refuses them.
+    pub fn restore(bytes: &[u8]) -> Option<Run> {
+        if bytes.len() != STORED_BYTES {
+            return None;
+        }
+        let (state, floats) = bytes.split_at(size_of::<State>());
+        let word = |k: usize| u64::from_le_bytes(state[8 * k..8 * k + 8].try_into().unwrap());
+        let state = unsafe { std::mem::transmute::<[u64; 23], State>(std::array::from_fn(word)) };
+        let mut floats = floats
+            .chunks(4)
+            .map(|b| f32::from_le_bytes(b.try_into().unwrap()));
+        let mut list = |n: usize| floats.by_ref().take(n).collect();
+        Some(Run {
+            state,
+            mode_s: list(PROTOTYPE),
+            mode_ac: list(PROTOTYPE),
+            memory: list(MEMORY),
+        })
     }
 }

@@ -3,17 +3,15 @@ use Prim.Native.Nat.{ℕ, zero, suc, _+_}
 use mathlib.Core.List.{List, [], _∷_}
 use lib.Dec.{T}
 use lib.ListN.{getD}
-use lib.Ieee.{Float, binary32, binary64, fits, ofBits}
+use lib.Ieee.{binary32, binary64, fits, ofBits}
 use Rattle.le_bytes.specs.LeBytes.{numberAt}
+use Rattle.le_floats.specs.FloatReads.{f64At}
 use Rattle.message.specs.declared.Picks.{Picks}
 use Rattle.draw.specs.declared.Draw.{Draw}
 
 -- the bytes of a draw
 abbrev pub drawLength : ℕ
 drawLength = 65
-
-abbrev pub f64At : List ℕ → ℕ → Float
-f64At s at = ofBits binary64 (numberAt 8 s at)
 
 -- n bytes from at on
 unfoldable pub bytesAt : List ℕ → ℕ → ℕ → List ℕ

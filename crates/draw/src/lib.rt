@@ -1,8 +1,8 @@
 // Draws: their type, a byte of one, and its time; `draw_reading` reads a whole one. Each function is equal to a definition of specs/ on every input. Assumes nothing.
 ghost use mathlib.Core.Path.{_≡_};
-ghost use lib.ListN.{getD};
 ghost use Rattle.draw.specs.Draw.{drawAt};
 ghost use Rattle.draw.specs.Config.{timeAfter};
+pub use le_at::byte_at;
 use message::Picks;
 
 pub struct Draw {
@@ -20,16 +20,6 @@ pub struct Draw {
 pub enum Fault {
     Clean,
     At(u64, u64),
-}
-
-// The byte at a place, 0 past the end.
-pub fn byte_at(s: &[u8], at: usize) -> u8
-    ensures { λ r. ⌜ r ≡ getD (now (s .entry)) at 0 ⌝ }
-{
-    if at < s.len() {
-        return s[at];
-    }
-    0
 }
 
 // The time of the draw at the start of the bytes.

@@ -5,9 +5,10 @@ use mathlib.Core.List.{List, [], _∷_}
 use lib.ListN.{getD}
 use lib.Ieee.{Float, binary32, ofBits}
 use Rattle.le_bytes.specs.LeBytes.{numberAt}
+use Rattle.le_floats.specs.FloatReads.{f64At}
 use Rattle.message.specs.declared.Picks.{Picks}
 use Rattle.draw.specs.declared.Draw.{Draw}
-use Rattle.draw.specs.Draw.{f64At, bytesAt, picksAt, drawAt}
+use Rattle.draw.specs.Draw.{bytesAt, picksAt, drawAt}
 
 pub bytes-are : (s : List ℕ) (a0 a1 a2 a3 a4 a5 a6 a7 a8 a9 a10 a11 a12 a13 : ℕ) → a0 ≡ getD s 48 0 → a1 ≡ getD s 49 0 → a2 ≡ getD s 50 0 → a3 ≡ getD s 51 0 → a4 ≡ getD s 52 0 → a5 ≡ getD s 53 0 → a6 ≡ getD s 54 0 → a7 ≡ getD s 55 0 → a8 ≡ getD s 56 0 → a9 ≡ getD s 57 0 → a10 ≡ getD s 58 0 → a11 ≡ getD s 59 0 → a12 ≡ getD s 60 0 → a13 ≡ getD s 61 0
     → a0 ∷ a1 ∷ a2 ∷ a3 ∷ a4 ∷ a5 ∷ a6 ∷ a7 ∷ a8 ∷ a9 ∷ a10 ∷ a11 ∷ a12 ∷ a13 ∷ [] ≡ bytesAt s 48 14

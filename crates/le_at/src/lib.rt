@@ -1,9 +1,20 @@
-// Little-endian numbers at a place in a byte slice, 0 past its end: equal to their definitions, in specs/ of `le_bytes`, on every input. Assumes nothing.
+// A byte, and little-endian numbers, at a place in a byte slice, 0 past its end: equal to their definitions, in specs/ of `le_bytes`, on every input. Assumes nothing.
 ghost use mathlib.Core.Path.{_≡_};
+ghost use lib.ListN.{getD};
 ghost use Rattle.le_bytes.specs.LeBytes.{numberAt};
 use le_bytes::ReadU16;
 use le_bytes::ReadU32;
 use le_bytes::ReadU64;
+
+// The byte at a place, 0 past the end.
+pub fn byte_at(s: &[u8], at: usize) -> u8
+    ensures { λ r. ⌜ r ≡ getD (now (s .entry)) at 0 ⌝ }
+{
+    if at < s.len() {
+        return s[at];
+    }
+    0
+}
 
 // The number at a place, 0 where its bytes run past the end.
 pub fn u16_at(s: &[u8], at: usize) -> u16

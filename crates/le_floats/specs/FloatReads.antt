@@ -3,7 +3,7 @@ use Prim.Native.Nat.{ℕ}
 use mathlib.Core.Bool.{cond}
 use mathlib.Core.List.{List}
 use lib.Ieee.{Float, Format, binary32, binary64, nanBits, ofBits}
-use Rattle.le_bytes.specs.LeBytes.{readAt}
+use Rattle.le_bytes.specs.LeBytes.{readAt, numberAt}
 use Rattle.le_floats.specs.declared.ReadF32 as F32
 use Rattle.le_floats.specs.declared.ReadF64 as F64
 
@@ -16,3 +16,7 @@ readF32 = readAt 4 (floatOf binary32 F32.the-variants.Value F32.the-variants.Nan
 
 abbrev pub readF64 : List ℕ → ℕ → F64.ReadF64
 readF64 = readAt 8 (floatOf binary64 F64.the-variants.Value F64.the-variants.Nan) F64.the-variants.Past
+
+-- the float at a place, 0.0 past the end
+abbrev pub f64At : List ℕ → ℕ → Float
+f64At s at = ofBits binary64 (numberAt 8 s at)

@@ -393,7 +393,7 @@ fn ran_out(ran: Ran) -> FlatRan
 // Opens a run; refused, it changes nothing that is lent, and the state is all zero.
 #[no_mangle]
 pub extern "C" fn more1090_open(
-    settings: &[u8; 119],
+    settings: &[u8],
     taps_s: &[f32],
     taps_ac: &[f32],
     mode_s: &mut [f32],

@@ -33,25 +33,26 @@ use Rattle.opening.specs.FirstCause.{Fits}
 use Rattle.opening.specs.Opening.{Lent, firstState, lentFits, modeSDelay, modeACDelay, delaysGiven, delaysThen, delaysOf, tapsOf, settingsThen, openedFor, openedOf, preparedOf, isRun, leftBy}
 
 -- the lengths, from facts and to facts
-pub fits-if : (modeS modeAC memory : ℕ) → Fits modeS modeAC memory → true ≡ lentFits four modeS modeAC memory
+pub fits-if : (settings modeS modeAC memory : ℕ) → Fits settings modeS modeAC memory → true ≡ lentFits four settings modeS modeAC memory
 unfolding lentFits
-fits-if modeS modeAC memory f = sym (rw (eq-eqb memory 2252 (f .memory-is), eq-eqb modeS 1792 (f .mode-s-is), eq-eqb modeAC 1792 (f .mode-ac-is)))
+fits-if settings modeS modeAC memory f = sym (rw (eq-eqb settings 119 (f .settings-is), eq-eqb memory 2252 (f .memory-is), eq-eqb modeS 1792 (f .mode-s-is), eq-eqb modeAC 1792 (f .mode-ac-is)))
 
-pub fits-for : (modeS modeAC memory : ℕ) → lentFits four modeS modeAC memory ≡ true → Fits modeS modeAC memory
+pub fits-for : (settings modeS modeAC memory : ℕ) → lentFits four settings modeS modeAC memory ≡ true → Fits settings modeS modeAC memory
 unfolding lentFits
-fits-for modeS modeAC memory e = go (eqb memory 2252) refl (eqb modeS 1792) refl (eqb modeAC 1792) refl e
+fits-for settings modeS modeAC memory e = go (eqb settings 119) refl (eqb memory 2252) refl (eqb modeS 1792) refl (eqb modeAC 1792) refl e
   where
-    go : (a : Bool) → eqb memory 2252 ≡ a → (b : Bool) → eqb modeS 1792 ≡ b → (c : Bool) → eqb modeAC 1792 ≡ c → a && b && c ≡ true → Fits modeS modeAC memory
-    go true p true q true r e = record { mode-s-is = eqb-true modeS 1792 q; mode-ac-is = eqb-true modeAC 1792 r; memory-is = eqb-true memory 2252 p }
-    go false p b q c r e = absurd (false≢true e)
-    go true p false q c r e = absurd (false≢true e)
-    go true p true q false r e = absurd (false≢true e)
+    go : (z : Bool) → eqb settings 119 ≡ z → (a : Bool) → eqb memory 2252 ≡ a → (b : Bool) → eqb modeS 1792 ≡ b → (c : Bool) → eqb modeAC 1792 ≡ c → z && a && b && c ≡ true → Fits settings modeS modeAC memory
+    go true o true p true q true r e = record { settings-is = eqb-true settings 119 o; mode-s-is = eqb-true modeS 1792 q; mode-ac-is = eqb-true modeAC 1792 r; memory-is = eqb-true memory 2252 p }
+    go false o a p b q c r e = absurd (false≢true e)
+    go true o false p b q c r e = absurd (false≢true e)
+    go true o true p false q c r e = absurd (false≢true e)
+    go true o true p true q false r e = absurd (false≢true e)
 
-pub fits-not : (modeS modeAC memory : ℕ) → (Fits modeS modeAC memory → ⊥) → false ≡ lentFits four modeS modeAC memory
-fits-not modeS modeAC memory no-fit = go (lentFits four modeS modeAC memory) refl
+pub fits-not : (settings modeS modeAC memory : ℕ) → (Fits settings modeS modeAC memory → ⊥) → false ≡ lentFits four settings modeS modeAC memory
+fits-not settings modeS modeAC memory no-fit = go (lentFits four settings modeS modeAC memory) refl
   where
-    go : (x : Bool) → lentFits four modeS modeAC memory ≡ x → false ≡ x
-    go true e = absurd (no-fit (fits-for modeS modeAC memory e))
+    go : (x : Bool) → lentFits four settings modeS modeAC memory ≡ x → false ≡ x
+    go true e = absurd (no-fit (fits-for settings modeS modeAC memory e))
     go false e = refl
 
 -- the delay of a prototype
@@ -123,16 +124,16 @@ module _ (level : Float) (tapsS tapsAC : List Float) where
 
   -- refusal 9, then 1 to 4
   module _ (bytes : List ℕ) (modeS modeAC memory : ℕ) where
-    by-lent : (b : Bool) → lentFits four modeS modeAC memory ≡ b
+    by-lent : (b : Bool) → lentFits four (length bytes) modeS modeAC memory ≡ b
         → cond b (settingsThen four level tapsS tapsAC (settingsOf bytes .rates) (acceptedOf four (settingsOf bytes))) (Refused Cause.Lent) ≡ openedFor four level tapsS tapsAC bytes modeS modeAC memory
     unfolding openedFor
     by-lent b e = ap (λ (x : Bool). cond x (settingsThen four level tapsS tapsAC (settingsOf bytes .rates) (acceptedOf four (settingsOf bytes))) (Refused Cause.Lent)) (sym e)
 
-    pub lent-refused : lentFits four modeS modeAC memory ≡ false → Refused Cause.Lent ≡ openedFor four level tapsS tapsAC bytes modeS modeAC memory
+    pub lent-refused : lentFits four (length bytes) modeS modeAC memory ≡ false → Refused Cause.Lent ≡ openedFor four level tapsS tapsAC bytes modeS modeAC memory
     lent-refused = by-lent false
 
     -- the settings, and what their check gives
-    module _ (s : Settings) (x : Checked.Checked) (held : s ≡ settingsOf bytes) (checks : x ≡ acceptedOf four s) (fit : lentFits four modeS modeAC memory ≡ true) where
+    module _ (s : Settings) (x : Checked.Checked) (held : s ≡ settingsOf bytes) (checks : x ≡ acceptedOf four s) (fit : lentFits four (length bytes) modeS modeAC memory ≡ true) where
       by-settings : settingsThen four level tapsS tapsAC (s .rates) x ≡ openedFor four level tapsS tapsAC bytes modeS modeAC memory
       by-settings =
           ap (settingsThen four level tapsS tapsAC (s .rates)) checks
@@ -151,11 +152,11 @@ module _ (level : Float) (tapsS tapsAC : List Float) where
       settings-given total all e k = k ∙ settings-pass total all e
 
     -- a run is opened only where what is lent fits
-    pub run-fits : (o : Opened) → o ≡ openedFor four level tapsS tapsAC bytes modeS modeAC memory → isRun o ≡ true → Fits modeS modeAC memory
+    pub run-fits : (o : Opened) → o ≡ openedFor four level tapsS tapsAC bytes modeS modeAC memory → isRun o ≡ true → Fits (length bytes) modeS modeAC memory
     unfolding isRun
-    run-fits o e t = fits-for modeS modeAC memory (go (lentFits four modeS modeAC memory) refl)
+    run-fits o e t = fits-for (length bytes) modeS modeAC memory (go (lentFits four (length bytes) modeS modeAC memory) refl)
       where
-        go : (b : Bool) → lentFits four modeS modeAC memory ≡ b → b ≡ true
+        go : (b : Bool) → lentFits four (length bytes) modeS modeAC memory ≡ b → b ≡ true
         go true f = refl
         go false f = ap isRun (lent-refused f ∙ sym e) ∙ t
 

@@ -43,12 +43,12 @@ fails : {P : Type 0} (b : Bool) → Decides b P → (P → ⊥) → b ≡ false
 fails true h never = absurd (never h)
 fails false h never = refl
 
-lent-decides : (modeS modeAC memory : ℕ) → Decides (lentFits four modeS modeAC memory) (Fits modeS modeAC memory)
-lent-decides modeS modeAC memory = go (lentFits four modeS modeAC memory) refl
+lent-decides : (settings modeS modeAC memory : ℕ) → Decides (lentFits four settings modeS modeAC memory) (Fits settings modeS modeAC memory)
+lent-decides settings modeS modeAC memory = go (lentFits four settings modeS modeAC memory) refl
   where
-    go : (b : Bool) → lentFits four modeS modeAC memory ≡ b → Decides b (Fits modeS modeAC memory)
-    go true e = fits-for modeS modeAC memory e
-    go false e = λ f. false≢true (sym e ∙ sym (fits-if modeS modeAC memory f))
+    go : (b : Bool) → lentFits four settings modeS modeAC memory ≡ b → Decides b (Fits settings modeS modeAC memory)
+    go true e = fits-for settings modeS modeAC memory e
+    go false e = λ f. false≢true (sym e ∙ sym (fits-if settings modeS modeAC memory f))
 
 all-decides : (l : List Float) → Decides (allWithin16 l) (AllWithin16 l)
 unfolding allWithin16
@@ -142,23 +142,23 @@ module _ (level : Float) (tapsS tapsAC : List Float) (bytes : List ℕ) (l : Len
   by-taps n d P true f false g = refused-5 P (λ both. g (both .1))
   by-taps n d P false f ac g = refused-5 P (λ both. f (both .0))
 
-  by-settings : LentFits l → (c : Checked.Checked) → Settings.Answered four (settingsOf bytes) c → Right (settingsThen four level tapsS tapsAC (settingsOf bytes .rates) c)
+  by-settings : LentFits bytes l → (c : Checked.Checked) → Settings.Answered four (settingsOf bytes) c → Right (settingsThen four level tapsS tapsAC (settingsOf bytes .rates) c)
   unfolding settingsThen tapsOf modeSTapsAccepted modeACTapsAccepted
   by-settings f (Checked.the-variants.Accepted n d) s = by-taps n d (record { lent = f; settings = s }) (modeSTapsAccepted four tapsS) (taps-decide (modeSTaps four) tapsS) (modeACTapsAccepted four tapsAC) (taps-decide (modeACTaps four) tapsAC)
   by-settings f (Checked.the-variants.Refused q) s = refused-1-to-4 f s
 
   pub answered : Right (openedOf four level tapsS tapsAC bytes l)
   unfolding openedOf openedFor
-  answered = go (lentFits four (length (l .modeS)) (length (l .modeAC)) (length (l .memory))) (lent-decides (length (l .modeS)) (length (l .modeAC)) (length (l .memory)))
+  answered = go (lentFits four (length bytes) (length (l .modeS)) (length (l .modeAC)) (length (l .memory))) (lent-decides (length bytes) (length (l .modeS)) (length (l .modeAC)) (length (l .memory)))
     where
-      go : (b : Bool) → Decides b (LentFits l)
+      go : (b : Bool) → Decides b (LentFits bytes l)
           → Right (cond b (settingsThen four level tapsS tapsAC (settingsOf bytes .rates) (acceptedOf four (settingsOf bytes))) (Refused Cause.Lent))
       go true f = by-settings f (acceptedOf four (settingsOf bytes)) (SettingsCause.answered four (settingsOf bytes))
       go false f = refused-9 f
 
   -- ---- and the first
-  fit : LentFits l → lentFits four (length (l .modeS)) (length (l .modeAC)) (length (l .memory)) ≡ true
-  fit = holds _ (lent-decides (length (l .modeS)) (length (l .modeAC)) (length (l .memory)))
+  fit : LentFits bytes l → lentFits four (length bytes) (length (l .modeS)) (length (l .modeAC)) (length (l .memory)) ≡ true
+  fit = holds _ (lent-decides (length bytes) (length (l .modeS)) (length (l .modeAC)) (length (l .memory)))
 
   passes : (n : ℕ) (d : Distributions) → Passed bytes l n d → openedOf four level tapsS tapsAC bytes l ≡ tapsOf four level tapsS tapsAC (settingsOf bytes .rates) n d
   unfolding openedOf
@@ -196,7 +196,7 @@ module _ (level : Float) (tapsS tapsAC : List Float) (bytes : List ℕ) (l : Len
 
   pub only : (c : Opened) → Right c → openedOf four level tapsS tapsAC bytes l ≡ c
   unfolding delaysOf openedOf
-  only c (refused-9 f) = sym (lent-refused level tapsS tapsAC bytes _ _ _ (fails _ (lent-decides (length (l .modeS)) (length (l .modeAC)) (length (l .memory))) f))
+  only c (refused-9 f) = sym (lent-refused level tapsS tapsAC bytes _ _ _ (fails _ (lent-decides (length bytes) (length (l .modeS)) (length (l .modeAC)) (length (l .memory))) f))
   only c (refused-1-to-4 {q} f s) = sym (settings-refused level tapsS tapsAC bytes _ _ _ (settingsOf bytes) _ refl refl (fit f) q (SettingsCause.only four (settingsOf bytes) _ s))
   only c (refused-5 {n} {d} P t) = passes n d P ∙ sym (taps-refused n d t)
   only c (refused-6 {n} {d} P t p) = passes n d P ∙ sym (prototype-refused n d p ∙ taps-go-on n d t)

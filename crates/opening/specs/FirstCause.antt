@@ -14,14 +14,15 @@ use Rattle.refusals.specs.declared.Refusal.{Refusal}
 use Rattle.refusals.specs.declared.Refusal.the-variants as Cause
 use Rattle.settings.specs.declared.Distributions.{Distributions}
 use Rattle.settings.specs.declared.Checked as Checked
-use Rattle.settings.specs.Settings.{settingsOf}
+use Rattle.settings.specs.Settings.{settingsLength, settingsOf}
 use Rattle.settings.specs.FirstCause as Settings
 use Rattle.opening.specs.declared.Opened.{Opened}
 use Rattle.opening.specs.declared.Opened.the-variants.{Run, Refused}
 use Rattle.opening.specs.Opening.{Lent, firstState}
 
 -- the lengths of what opening is lent
-pub record Fits (modeS modeAC memory : ℕ) : Type 0 where
+pub record Fits (settings modeS modeAC memory : ℕ) : Type 0 where
+  pub settings-is : settings ≡ settingsLength
   pub mode-s-is : modeS ≡ 1792
   pub mode-ac-is : modeAC ≡ 1792
   pub memory-is : memory ≡ 2252
@@ -44,13 +45,13 @@ pub record GoodPrototype (level : Float) (prototype : List Float) : Type 0 where
   pub within : AllWithin16 prototype
   pub crossing : Crosses level prototype
 
--- 9: "working memory not 2,252 f32, a prototype not 1,792 f32" is not so
-abbrev pub LentFits : Lent → Type 0
-LentFits l = Fits (length (l .modeS)) (length (l .modeAC)) (length (l .memory))
+-- 9: "working memory not 2,252 f32, a prototype not 1,792 f32" is not so, and the settings have 119 bytes
+abbrev pub LentFits : List ℕ → Lent → Type 0
+LentFits bytes l = Fits (length bytes) (length (l .modeS)) (length (l .modeAC)) (length (l .memory))
 
 -- refusals 9 and 1 to 4 do not apply: the run has n samples and the distributions d
 pub record Passed (bytes : List ℕ) (l : Lent) (n : ℕ) (d : Distributions) : Type 0 where
-  pub lent : LentFits l
+  pub lent : LentFits bytes l
   pub settings : Settings.Answered four (settingsOf bytes) (Checked.the-variants.Accepted n d)
 
 -- of both filters
@@ -62,8 +63,8 @@ BothPrototypes level tapsS tapsAC = GoodPrototype level (modeSPrototype four tap
 
 -- which answer is right: each refusal for its cause, where no earlier one applies, and a run where none does. The level is 0.5 in document 01.
 pub data Answered (level : Float) (tapsS tapsAC : List Float) (bytes : List ℕ) (l : Lent) : Opened → Type 0 where
-  refused-9 : (LentFits l → ⊥) → Answered level tapsS tapsAC bytes l (Refused Cause.Lent)
-  refused-1-to-4 : {q : Refusal} → LentFits l → Settings.Answered four (settingsOf bytes) (Checked.the-variants.Refused q) → Answered level tapsS tapsAC bytes l (Refused q)
+  refused-9 : (LentFits bytes l → ⊥) → Answered level tapsS tapsAC bytes l (Refused Cause.Lent)
+  refused-1-to-4 : {q : Refusal} → LentFits bytes l → Settings.Answered four (settingsOf bytes) (Checked.the-variants.Refused q) → Answered level tapsS tapsAC bytes l (Refused q)
   refused-5 : {n : ℕ} {d : Distributions} → Passed bytes l n d → (BothTaps tapsS tapsAC → ⊥) → Answered level tapsS tapsAC bytes l (Refused Cause.Taps)
   refused-6 : {n : ℕ} {d : Distributions} → Passed bytes l n d → BothTaps tapsS tapsAC → (BothPrototypes level tapsS tapsAC → ⊥) → Answered level tapsS tapsAC bytes l (Refused Cause.Prototype)
   accepted : {n : ℕ} {d : Distributions} {a b : Float} → Passed bytes l n d → BothTaps tapsS tapsAC → BothPrototypes level tapsS tapsAC

@@ -18,7 +18,7 @@ use Rattle.running.specs.declared.State.{State}
 use Rattle.settings.specs.declared.MessagesPerSecond.{MessagesPerSecond}
 use Rattle.settings.specs.declared.Distributions.{Distributions}
 use Rattle.settings.specs.declared.Checked as Checked
-use Rattle.settings.specs.Settings.{settingsOf}
+use Rattle.settings.specs.Settings.{settingsLength, settingsOf}
 use Rattle.settings.specs.Accepted.{acceptedOf}
 use Rattle.opening.specs.declared.Opened as Opened
 use Rattle.opening.specs.declared.Prepared.{Prepared}
@@ -42,9 +42,9 @@ firstState rates total all modeS modeAC = record {
   distributions = all;
 }
 
--- the lengths of the two prototypes and of working memory are 1,792, 1,792 and 2,252
-unfoldable pub lentFits : ℕ → ℕ → ℕ → ℕ → Bool
-lentFits sps modeS modeAC memory = eqb memory (workingMemory sps) && eqb modeS (prototypeLength sps) && eqb modeAC (prototypeLength sps)
+-- the lengths of the settings, of the two prototypes and of working memory are 119, 1,792, 1,792 and 2,252
+unfoldable pub lentFits : ℕ → ℕ → ℕ → ℕ → ℕ → Bool
+lentFits sps settings modeS modeAC memory = eqb settings settingsLength && eqb memory (workingMemory sps) && eqb modeS (prototypeLength sps) && eqb modeAC (prototypeLength sps)
 
 -- the delay of a prototype; nowhere where a value is not finite or above 16 in size
 unfoldable pub modeSDelay : ℕ → Float → List Float → Crossing.Crossing
@@ -81,10 +81,10 @@ module _ (sps : ℕ) (level : Float) (tapsS tapsAC : List Float) where
   settingsThen rates (Checked.the-variants.Accepted total all) = tapsOf rates total all
   settingsThen rates (Checked.the-variants.Refused refusal) = Opened.the-variants.Refused refusal
 
-  -- what opening answers, lent prototypes and working memory of these lengths: refusal 9, "working memory not 2,252 f32, a prototype not 1,792 f32"; then the others
+  -- what opening answers, lent prototypes and working memory of these lengths: refusal 9, "working memory not 2,252 f32, a prototype not 1,792 f32", and settings of another length than 119 bytes, before any of them is read (docs/DECISIONS.md); then the others
   unfoldable pub openedFor : List ℕ → ℕ → ℕ → ℕ → Opened.Opened
   openedFor bytes modeS modeAC memory =
-      cond (lentFits sps modeS modeAC memory) (settingsThen (settingsOf bytes .rates) (acceptedOf sps (settingsOf bytes))) (Opened.the-variants.Refused Refusal.the-variants.Lent)
+      cond (lentFits sps (length bytes) modeS modeAC memory) (settingsThen (settingsOf bytes .rates) (acceptedOf sps (settingsOf bytes))) (Opened.the-variants.Refused Refusal.the-variants.Lent)
 
   unfoldable pub openedOf : List ℕ → Lent → Opened.Opened
   openedOf bytes lent = openedFor bytes (length (lent .modeS)) (length (lent .modeAC)) (length (lent .memory))

@@ -1,4 +1,4 @@
-// What opening a run answers: refusal 9 for what is lent, refusals 1 to 6, or the first state; and the prototypes. It writes nothing: `run_opening` does. Assumes nothing.
+// What opening a run answers: refusal 9 for the lengths of what is lent, refusals 1 to 6, or the first state; and the prototypes. It writes nothing: `run_opening` does. Assumes nothing.
 ghost use mathlib.Core.Path.{_≡_};
 ghost use Rattle.constants.specs.Rate.{four};
 ghost use Rattle.pulse_shape.specs.Prototype.{modeSPrototype, modeACPrototype};
@@ -23,10 +23,13 @@ pub struct Prepared {
     pub mode_ac: [f32; 1792],
 }
 
-// Whether the prototypes and working memory have their lengths.
-fn lent_fits(mode_s: usize, mode_ac: usize, memory: usize) -> bool
-    ensures { λ r. ⌜ r ≡ lentFits four «mode_s» «mode_ac» memory ⌝ }
+// Whether the settings, the prototypes and working memory have their lengths.
+fn lent_fits(settings: usize, mode_s: usize, mode_ac: usize, memory: usize) -> bool
+    ensures { λ r. ⌜ r ≡ lentFits four settings «mode_s» «mode_ac» memory ⌝ }
 {
+    if settings != 119 {
+        return false;
+    }
     if memory != 2252 {
         return false;
     }
@@ -131,7 +134,7 @@ fn check_taps(
 
 // Refusal 9, then 1 to 6, or the state. The level is that of the prototypes' crossings.
 fn judge(
-    settings: &[u8; 119],
+    settings: &[u8],
     level: f32,
     taps_s: &[f32],
     taps_ac: &[f32],
@@ -144,7 +147,7 @@ fn judge(
     requires { ⌜ (now «proto_s» ≡ modeSPrototype four (now «taps_s»)) × (now «proto_ac» ≡ modeACPrototype four (now «taps_ac»)) ⌝ }
     ensures { λ r. ⌜ r ≡ openedFor four level (now («taps_s» .entry)) (now («taps_ac» .entry)) (now (settings .entry)) «mode_s» «mode_ac» memory ⌝ }
 {
-    if !lent_fits(mode_s, mode_ac, memory) {
+    if !lent_fits(settings.len(), mode_s, mode_ac, memory) {
         return Opened::Refused(Refusal::Lent);
     }
     let s = settings::read(settings);
@@ -159,7 +162,7 @@ fn judge(
 
 // What opening answers, lent prototypes and working memory of these lengths, and the prototypes that a run is opened with: refusal 9, then 1 to 6, or the state. The prototypes cross 0.5.
 pub fn prepare(
-    settings: &[u8; 119],
+    settings: &[u8],
     taps_s: &[f32],
     taps_ac: &[f32],
     mode_s: usize,

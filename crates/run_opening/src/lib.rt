@@ -15,7 +15,7 @@ fn is_run(answer: Opened) -> bool
 
 // Opens a run, as document 01 has it.
 pub fn open(
-    settings: &[u8; 119],
+    settings: &[u8],
     taps_s: &[f32],
     taps_ac: &[f32],
     mode_s: &mut [f32],

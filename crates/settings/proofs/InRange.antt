@@ -25,7 +25,7 @@ use Rattle.duration.specs.Duration.{mostSamples}
 use Rattle.settings.specs.declared.Settings.{Settings}
 use Rattle.settings.specs.declared.Distributions.{Distributions}
 use Rattle.settings.specs.declared.Checked.the-variants.{Accepted, Refused}
-use Rattle.settings.specs.Settings.{f64At, askedAt, settingsOf}
+use Rattle.settings.specs.Settings.{askedAt, settingsOf}
 use Rattle.settings.specs.Accepted.{acceptedOf}
 use Rattle.settings.specs.FirstCause.{Answered, accepted}
 use Rattle.settings.proofs.FirstCause.{answered, lasts-for}
@@ -54,7 +54,7 @@ pub record InRange (sps : ℕ) (d : Distributions) : Type 0 where
   pub phase : PhaseInRange (d .phase)
   pub clock : ClockInRange (d .clock)
 
--- the numbers of the distributions asked for are values of `f64`, as those of every Rattle value and of every 119 bytes are
+-- the numbers of the distributions asked for are values of `f64`, as those of every Rattle value and of any bytes are
 abbrev pub HeldAsked : Asked → Type 0
 HeldAsked a = Held (a .first) × Held (a .second)
 
@@ -64,7 +64,7 @@ pub record HeldSettings (s : Settings) : Type 0 where
   pub clock : HeldAsked (s .clock)
 
 pub read-held : (s : List ℕ) → HeldSettings (settingsOf s)
-unfolding settingsOf askedAt f64At
+unfolding settingsOf askedAt
 read-held s = record {
   carrier = (ofBits-fits binary64 _, ofBits-fits binary64 _);
   phase = (ofBits-fits binary64 _, ofBits-fits binary64 _);

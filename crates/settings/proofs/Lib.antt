@@ -1,4 +1,5 @@
 pub mod Inside
+pub mod Whole
 pub mod Rates
 pub mod Decided
 pub mod FirstCause

@@ -16,7 +16,7 @@ use Rattle.duration.specs.Duration.{durationOf}
 use Rattle.refusals.specs.declared.Refusal.the-variants as Refusal
 use Rattle.settings.specs.declared.Checked.{Checked}
 use Rattle.settings.specs.declared.Checked.the-variants.{Accepted, Refused}
-use Rattle.settings.specs.Settings.{f64At, ratesAt, askedAt, settingsOf, ratesOf}
+use Rattle.settings.specs.Settings.{ratesAt, askedAt, settingsOf, ratesOf}
 use Rattle.settings.specs.Accepted.{firstBadRate, sumFrom, totalOf, totalFits, withClock, withPhase, withOffset, distributionsOf, totalThen, ratesThen, durationThen, acceptedOf}
 
 -- a rate of 1.0 and one of -1.0

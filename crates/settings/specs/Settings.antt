@@ -3,13 +3,15 @@ use Prim.Native.Nat.{ℕ, _+_}
 use mathlib.Core.List.{List, [], _∷_}
 use lib.ListN.{getD}
 use lib.Ieee.{Float, binary64, ofBits}
-use Rattle.le_bytes.specs.LeBytes.{leAt}
+use Rattle.le_bytes.specs.LeBytes.{numberAt}
+use Rattle.le_floats.specs.FloatReads.{f64At}
 use Rattle.distributions.specs.declared.Asked.{Asked}
 use Rattle.settings.specs.declared.MessagesPerSecond.{MessagesPerSecond}
 use Rattle.settings.specs.declared.Settings.{Settings}
 
-unfoldable pub f64At : List ℕ → ℕ → Float
-f64At s at = ofBits binary64 (leAt 8 s at)
+-- the bytes of settings
+abbrev pub settingsLength : ℕ
+settingsLength = 119
 
 unfoldable pub ratesAt : List ℕ → ℕ → MessagesPerSecond
 ratesAt s at = record {
@@ -25,10 +27,11 @@ ratesAt s at = record {
 unfoldable pub askedAt : List ℕ → ℕ → Asked
 askedAt s at = record { kind = getD s at 0; first = f64At s (at + 1); second = f64At s (at + 9) }
 
+-- the settings at the start of bytes, of which there are 119 or more (fewer are refused before they are read)
 unfoldable pub settingsOf : List ℕ → Settings
 settingsOf s = record {
-  seconds = leAt 8 s 0;
-  nanoseconds = leAt 4 s 8;
+  seconds = numberAt 8 s 0;
+  nanoseconds = numberAt 4 s 8;
   rates = ratesAt s 12;
   carrier = askedAt s 68;
   phase = askedAt s 85;

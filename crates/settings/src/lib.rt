@@ -1,8 +1,7 @@
-// A run's settings: their 119 bytes, and the rate of a type. Each function is equal to a definition of specs/ on every input. Assumes nothing.
+// A run's settings, read from their bytes, and the rate of a type. Each function is equal to a definition of specs/ on every input. Assumes nothing.
 ghost use mathlib.Core.Path.{_≡_};
-ghost use Prim.Native.Nat.{_+_, _≤_};
-ghost use lib.ListN.{length};
-ghost use Rattle.settings.specs.Settings.{f64At, ratesAt, askedAt, settingsOf, rateOf};
+ghost use Prim.Native.Nat.{_≤_};
+ghost use Rattle.settings.specs.Settings.{settingsLength, ratesAt, askedAt, settingsOf, rateOf};
 use distributions::Asked;
 use distributions::CarrierOffset;
 use distributions::CarrierPhase;
@@ -47,41 +46,34 @@ pub enum Checked {
     Refused(Refusal),
 }
 
-fn float_at(s: &[u8], at: usize) -> f64
-    requires { ⌜ at + 8 ≤ length (now s) ⌝ }
-    ensures { λ r. ⌜ r ≡ f64At (now (s .entry)) at ⌝ }
-{
-    le_floats::f64_at(s, at)
-}
-
 fn rates_at(s: &[u8], at: usize) -> MessagesPerSecond
-    requires { ⌜ at + 56 ≤ length (now s) ⌝ }
+    requires { ⌜ at ≤ settingsLength ⌝ }
     ensures { λ r. ⌜ r ≡ ratesAt (now (s .entry)) at ⌝ }
 {
     MessagesPerSecond {
-        extended_squitter: float_at(s, at),
-        acquisition_squitter: float_at(s, at + 8),
-        short_ap: float_at(s, at + 16),
-        all_call_reply: float_at(s, at + 24),
-        long_ap: float_at(s, at + 32),
-        military_extended_squitter: float_at(s, at + 40),
-        mode_ac: float_at(s, at + 48),
+        extended_squitter: le_floats::f64_at(s, at),
+        acquisition_squitter: le_floats::f64_at(s, at + 8),
+        short_ap: le_floats::f64_at(s, at + 16),
+        all_call_reply: le_floats::f64_at(s, at + 24),
+        long_ap: le_floats::f64_at(s, at + 32),
+        military_extended_squitter: le_floats::f64_at(s, at + 40),
+        mode_ac: le_floats::f64_at(s, at + 48),
     }
 }
 
 fn asked_at(s: &[u8], at: usize) -> Asked
-    requires { ⌜ at + 17 ≤ length (now s) ⌝ }
+    requires { ⌜ at ≤ settingsLength ⌝ }
     ensures { λ r. ⌜ r ≡ askedAt (now (s .entry)) at ⌝ }
 {
     Asked {
-        kind: s[at],
-        first: float_at(s, at + 1),
-        second: float_at(s, at + 9),
+        kind: le_at::byte_at(s, at),
+        first: le_floats::f64_at(s, at + 1),
+        second: le_floats::f64_at(s, at + 9),
     }
 }
 
-// The settings that 119 bytes hold.
-pub fn read(s: &[u8; 119]) -> Settings
+// The settings at the start of the bytes, 0 standing for each number whose bytes run past the end.
+pub fn read(s: &[u8]) -> Settings
     ensures { λ r. ⌜ r ≡ settingsOf (now (s .entry)) ⌝ }
 {
     let rates = rates_at(s, 12);

@@ -1,13 +1,12 @@
 -- How the parts of a tape's beginning join. Assumes nothing.
-use Prim.Native.Nat.{ℕ, _+_, _-_, _*_, _/_, _≤_, _<_, min}
+use Prim.Native.Nat.{ℕ, _+_, _-_, _*_, _/_, _≤_, min}
 use mathlib.Core.Path.{_≡_, refl, sym, ap, _∙_, subst}
 use mathlib.Core.Bool.{Bool, true, false, cond, false≢true}
-use mathlib.Core.List.{List, [], _∷_, _++_, append-nil}
-use native.Mathlib.Numerals.{add-one}
+use mathlib.Core.List.{List, _++_, append-nil}
 use native.Mathlib.Omega.{arith}
 use lib.Ieee.{Float}
-use lib.ListN.{length, getD, set, take, drop, length-drop}
-use lib.Seq.{take-all, take-suc, take-suc-set, getD-drop, drop-length}
+use lib.ListN.{length, take, drop, length-drop}
+use lib.Seq.{take-all, drop-length}
 use Rattle.constants.specs.Rate.{four}
 use Rattle.le_bytes.specs.Reads.{readU32}
 use Rattle.le_bytes.specs.declared.ReadU32 as U32
@@ -37,19 +36,10 @@ use Rattle.tape_head.specs.declared.Early as Early
 use Rattle.tape_head.specs.declared.Beginning as Beginning
 use Rattle.tape_head.specs.Head.{tapeFault, noiseThen, faultThen, drawsThen, openedThen, taps, tapsS, tapsAC, settingsBytes, openedFrom, tapsThen, checkedThen, settingsThen, earlyOf, begins, Begun, earlyThen, leftThen, beginningOf, headOf}
 
--- ---- the settings: one more byte, and all of them
-pub byte-next : (tape b : List ℕ) (k : ℕ) → 4 + k < length tape → k < length b → take k b ≡ take k (drop 4 tape) → take (k + 1) (set b k (getD tape (4 + k) 0)) ≡ take (k + 1) (drop 4 tape)
-byte-next tape b k h g e =
-    let v = getD tape (4 + k) 0 in
-    ap (λ (n : ℕ). take n (set b k v)) (add-one k)
-    ∙ take-suc-set b k v g
-    ∙ (λ i. e i ++ (sym (getD-drop 4 tape k 0) i ∷ []))
-    ∙ sym (take-suc (drop 4 tape) k 0 (simp length-drop (omega arith)))
-    ∙ ap (λ (n : ℕ). take n (drop 4 tape)) (sym (add-one k))
-
-pub bytes-all : (tape b : List ℕ) (k : ℕ) → length b ≡ 119 → k ≤ 119 → 119 ≤ k → take k b ≡ take k (drop 4 tape) → b ≡ settingsBytes four tape
+-- ---- the settings, as the code takes them
+pub settings-part : (tape : List ℕ) → take (123 - 4) (drop 4 tape) ≡ settingsBytes four tape
 unfolding settingsBytes
-bytes-all tape b k l h g e = sym (take-all k b (omega arith)) ∙ e ∙ ap (λ (n : ℕ). take n (drop 4 tape)) {x = k} {y = 119} (omega arith)
+settings-part tape = refl
 
 -- ---- the draws and the noise
 module _ (tape : List ℕ) (s : State) (n : ℕ) where

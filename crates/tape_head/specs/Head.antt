@@ -7,7 +7,7 @@ use lib.Ieee.{Float}
 use Rattle.constants.specs.Rate.{modeSTaps}
 use Rattle.le_bytes.specs.LeBytes.{readAt}
 use Rattle.refusals.specs.Number.{numberOf}
-use Rattle.settings.specs.Settings.{settingsOf}
+use Rattle.settings.specs.Settings.{settingsLength, settingsOf}
 use Rattle.settings.specs.Accepted.{acceptedOf}
 use Rattle.settings.specs.declared.Checked as Checked
 use Rattle.draw.specs.Fault.{firstFault}
@@ -56,7 +56,7 @@ module _ (sps : ℕ) (tape : List ℕ) where
   tapsAC = drop (modeSTaps sps) taps
 
   unfoldable pub settingsBytes : List ℕ
-  settingsBytes = take 119 (drop 4 tape)
+  settingsBytes = take settingsLength (drop 4 tape)
 
   -- opening, lent the taps of a tape
   unfoldable pub openedFrom : Lent → Opened.Opened
@@ -78,7 +78,7 @@ module _ (sps : ℕ) (tape : List ℕ) where
   settingsThen Counted.the-variants.Wrong = Early.the-variants.Refused 11
 
   unfoldable pub earlyOf : Early.Early
-  earlyOf = settingsThen (sectionAt tape 0 1 1 119)
+  earlyOf = settingsThen (sectionAt tape 0 1 1 settingsLength)
 
 -- whether a run begins, and is not refused
 unfoldable pub begins : Beginning.Beginning → Bool

@@ -27,20 +27,6 @@ pub enum Beginning {
     Run(State, u64, u64),
 }
 
-// The 119 bytes of the settings.
-fn settings_bytes(tape: &[u8]) -> [u8; 119]
-    requires { ⌜ 123 ≤ length (now tape) ⌝ }
-    ensures { λ r. ⌜ r ≡ settingsBytes four (now (tape .entry)) ⌝ }
-{
-    let mut b = [0u8; 119];
-    let mut k: usize = 0;
-    while k < 119 {
-        b[k] = tape[4 + k];
-        k = k + 1;
-    }
-    b
-}
-
 // The noise's count, behind n draws.
 fn noise_count(state: State, n: u64, tape: &[u8]) -> Beginning
     requires { ⌜ n ≤ 400 ⌝ }
@@ -90,10 +76,16 @@ fn prepared(tape: &[u8], mode_s: usize, mode_ac: usize, memory: usize) -> Prepar
     requires { ⌜ 12131 ≤ length (now tape) ⌝ }
     ensures { λ r. ⌜ r ≡ preparedOf four half (tapsS four (now (tape .entry))) (tapsAC four (now (tape .entry))) (settingsBytes four (now (tape .entry))) «mode_s» «mode_ac» memory ⌝ }
 {
-    let bytes = settings_bytes(tape);
     let taps = read_taps(tape);
     let all: &[f32] = &taps;
-    opening::prepare(&bytes, &all[..1486], &all[1486..], mode_s, mode_ac, memory)
+    opening::prepare(
+        &tape[4..123],
+        &all[..1486],
+        &all[1486..],
+        mode_s,
+        mode_ac,
+        memory,
+    )
 }
 
 // Refusals 5, 6 and 9 of opening, then the draws.
@@ -123,8 +115,7 @@ fn before_taps(tape: &[u8]) -> Early
     if let Counted::Wrong = tape_sections::section(tape, 0, 1, 1, 119) {
         return Early::Refused(11);
     }
-    let bytes = settings_bytes(tape);
-    let s = settings::read(&bytes);
+    let s = settings::read(&tape[4..123]);
     match settings_check::check(s) {
         Checked::Refused(q) => Early::Refused(refusals::number(q)),
         Checked::Accepted(_, _) => taps_section(tape),

@@ -1,66 +1,11 @@
-//! The port's opening and run calls, through its C interface (`include/more1090_generator.h`).
+//! The port's opening and run calls, through its C interface (`include/more1090_generator.h`) and its binding for Rust.
 
-use crate::bench::{PROTOTYPE, WORKING_MEMORY};
+#[path = "../../../hosts/rust/more1090_generator.rs"]
+mod more1090_generator;
+
 use crate::calls::{OPENING_MARK, OUTPUT_MARK, RECORDS_MARK};
 use crate::tape::*;
-
-/// The state, which only the port reads: 23 numbers of eight bytes.
-#[repr(C)]
-#[derive(Clone, Copy)]
-struct State([u64; 23]);
-
-#[repr(C)]
-struct Opened {
-    state: State,
-    refusal: u64,
-    value: u64,
-}
-
-#[repr(C)]
-struct Ran {
-    state: State,
-    taken: u64,
-    samples: u64,
-    noise: u64,
-    records: u64,
-    stop: u64,
-    refusal: u64,
-    value: u64,
-    field: u64,
-}
-
-unsafe extern "C" {
-    fn more1090_open(
-        settings: &[u8; SETTINGS_BYTES],
-        taps_s: *const f32,
-        taps_s_length: usize,
-        taps_ac: *const f32,
-        taps_ac_length: usize,
-        mode_s: *mut f32,
-        mode_s_length: usize,
-        mode_ac: *mut f32,
-        mode_ac_length: usize,
-        memory: *mut f32,
-        memory_length: usize,
-    ) -> Opened;
-    fn more1090_run(
-        state: State,
-        mode_s: *const f32,
-        mode_s_length: usize,
-        mode_ac: *const f32,
-        mode_ac_length: usize,
-        memory: *mut f32,
-        memory_length: usize,
-        draws: *const u8,
-        draws_length: usize,
-        noise: *const f32,
-        noise_length: usize,
-        output: *mut f32,
-        output_length: usize,
-        records: *mut u8,
-        records_length: usize,
-    ) -> Ran;
-}
+use more1090_generator::{DONE, Ran, Run, State};
 
 /// A run that the port opened, with the memory lent to it.
 pub struct Port {
@@ -82,30 +27,15 @@ struct Lent<'a> {
 impl Port {
     /// Opens a run on memory of those lengths, filled with marks.
     fn open(settings: &[u8], taps_s: &[f32], taps_ac: &[f32], lengths: [usize; 3]) -> (Port, u64, u64) {
-        let [memory, mode_s, mode_ac] = lengths.map(|n| vec![OPENING_MARK; n]);
-        let mut p = Port {
-            state: State([0; 23]),
+        let [mut memory, mut mode_s, mut mode_ac] = lengths.map(|n| vec![OPENING_MARK; n]);
+        let opened =
+            more1090_generator::open(settings, taps_s, taps_ac, &mut mode_s, &mut mode_ac, &mut memory);
+        let p = Port {
+            state: opened.state,
             mode_s,
             mode_ac,
             memory,
         };
-        let settings = settings.try_into().expect("119 bytes");
-        let opened = unsafe {
-            more1090_open(
-                settings,
-                taps_s.as_ptr(),
-                taps_s.len(),
-                taps_ac.as_ptr(),
-                taps_ac.len(),
-                p.mode_s.as_mut_ptr(),
-                p.mode_s.len(),
-                p.mode_ac.as_mut_ptr(),
-                p.mode_ac.len(),
-                p.memory.as_mut_ptr(),
-                p.memory.len(),
-            )
-        };
-        p.state = opened.state;
         (p, opened.refusal, opened.value)
     }
 
@@ -116,25 +46,16 @@ impl Port {
         lend(&mut self.memory, l.lengths[0]);
         lend(&mut self.mode_s, l.lengths[1]);
         lend(&mut self.mode_ac, l.lengths[2]);
-        let ran = unsafe {
-            more1090_run(
-                self.state,
-                self.mode_s.as_ptr(),
-                l.lengths[1],
-                self.mode_ac.as_ptr(),
-                l.lengths[2],
-                self.memory.as_mut_ptr(),
-                l.lengths[0],
-                l.draws.as_ptr(),
-                l.draws.len(),
-                l.noise.as_ptr(),
-                l.noise.len(),
-                l.output.as_mut_ptr(),
-                l.output.len(),
-                l.records.as_mut_ptr(),
-                l.records.len(),
-            )
-        };
+        let ran = more1090_generator::run(
+            self.state,
+            &self.mode_s[..l.lengths[1]],
+            &self.mode_ac[..l.lengths[2]],
+            &mut self.memory[..l.lengths[0]],
+            l.draws,
+            l.noise,
+            l.output,
+            l.records,
+        );
         self.memory.truncate(whole[0]);
         self.mode_s.truncate(whole[1]);
         self.mode_ac.truncate(whole[2]);
@@ -142,40 +63,11 @@ impl Port {
         ran
     }
 
-    /// Samples and records of a tape that the rules accept, lent so many samples of noise and output at a time.
-    pub fn run_whole(tape: &Tape, samples: usize) -> (Vec<f32>, Vec<u8>) {
-        let (taps_s, taps_ac) = tape.taps.split_at(MODE_S_TAPS);
-        let right = [WORKING_MEMORY, PROTOTYPE, PROTOTYPE];
-        let (mut p, _, _) = Port::open(&tape.settings.to_bytes(), taps_s, taps_ac, right);
-        let draws: Vec<u8> = tape.draws.iter().flat_map(draw_to_bytes).collect();
-        let mut all = (Vec::new(), Vec::new());
-        let (mut taken, mut used) = (0, 0);
-        loop {
-            let mut output = vec![OUTPUT_MARK; 2 * samples];
-            let mut records = vec![RECORDS_MARK; 10 * RECORD_BYTES];
-            let to = (used + 2 * samples).min(tape.noise.len());
-            let ran = p.run(Lent {
-                lengths: right,
-                draws: &draws[DRAW_BYTES * taken..],
-                noise: &tape.noise[used..to],
-                output: &mut output,
-                records: &mut records,
-            });
-            all.0.extend(&output[..2 * ran.samples as usize]);
-            all.1.extend(&records[..RECORD_BYTES * ran.records as usize]);
-            taken += ran.taken as usize;
-            used += ran.noise as usize;
-            // Done; or nothing goes on: what is missing shows in the comparison.
-            if ran.refusal != 0 || ran.stop == 0 || ran.taken + ran.samples == 0 {
-                return all;
-            }
-        }
-    }
-
     /// The answers to a list of calls as `calls` writes it: for opening and each call six numbers, then the lent buffers.
     pub fn answers(input: &[u8]) -> Vec<u8> {
         let mut r = Reader { rest: input };
-        let settings = r.take(SETTINGS_BYTES);
+        let n = r.count();
+        let settings = r.take(n);
         let lengths = [r.count(), r.count(), r.count()];
         let (s, ac) = (r.count(), r.count());
         let (taps_s, taps_ac) = (floats(r.take(4 * s)), floats(r.take(4 * ac)));
@@ -214,6 +106,45 @@ impl Port {
         put_floats(b, &output);
         b.extend(&records);
     }
+}
+
+/// Samples and records of a tape that the rules accept, lent so many samples of noise and output at a time. Where it is to be
+/// stored, the run is stored as bytes after each call, and the next call is made on the run that those bytes give. Where
+/// nothing goes on before it is done, what is missing shows in the comparison.
+pub fn run_whole(tape: &Tape, samples: usize, stored: bool) -> (Vec<f32>, Vec<u8>) {
+    let (taps_s, taps_ac) = tape.taps.split_at(MODE_S_TAPS);
+    let draws: Vec<u8> = tape.draws.iter().flat_map(draw_to_bytes).collect();
+    let mut all = (Vec::new(), Vec::new());
+    let (mut taken, mut used) = (0, 0);
+    let mut next = Run::open(&tape.settings.to_bytes(), taps_s, taps_ac).ok();
+    while let Some(mut run) = next {
+        let mut output = vec![OUTPUT_MARK; 2 * samples];
+        let mut records = vec![RECORDS_MARK; 10 * RECORD_BYTES];
+        let to = (used + 2 * samples).min(tape.noise.len());
+        let ran = run.call(
+            &draws[DRAW_BYTES * taken..],
+            &tape.noise[used..to],
+            &mut output,
+            &mut records,
+        );
+        all.0.extend(&output[..2 * ran.samples as usize]);
+        all.1.extend(&records[..RECORD_BYTES * ran.records as usize]);
+        taken += ran.taken as usize;
+        used += ran.noise as usize;
+        if ran.refusal != 0 || ran.stop == DONE || ran.taken + ran.samples == 0 {
+            break;
+        }
+        next = if stored { taken_up(&run.save()) } else { Some(run) };
+    }
+    all
+}
+
+/// The run that was stored as these bytes; none where bytes of another length are taken for one.
+fn taken_up(bytes: &[u8]) -> Option<Run> {
+    let longer = [bytes, &[0]].concat();
+    let others = [&[], &bytes[1..], &longer];
+    let taken = others.iter().any(|b| Run::restore(b).is_some());
+    Run::restore(bytes).filter(|_| !taken)
 }
 
 /// A refusal with its values, or a stop and the counts.

@@ -1,10 +1,10 @@
 //! The crate `more1090_generator`: whole runs against the reference, and lists of run calls against the plain bench, every
 //! answer and every lent buffer whole, so that bytes which must stay unchanged are compared too.
 
-use crate::bench::RIGHT_LENGTHS;
-use crate::calls::{self, List};
+use crate::bench::{Lengths, RIGHT_LENGTHS};
+use crate::calls::{self, List, SETTINGS_LENGTHS};
 use crate::damage;
-use crate::parts::port::Port;
+use crate::parts::port::{self, Port};
 use crate::random::Random;
 use crate::tally::{Tally, bytes_of, first_difference};
 use crate::tape::*;
@@ -16,6 +16,9 @@ pub fn compare(t: &mut Tally, r: &mut Random, tapes: u64) {
             if let Some(tape) = &d.tape {
                 limits(t, &d.what, tape);
             }
+        }
+        for n in SETTINGS_LENGTHS {
+            settings_of(t, n, &base);
         }
     }
     for start in [6905, 6906] {
@@ -44,7 +47,7 @@ fn list(t: &mut Tally, name: &'static str, seed: &str, l: &List) {
 /// A value at a limit: opened, and all of it lent to one call.
 fn limits(t: &mut Tally, what: &str, tape: &Tape) {
     let (mode_s, mode_ac) = tape.taps.split_at(MODE_S_TAPS);
-    let mut l = List::open(&tape.settings, mode_s, mode_ac, RIGHT_LENGTHS);
+    let mut l = List::open(&tape.settings.to_bytes(), mode_s, mode_ac, RIGHT_LENGTHS);
     if l.opened() {
         let room = tape.noise.len() / 2 + 1;
         let _ = l.call(&calls::lend_all(&tape.draws, &tape.noise, room));
@@ -52,12 +55,38 @@ fn limits(t: &mut Tally, what: &str, tape: &Tape) {
     list(t, "values at each limit", what, &l);
 }
 
-/// Samples and records of a whole run, lent in parts of one size, are the reference's.
+/// Openings with settings of n bytes: as they are, with refusals 1 and 4 to be met in them, and with memory that is too short.
+fn settings_of(t: &mut Tally, n: usize, tape: &Tape) {
+    let (mode_s, mode_ac) = tape.taps.split_at(MODE_S_TAPS);
+    let mut short = RIGHT_LENGTHS;
+    short.memory -= 1;
+    let spoilt: [(&str, fn(&mut Settings), Lengths); 4] = [
+        ("settings", |_| {}, RIGHT_LENGTHS),
+        ("nanoseconds", |s| s.nanoseconds = 1_000_000_000, RIGHT_LENGTHS),
+        ("clock", |s| s.clock.kind = 2, RIGHT_LENGTHS),
+        ("memory", |s| s.nanoseconds = 1_000_000_000, short),
+    ];
+    for (what, spoil, lent) in spoilt {
+        let mut s = tape.settings;
+        spoil(&mut s);
+        let mut bytes = s.to_bytes();
+        bytes.resize(n, 0);
+        let l = List::open(&bytes, mode_s, mode_ac, lent);
+        list(t, "settings of each length", &format!("{what}, {n} bytes"), &l);
+    }
+}
+
+/// Samples and records of a whole run, lent in parts of one size, are the reference's; and so where it is stored and taken up
+/// again between calls.
 fn whole(t: &mut Tally, r: &mut Random, seed: &str, tape: &Tape) {
     let Ok(run) = judge::run(tape) else { return };
     let samples = r.pick(&[1, 64, 1000, 4096, 65_536]);
-    let (ours, records) = Port::run_whole(tape, samples);
-    let wrong = first_difference("samples", &bytes_of(&run.samples), &bytes_of(&ours))
-        .or_else(|| first_difference("records", &run.records, &records));
-    t.compare("whole runs", seed, &tape.to_bytes(), wrong);
+    let mut held = |name: &'static str, samples: usize, stored: bool| {
+        let (ours, records) = port::run_whole(tape, samples, stored);
+        let wrong = first_difference("samples", &bytes_of(&run.samples), &bytes_of(&ours))
+            .or_else(|| first_difference("records", &run.records, &records));
+        t.compare(name, seed, &tape.to_bytes(), wrong);
+    };
+    held("whole runs", samples, false);
+    held("runs stored between calls", samples.clamp(64, 1000), true);
 }

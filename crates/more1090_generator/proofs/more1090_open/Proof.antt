@@ -21,7 +21,7 @@ same-length-3 c = search needs
 
 returns : tie.Need-returns
 returns c =
-    let a = c .before .before .before .before .before .before .before .before .before .before .before .before .before .before .before .before .args in
+    let a = c .before .before .before .before .before .before .before .before .before .before .before .before .before .before .before .before .before .args in
     open-flat (a .taps-s .now) (a .taps-ac .now) (a .settings .now) (record { modeS = a .mode-s .now; modeAC = a .mode-ac .now; memory = a .memory .now }) _ _ (c .before .before .before .before .before .before .before .«open» .ensures) _ (c .opened-out .ensures)
 
 pub more1090-open-spec : {M : Type 1} → statement M

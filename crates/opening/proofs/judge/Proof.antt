@@ -11,7 +11,7 @@ lent-fits-requires c κs = search needs
 
 returns : tie.Need-returns
 returns c =
-    let a = c .before .before .before .before .before .before .args in
+    let a = c .before .before .before .before .before .before .before .args in
     lent-refused (a .level) (a .taps-s .now) (a .taps-ac .now) (a .settings .now) _ _ _ (sym (c .before .lent-fits .ensures) ∙ not-true _ (c .if1 .taken))
 
 read-requires : tie.Need-read-requires
@@ -31,12 +31,12 @@ check-taps-requires c κs = search needs
 
 returns-2 : tie.Need-returns-2
 returns-2 c =
-    let a = c .before .before .before .before .before .before .before .before .before .before .before .before .args in
+    let a = c .before .before .before .before .before .before .before .before .before .before .before .before .before .args in
     settings-refused (a .level) (a .taps-s .now) (a .taps-ac .now) (a .settings .now) _ _ _ _ _ (c .before .before .before .before .before .read .ensures) (c .before .before .before .check .ensures) (sym (c .before .before .before .before .before .before .before .lent-fits .ensures) ∙ not-false _ (c .before .before .before .before .before .before .if1 .left)) _ (c .before .refusal .given .1)
 
 returns-3 : tie.Need-returns-3
 returns-3 c =
-    let a = c .before .before .before .before .before .before .before .before .before .before .before .before .before .args in
+    let a = c .before .before .before .before .before .before .before .before .before .before .before .before .before .before .args in
     settings-given (a .level) (a .taps-s .now) (a .taps-ac .now) (a .settings .now) _ _ _ _ _ (c .before .before .before .before .before .before .read .ensures) (c .before .before .before .before .check .ensures) (sym (c .before .before .before .before .before .before .before .before .lent-fits .ensures) ∙ not-false _ (c .before .before .before .before .before .before .before .if1 .left)) _ _ (c .before .before .total .given .1) (c .check-taps .ensures)
 
 pub judge-spec : {M : Type 1} → statement M

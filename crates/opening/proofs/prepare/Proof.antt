@@ -22,7 +22,7 @@ judge-requires c κs = (c .before .before .before .mode-s-prototype .ensures, c 
 
 returns : tie.Need-returns
 returns c =
-    let a = c .before .before .before .before .before .before .before .args in
+    let a = c .before .before .before .before .before .before .before .before .args in
     prepared half (a .taps-s .now) (a .taps-ac .now) (a .settings .now) (a .mode-s) (a .mode-ac) (a .memory) (c .judge .ensures) (c .before .before .before .before .mode-s-prototype .ensures) (c .before .before .before .mode-ac-prototype .ensures)
 
 pub prepare-spec : {M : Type 1} → statement M

@@ -25,7 +25,7 @@ same-length-3 c = search needs
 
 returns : tie.Need-returns
 returns c =
-    let a = c .before .before .before .before .before .before .before .before .before .before .before .before .before .before .before .before .before .before .before .args in
+    let a = c .before .before .before .before .before .before .before .before .before .before .before .before .before .before .before .before .before .before .before .before .args in
     let f = c .before .before .before .before .before .before .fill .ensures in
     opened-left half (a .taps-s .now) (a .taps-ac .now) (a .settings .now) (record { modeS = a .mode-s .now; modeAC = a .mode-ac .now; memory = a .memory .now }) (c .before .before .before .before .before .before .before .before .before .before .before .before .before .prepare .ensures) (c .before .before .before .before .before .before .before .before .before .before .is-run .ensures) (f .0) (f .1) (f .2)
 

@@ -4,65 +4,65 @@ use Rattle.settings.specs.Settings.{ratesAt}
 use Rattle.settings.proofs.rates_at.Statement.{statement}
 use Rattle.settings.proofs.rates_at.Tie as tie
 
-float-at-requires : tie.Need-float-at-requires
-float-at-requires c κs = search needs
+f64-at-requires : tie.Need-f64-at-requires
+f64-at-requires c κs = search needs
 
-add-float-at : tie.Need-add-float-at
-add-float-at c = search needs
+add-f64-at : tie.Need-add-f64-at
+add-f64-at c = search needs
 
-float-at-requires-2 : tie.Need-float-at-requires-2
-float-at-requires-2 c κs = search needs
+f64-at-requires-2 : tie.Need-f64-at-requires-2
+f64-at-requires-2 c κs = search needs
 
-add-float-at-2 : tie.Need-add-float-at-2
-add-float-at-2 c = search needs
+add-f64-at-2 : tie.Need-add-f64-at-2
+add-f64-at-2 c = search needs
 
-float-at-requires-3 : tie.Need-float-at-requires-3
-float-at-requires-3 c κs = search needs
+f64-at-requires-3 : tie.Need-f64-at-requires-3
+f64-at-requires-3 c κs = search needs
 
-add-float-at-3 : tie.Need-add-float-at-3
-add-float-at-3 c = search needs
+add-f64-at-3 : tie.Need-add-f64-at-3
+add-f64-at-3 c = search needs
 
-float-at-requires-4 : tie.Need-float-at-requires-4
-float-at-requires-4 c κs = search needs
+f64-at-requires-4 : tie.Need-f64-at-requires-4
+f64-at-requires-4 c κs = search needs
 
-add-float-at-4 : tie.Need-add-float-at-4
-add-float-at-4 c = search needs
+add-f64-at-4 : tie.Need-add-f64-at-4
+add-f64-at-4 c = search needs
 
-float-at-requires-5 : tie.Need-float-at-requires-5
-float-at-requires-5 c κs = search needs
+f64-at-requires-5 : tie.Need-f64-at-requires-5
+f64-at-requires-5 c κs = search needs
 
-add-float-at-5 : tie.Need-add-float-at-5
-add-float-at-5 c = search needs
+add-f64-at-5 : tie.Need-add-f64-at-5
+add-f64-at-5 c = search needs
 
-float-at-requires-6 : tie.Need-float-at-requires-6
-float-at-requires-6 c κs = search needs
+f64-at-requires-6 : tie.Need-f64-at-requires-6
+f64-at-requires-6 c κs = search needs
 
-add-float-at-6 : tie.Need-add-float-at-6
-add-float-at-6 c = search needs
+add-f64-at-6 : tie.Need-add-f64-at-6
+add-f64-at-6 c = search needs
 
-float-at-requires-7 : tie.Need-float-at-requires-7
-float-at-requires-7 c κs = search needs
+f64-at-requires-7 : tie.Need-f64-at-requires-7
+f64-at-requires-7 c κs = search needs
 
 returns : tie.Need-returns
 unfolding ratesAt
 returns c =
-    rw (c .float-at7 .ensures, c .before .float-at6 .ensures, c .before .before .float-at5 .ensures, c .before .before .before .float-at4 .ensures, c .before .before .before .before .float-at3 .ensures, c .before .before .before .before .before .float-at2 .ensures, c .before .before .before .before .before .before .float-at .ensures)
+    rw (c .f64-at7 .ensures, c .before .f64-at6 .ensures, c .before .before .f64-at5 .ensures, c .before .before .before .f64-at4 .ensures, c .before .before .before .before .f64-at3 .ensures, c .before .before .before .before .before .f64-at2 .ensures, c .before .before .before .before .before .before .f64-at .ensures)
 
 pub rates-at-spec : {M : Type 1} → statement M
 rates-at-spec =
     tie.close
     (tie.spec
-    float-at-requires
-    add-float-at
-    float-at-requires-2
-    add-float-at-2
-    float-at-requires-3
-    add-float-at-3
-    float-at-requires-4
-    add-float-at-4
-    float-at-requires-5
-    add-float-at-5
-    float-at-requires-6
-    add-float-at-6
-    float-at-requires-7
+    f64-at-requires
+    add-f64-at
+    f64-at-requires-2
+    add-f64-at-2
+    f64-at-requires-3
+    add-f64-at-3
+    f64-at-requires-4
+    add-f64-at-4
+    f64-at-requires-5
+    add-f64-at-5
+    f64-at-requires-6
+    add-f64-at-6
+    f64-at-requires-7
     returns)

@@ -1,7 +1,6 @@
 -- `settings::read` meets its contract. Assumes nothing.
 use borrow.Author.Needs.{needs}
 use Rattle.settings.specs.Settings.{settingsOf}
-use Rattle.settings.proofs.Inside.{number-there}
 use Rattle.settings.proofs.read.Statement.{statement}
 use Rattle.settings.proofs.read.Tie as tie
 
@@ -26,8 +25,7 @@ u32-at-requires c κs = search needs
 returns : tie.Need-returns
 unfolding settingsOf
 returns c =
-    let s = c .before .before .before .before .before .before .before .before .before .before .before .before .args .s .now in
-    rw (c .u32-at .ensures, c .before .before .u64-at .ensures, c .before .before .before .before .asked-at3 .ensures, c .before .before .before .before .before .before .asked-at2 .ensures, c .before .before .before .before .before .before .before .before .asked-at .ensures, c .before .before .before .before .before .before .before .before .before .before .rates-at .ensures, number-there 8 s 0 (search needs), number-there 4 s 8 (search needs))
+    rw (c .u32-at .ensures, c .before .u64-at .ensures, c .before .before .asked-at3 .ensures, c .before .before .before .asked-at2 .ensures, c .before .before .before .before .asked-at .ensures, c .before .before .before .before .before .rates-at .ensures)
 
 pub read-spec : {M : Type 1} → statement M
 read-spec =

@@ -4,7 +4,7 @@ use native.Mathlib.Omega.{arith}
 use Rattle.constants.specs.Rate.{four}
 use Rattle.settings.specs.Accepted.{acceptedOf}
 use Rattle.tape_sections.proofs.Counts.{counted}
-use Rattle.tape_head.proofs.Sections.{early-wrong, early-checked, checked-refused, checked-accepted}
+use Rattle.tape_head.proofs.Sections.{settings-part, early-wrong, early-checked, checked-refused, checked-accepted}
 use borrow.Author.Needs.{needs}
 use Rattle.tape_head.proofs.before_taps.Statement.{statement}
 use Rattle.tape_head.proofs.before_taps.Tie as tie
@@ -21,8 +21,14 @@ returns c = early-wrong _ (c .before .before .section .ensures) (c .enum-told .g
 enum-told-2 : tie.Need-enum-told-2
 enum-told-2 c = search needs
 
-settings-bytes-requires : tie.Need-settings-bytes-requires
-settings-bytes-requires c κs = let t = counted _ _ _ _ _ _ (c .before .before .section .ensures) (c .enum-told2 .given .1) in omega (arith, t .0, t .2)
+sub-read : tie.Need-sub-read
+sub-read c = search needs
+
+part-read-start : tie.Need-part-read-start
+part-read-start c = search needs
+
+part-read-end : tie.Need-part-read-end
+part-read-end c = let t = counted _ _ _ _ _ _ (c .before .before .section .ensures) (c .enum-told2 .given .1) in omega (arith, t .0, t .2)
 
 read-requires : tie.Need-read-requires
 read-requires c κs = search needs
@@ -44,13 +50,13 @@ taps-section-requires c κs = search needs
 
 returns-2 : tie.Need-returns-2
 returns-2 c =
-    let a = c .before .before .before .before .before .before .before .before .before .before .before .before .args in
-    early-checked (a .tape .now) (c .before .before .before .before .before .before .before .before .before .before .section .ensures) (c .before .before .before .before .before .before .before .before .enum-told2 .given .1) (c .before .before .before .before .before .before .before .settings-bytes .ensures) (c .before .before .before .before .check .ensures ∙ ap (acceptedOf four) (c .before .before .before .before .before .read .ensures)) (checked-refused (a .tape .now) _ (c .before .before .q .given .1) (c .number .ensures))
+    let t = c .before .before .before .before .before .before .before .before .before .before .before .args .tape .now in
+    early-checked t (c .before .before .before .before .before .before .before .before .before .section .ensures) (c .before .before .before .before .before .before .before .enum-told2 .given .1) (settings-part t) (c .before .before .before .before .check .ensures ∙ ap (acceptedOf four) (c .before .before .before .before .before .read .ensures)) (checked-refused t _ (c .before .before .q .given .1) (c .number .ensures))
 
 returns-3 : tie.Need-returns-3
 returns-3 c =
-    let a = c .before .before .before .before .before .before .before .before .before .before .before .args in
-    early-checked (a .tape .now) (c .before .before .before .before .before .before .before .before .before .section .ensures) (c .before .before .before .before .before .before .before .enum-told2 .given .1) (c .before .before .before .before .before .before .settings-bytes .ensures) (c .before .before .before .check .ensures ∙ ap (acceptedOf four) (c .before .before .before .before .read .ensures)) (checked-accepted (a .tape .now) (c .before .enum-told3 .given .1) (c .taps-section .ensures))
+    let t = c .before .before .before .before .before .before .before .before .before .before .args .tape .now in
+    early-checked t (c .before .before .before .before .before .before .before .before .section .ensures) (c .before .before .before .before .before .before .enum-told2 .given .1) (settings-part t) (c .before .before .before .check .ensures ∙ ap (acceptedOf four) (c .before .before .before .before .read .ensures)) (checked-accepted t (c .before .enum-told3 .given .1) (c .taps-section .ensures))
 
 pub before-taps-spec : {M : Type 1} → statement M
-before-taps-spec = tie.close (tie.spec section-requires enum-told returns enum-told-2 settings-bytes-requires read-requires check-requires enum-known-q number-requires enum-told-3 taps-section-requires returns-2 returns-3)
+before-taps-spec = tie.close (tie.spec section-requires enum-told returns enum-told-2 sub-read part-read-start part-read-end read-requires check-requires enum-known-q number-requires enum-told-3 taps-section-requires returns-2 returns-3)

@@ -1,10 +1,10 @@
--- `draw::byte_at` meets its contract. Assumes nothing.
+-- `byte_at` meets its contract. Assumes nothing.
 use native.Mathlib.Omega.{arith}
 use borrow.Author.Needs.{needs}
 use mathlib.Core.Path.{refl, sym}
 use lib.ListN.{List·getD-eq-default}
-use Rattle.draw.proofs.byte_at.Statement.{statement}
-use Rattle.draw.proofs.byte_at.Tie as tie
+use Rattle.le_at.proofs.byte_at.Statement.{statement}
+use Rattle.le_at.proofs.byte_at.Tie as tie
 
 shared-slice-read-result : tie.Need-shared-slice-read-result
 shared-slice-read-result c = search needs
