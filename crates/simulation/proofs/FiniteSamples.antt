@@ -14,7 +14,7 @@ use Rattle.float_bits.specs.Range.{abs, within}
 use Rattle.call_lists.specs.Each.{Each}
 use Rattle.call_lists.specs.Generator.{Generator}
 use Rattle.call_lists.specs.PlainBench as Bench
-use Rattle.call_lists.specs.Demand3.{allSamples, Demand3}
+use Rattle.call_lists.proofs.ListClaim.{allSamples, Demand3}
 use Rattle.pulse_shape.specs.Prototype.{modeSPrototype, modeACPrototype}
 use Rattle.pulse_shape.proofs.Whole.{length-prototype}
 use Rattle.sample_sizes.proofs.SampleSizes.{samples-sized}
