@@ -6,7 +6,7 @@
  * else; the same arguments give the same answer and the same bytes.
  *
  * What is said of each call here is proved of its source, for every input, refused ones too (crates/more1090_generator, and
- * its proofs/Demand3.antt for lists of calls). Asked of the caller, since no proof can see it: a pointer is not NULL, also
+ * its specs/OpenedCalls.antt for lists of calls). Asked of the caller, since no proof can see it: a pointer is not NULL, also
  * where its length is 0; it is aligned to its type, and good for its length; what a call writes overlaps with nothing else
  * that is lent to it. Calls that share no memory may run at the same time.
  *
@@ -83,7 +83,8 @@ typedef struct more1090_state {
     uint64_t written;    /* samples written so far */
     uint64_t total;      /* samples of the run */
     double time;         /* of the last draw taken, in samples */
-    double latest;       /* of a lent draw by whose start a sample was written, in samples: no first draw may precede it */
+    double latest;       /* the latest time of a lent draw by whose start a sample was written, in samples, 0.0 for none: no
+                          * first draw may precede it */
     double rates[7];     /* replies a second, by type; in a run call it only matters whether each is above 0 */
     double mode_s_delay; /* of the prototypes, in samples */
     double mode_ac_delay;

@@ -266,6 +266,7 @@ module _ (G : Generator) (L : Laws G) (o : G .Value) where
         (subst (λ (l : List (NoisePair G)). Prefix (plainOutput G (bench G cs .taken) (bench G cs .used)) (plainOutput G (bench G cs .taken ++ ds) l)) (sym (pairs-after (bench G cs .used) vs))
         (samples-prefix (bench G cs) ds (pairs vs) (reached cs) (accepted-draws G (timeOf G t0 (bench G cs .taken)) (bench G cs .mark) ds acc)));
     records-stay = λ cs ds. subst (λ (l : List Byte). Prefix l (plainLines G (bench G cs .taken ++ ds))) (sym (all-records cs)) (records-prefix (bench G cs .taken) ds);
+    written = length-samples;
     whole = λ cs e. (kept cs .finished e .0, all-of (length (allSamples G (runs G o cs))) (length (bench G cs .used)) (length-samples cs) (reached cs .within) (kept cs .finished e .1));
     reach = λ cs. all-reach G L t0 (bench G cs .taken) (L .good-first) (reached cs .in-range);
   }

@@ -79,5 +79,6 @@ module _ (G : Generator) where
         (cs : List (Call G)) (ds : List Draw) (vs : List Value) → drawRefusal G (timeOf G t0 (bench G cs .taken)) (bench G cs .mark) ds ≡ none
         → Prefix (allSamples (run cs)) (plainOutput G (bench G cs .taken ++ ds) (pairs (flatten (bench G cs .used) ++ vs)))
     pub records-stay : (cs : List (Call G)) (ds : List Draw) → Prefix (allRecords (run cs)) (plainLines G (bench G cs .taken ++ ds))
+    pub written : (cs : List (Call G)) → length (allSamples (run cs)) ≡ 2 * length (bench G cs .used)
     pub whole : (cs : List (Call G)) → reachesDone (run cs) ≡ true → (ended G t0 (bench G cs .taken) ≡ true) × (length (allSamples (run cs)) ≡ 2 * total)
     pub reach : (cs : List (Call G)) → Each (Reach G) (replies G t0 (bench G cs .taken))

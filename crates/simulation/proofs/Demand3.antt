@@ -28,7 +28,7 @@ use Rattle.run_plans.specs.declared.Stop as Stop
 use Rattle.running.specs.declared.State.{State}
 use Rattle.running.specs.declared.Counts.{Counts}
 use Rattle.running.specs.declared.Answer as Answer
-use Rattle.running.specs.Turns.{filtersOf}
+use Rattle.running.specs.Generated.{filtersOf}
 use Rattle.running.specs.Ended.{stopGiven, Left}
 use Rattle.running.specs.Calls.{runLeft}
 use Rattle.running.specs.Handed.{machineOf, stateOf, ranGiven, leftGiven, Lent, callOf, runsLeft, runsGiven}
@@ -227,6 +227,7 @@ module _ (tapsS tapsAC : List Float) (settings : List ℕ) (given : Opening.Lent
     reach = λ cs. subst (λ (l : List HeldDraw). Each (Reach (gen run)) (replies (gen run) (gen run .t0) l)) (sym (taken-is cs)) (shown .reach (benchCalls run cs));
     finite = λ cs. subst (Each Finite53) (sym (as-shown cs .samples)) (opened-finite tapsS tapsAC settings given s opens (Machine.runs (gen run) nan) shown (benchCalls run cs));
     state = state-is;
+    written = λ cs. ap length (as-shown cs .samples) ∙ shown .written (benchCalls run cs) ∙ ap (λ (x : State). 2 * x .written) (sym (state-is cs));
   }
 
 pub opened-runs : OpenedRuns

@@ -20,7 +20,7 @@ use Rattle.generator.specs.Real.{HeldDraw}
 use Rattle.run_plans.specs.declared.Stop as Stop
 use Rattle.running.specs.declared.State.{State}
 use Rattle.running.specs.declared.Answer as Answer
-use Rattle.running.specs.Turns.{genOf}
+use Rattle.running.specs.Generated.{genOf}
 use Rattle.running.specs.Ended.{Left}
 use Rattle.running.specs.Handed.{Lent, runsLeft, callOf}
 use Rattle.opening.specs.declared.Opened as Opened
@@ -98,7 +98,7 @@ abbrev pub lastState : State → List Left → State
 lastState s [] = s
 lastState s (l ∷ ls) = lastState (l .ran .state) ls
 
--- The state that stands for the plain bench's: the samples written, one for each noise pair used; the time of the draws taken; the latest time, 0.0 for none; whether the end draw is taken. All else is as opened.
+-- The plain bench as a state: the samples written, one for each noise pair used; the time of the draws taken; the latest time, 0.0 for none; whether the end draw is taken. All else is as opened.
 abbrev pub stateAfter : (r : Run) → Bench.Bench (gen r) → State
 stateAfter r b = record {
   written = length (b .used);
@@ -143,8 +143,9 @@ pub record Demand3 (tapsS tapsAC : List Float) (settings : List ℕ) (r : Run) :
   pub reach : (cs : List Lent) → Each (Reach (gen r)) (replies (gen r) (gen r .t0) (drawsTaken r cs))
   -- Every number written is finite, and at most 2^53 in size.
   pub finite : (cs : List Lent) → Each Finite53 (samplesWritten r cs)
-  -- The state that comes back is the plain bench's.
+  -- The state that comes back is the plain bench's: `written` counts the samples written so far, two numbers each.
   pub state : (cs : List Lent) → lastState (r .state) (calls r cs) ≡ stateAfter r (bench r cs)
+  pub written : (cs : List Lent) → length (samplesWritten r cs) ≡ 2 * lastState (r .state) (calls r cs) .written
 
 abbrev pub OpenedRuns : Type 0
 OpenedRuns = (tapsS tapsAC : List Float) (settings : List ℕ) (given : Opening.Lent) (r : Run) → Opens tapsS tapsAC settings given r → Demand3 tapsS tapsAC settings r

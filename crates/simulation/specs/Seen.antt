@@ -7,7 +7,7 @@ use Rattle.refusals.specs.Number.{numberOf, valuesOf}
 use Rattle.running.specs.declared.State.{State}
 use Rattle.running.specs.declared.Counts.{Counts}
 use Rattle.running.specs.declared.Answer as Answer
-use Rattle.running.specs.Turns.{genOf}
+use Rattle.running.specs.Generated.{genOf}
 use Rattle.running.specs.Ended.{stopNumber, Left}
 
 -- an answer: a stop, numbered in the order of document 01's steps; or a refusal's number and values
