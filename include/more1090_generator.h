@@ -85,7 +85,8 @@ typedef struct more1090_state {
     uint64_t written;    /* samples written so far */
     uint64_t total;      /* samples of the run */
     double time;         /* of the last draw taken, in samples */
-    double latest;       /* of a lent draw by whose start a sample was written, in samples: no first draw may precede it */
+    double latest;       /* the latest time of a lent draw by whose start a sample was written, in samples, 0.0 for none: no
+                          * first draw may precede it */
     double rates[7];     /* replies a second, by type; in a run call it only matters whether each is above 0 */
     double mode_s_delay; /* of the prototypes, in samples */
     double mode_ac_delay;

@@ -1,10 +1,10 @@
--- Demand 3 holds of the machine, by `demand3` at the end of this file: its calls keep step with the plain bench's, refused ones too.
+-- Demand 3 holds of the machine, by `demand3` at the end of this file: its calls keep step with the plain bench's, refused ones too. So does its state (`matched`).
 -- Assumes nothing.
 use mathlib.Core.Bool.{Bool, true, false, _||_, false≢true}
 use mathlib.Core.List.{List, [], _∷_, _++_, map, map-append, append-nil, append-assoc}
 use mathlib.Core.Option.{Option, none, some}
 use mathlib.Core.Path.{_≡_, refl, sym, ap, _∙_, subst}
-use Prim.Native.Nat.{ℕ, zero, suc, _+_, _-_, _*_, _≤_}
+use Prim.Native.Nat.{ℕ, suc, _+_, _-_, _*_, _≤_}
 use native.Mathlib.Omega.{arith}
 use lib.ListN.{length, drop, take, length-append}
 use lib.Seq.{drop-at, take-at, take-all, take-nil, take-append-add}
@@ -13,14 +13,15 @@ use Rattle.call_lists.specs.Generator.{Generator, Sample, NoisePair}
 use Rattle.call_lists.specs.PlainRun.{Reply, timeOf, ended, replies, samplesFrom, plainSamples, plainRecords}
 use Rattle.call_lists.specs.PlainBench.{Stop, done, outputFull, wantsNoise, wantsDraws, recordsFull, Refusal, pairs, flatten, join, over, Call, Result, drawsOf, refusalOf, Lent, lentOf, Bench, Benched, bench0, benchSteps, fuel, counts, Given, resultOf, benchCall, benchResults, benchAfter}
 use Rattle.call_lists.specs.Laws.{Laws, Accepted}
-use Rattle.call_lists.specs.Demand3.{Prefix, isDone, doneIn, drawsTaken, samplesWritten, noiseUsed, recordsWritten, allSamples, allRecords, reachesDone, allTaken, allUsed, bench, plainOutput, plainLines, Demand3}
-use Rattle.call_lists.specs.Machine.{State, Ran, opened, machineSteps, machineCall, machineRun, machineResults, machineAfter, runs}
+use Rattle.call_lists.specs.Demand3.{Prefix, bench, plainOutput, plainLines}
+use Rattle.call_lists.specs.Machine.{State, Ran, opened, machineSteps, machineCall, machineResults, machineAfter, runs}
+use Rattle.call_lists.proofs.ListClaim.{isDone, doneIn, drawsTaken, samplesWritten, noiseUsed, recordsWritten, allSamples, allRecords, reachesDone, allTaken, allUsed, Demand3}
 use Rattle.call_lists.proofs.PlainFacts.{replies-still, replies-append, samplesFrom-append, length-samplesFrom}
 use Rattle.call_lists.proofs.Reached.{Reached, reached-first, samples-stay}
 use Rattle.call_lists.proofs.Refusals.{accepted-draws, not-refused}
 use Rattle.call_lists.proofs.LatestTime.{refusal-alike}
 use Rattle.call_lists.proofs.InStep.{Matches, matches-first, Kept, loop-kept}
-use Rattle.call_lists.proofs.FlatLists.{length-flatten, flatten-append, pairs-flatten, pairs-after, take-pairs, join-append, length-join, take-over}
+use Rattle.call_lists.proofs.FlatLists.{length-flatten, flatten-append, pairs-after, take-pairs, join-append, length-join, take-over}
 use Rattle.call_lists.proofs.Counted.{Moved, moved, Counted, counted, lines}
 use Rattle.call_lists.proofs.Reach.{all-reach}
 
@@ -223,12 +224,6 @@ module _ (G : Generator) (L : Laws G) (o : G .Value) where
       more : List (Sample G)
       more = samplesFrom G rs (0 + length (b .used)) (take (total - length (b .used)) vs)
 
-  -- what first calls come to does not turn on later ones
-  take-results : (n : ℕ) (z : State G o) (cs : List (Call G)) → take n (machineResults G o z cs) ≡ machineResults G o z (take n cs)
-  take-results zero z cs = refl
-  take-results (suc n) z [] = refl
-  take-results (suc n) z (c ∷ cs) = ap (λ (rs : List (Result G)). resultOf G c (machineRun G o z c .0) ∷ rs) (take-results n (machineRun G o z c .1) cs)
-
   -- ---- the claim
   kept : (cs : List (Call G)) → CallsKept (bench0 G) cs (benchResults G (bench0 G) cs) (bench G cs) (runs G o cs) (machineAfter G o (opened G o) cs)
   kept cs = calls-kept cs (bench0 G) (opened G o) (reached-first G L) (matches-first G L o)
@@ -236,6 +231,10 @@ module _ (G : Generator) (L : Laws G) (o : G .Value) where
   -- any bench that calls made is reached
   pub reached : (cs : List (Call G)) → Reached G L (bench G cs)
   reached cs = kept cs .reached
+
+  -- and the machine's state after calls is that of the bench
+  pub matched : (cs : List (Call G)) → Matches G L o (bench G cs) (machineAfter G o (opened G o) cs)
+  matched cs = kept cs .matches
 
   none-yet : plainOutput G [] [] ≡ []
   none-yet = rw (take-nil {A = NoisePair G} total)
@@ -255,27 +254,19 @@ module _ (G : Generator) (L : Laws G) (o : G .Value) where
   all-of : (x u : ℕ) → x ≡ 2 * u → u ≤ total → total ≤ u → x ≡ 2 * total
   all-of x u e p q = omega arith
 
-  same-used : (us ws : List (NoisePair G)) → flatten us ≡ flatten ws → us ≡ ws
-  same-used us ws e = sym (pairs-flatten us) ∙ ap (λ (l : List Value). pairs l) e ∙ pairs-flatten ws
-
   pub demand3 : Demand3 G (runs G o)
   demand3 = record {
     answers = λ cs. kept cs .results;
     taken = λ cs. sym (kept cs .taken);
     used = λ cs. sym (kept cs .used);
-    samples = λ cs n. ap (λ (rs : List (Result G)). allSamples G rs) (take-results n (opened G o) cs) ∙ all-samples (take n cs);
-    records = λ cs n. ap (λ (rs : List (Result G)). allRecords G rs) (take-results n (opened G o) cs) ∙ all-records (take n cs);
-    samples-stay = λ cs n ds vs acc.
-        subst (λ (l : List Value). Prefix l (plainOutput G (bench G (take n cs) .taken ++ ds) (pairs (flatten (bench G (take n cs) .used) ++ vs)))) (sym (ap (λ (rs : List (Result G)). allSamples G rs) (take-results n (opened G o) cs) ∙ all-samples (take n cs)))
-        (subst (λ (l : List (NoisePair G)). Prefix (plainOutput G (bench G (take n cs) .taken) (bench G (take n cs) .used)) (plainOutput G (bench G (take n cs) .taken ++ ds) l)) (sym (pairs-after (bench G (take n cs) .used) vs))
-        (samples-prefix (bench G (take n cs)) ds (pairs vs) (reached (take n cs)) (accepted-draws G (timeOf G t0 (bench G (take n cs) .taken)) (bench G (take n cs) .mark) ds acc)));
-    records-stay = λ cs n ds.
-        subst (λ (l : List Byte). Prefix l (plainLines G (bench G (take n cs) .taken ++ ds))) (sym (ap (λ (rs : List (Result G)). allRecords G rs) (take-results n (opened G o) cs) ∙ all-records (take n cs)))
-        (records-prefix (bench G (take n cs) .taken) ds);
-    alike = λ cs cs′ e e′ et eu.
-        let taken : bench G cs .taken ≡ bench G cs′ .taken = sym (kept cs .taken) ∙ et ∙ kept cs′ .taken in
-        let used : bench G cs .used ≡ bench G cs′ .used = same-used (bench G cs .used) (bench G cs′ .used) (sym (kept cs .used) ∙ eu ∙ kept cs′ .used) in
-        (all-samples cs ∙ (λ i. plainOutput G (taken i) (used i)) ∙ sym (all-samples cs′), all-records cs ∙ (λ i. plainLines G (taken i)) ∙ sym (all-records cs′));
+    samples = all-samples;
+    records = all-records;
+    samples-stay = λ cs ds vs acc.
+        subst (λ (l : List Value). Prefix l (plainOutput G (bench G cs .taken ++ ds) (pairs (flatten (bench G cs .used) ++ vs)))) (sym (all-samples cs))
+        (subst (λ (l : List (NoisePair G)). Prefix (plainOutput G (bench G cs .taken) (bench G cs .used)) (plainOutput G (bench G cs .taken ++ ds) l)) (sym (pairs-after (bench G cs .used) vs))
+        (samples-prefix (bench G cs) ds (pairs vs) (reached cs) (accepted-draws G (timeOf G t0 (bench G cs .taken)) (bench G cs .mark) ds acc)));
+    records-stay = λ cs ds. subst (λ (l : List Byte). Prefix l (plainLines G (bench G cs .taken ++ ds))) (sym (all-records cs)) (records-prefix (bench G cs .taken) ds);
+    written = length-samples;
     whole = λ cs e. (kept cs .finished e .0, all-of (length (allSamples G (runs G o cs))) (length (bench G cs .used)) (length-samples cs) (reached cs .within) (kept cs .finished e .1));
     reach = λ cs. all-reach G L t0 (bench G cs .taken) (L .good-first) (reached cs .in-range);
   }

@@ -4,17 +4,16 @@ use mathlib.Core.Bool.{Bool, true, false, cond}
 use mathlib.Core.List.{List, [], _∷_, _++_}
 use mathlib.Core.Option.{Option, none, some}
 use mathlib.Core.Path.{_≡_, refl, sym, ap, _∙_, subst}
-use Prim.Native.Nat.{ℕ, zero, suc, _+_, _-_}
-use native.Mathlib.Omega.{arith}
+use Prim.Native.Nat.{ℕ, zero, suc, _-_}
 use lib.Dec.{leb}
-use lib.ListN.{length, take}
-use lib.Seq.{take-all}
+use lib.ListN.{take}
 use Rattle.call_lists.specs.Each.{Each}
 use Rattle.call_lists.specs.Generator.{Generator, Pair, Sample, NoisePair, silence}
 use Rattle.call_lists.specs.PlainRun.{reply, Reply, kind, timeOf, replies, addNth, hit, sumFrom, samplesFrom}
 use Rattle.call_lists.specs.PlainBench.{Refusal, flatten, Call, Result, drawsOf, refusalOf, Bench, bench0, benchCall, benchRun, benchResults}
 use Rattle.call_lists.specs.Laws.{Laws, InRange}
-use Rattle.call_lists.specs.Demand3.{drawsTaken, noiseUsed, allSamples, allTaken, allUsed, bench, plainOutput, Demand3}
+use Rattle.call_lists.specs.Demand3.{bench, plainOutput}
+use Rattle.call_lists.proofs.ListClaim.{drawsTaken, noiseUsed, allSamples, allTaken, allUsed, Demand3}
 use Rattle.call_lists.proofs.Reach.{all-replies}
 use Rattle.call_lists.proofs.Refusals.{not-refused, not-loud}
 
@@ -113,8 +112,6 @@ module _ (G : Generator) (L : Laws G) where
     -- ---- every list of run calls
     pub every-sample : (run : List (Call G) → List (Result G)) → Demand3 G run → (cs : List (Call G)) → Each P (allSamples G (run cs))
     every-sample run D cs =
-        let n = length (run cs) + length cs in
         let taken : Each (InRange G) (bench G cs .taken) = subst (Each (InRange G)) (sym (D .taken cs ∙ ap (allTaken G cs) (D .answers cs))) (taken-in-range (bench0 G) cs) in
         let used : Each Quiet (flatten (bench G cs .used)) = subst (Each Quiet) (sym (D .used cs ∙ ap (allUsed G cs) (D .answers cs))) (used-quiet (bench0 G) cs) in
-        subst (Each P) (sym (ap (allSamples G) (sym (take-all n (run cs) (omega arith))) ∙ D .samples cs n ∙ ap (λ (l : List (Call G)). plainOutput G (bench G l .taken) (bench G l .used)) (take-all n cs (omega arith))))
-        (plain-kept (bench G cs .taken) (bench G cs .used) taken (each-pair Quiet (bench G cs .used) used))
+        subst (Each P) (sym (D .samples cs)) (plain-kept (bench G cs .taken) (bench G cs .used) taken (each-pair Quiet (bench G cs .used) used))

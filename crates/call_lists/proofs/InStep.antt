@@ -18,7 +18,7 @@ use Rattle.call_lists.proofs.PlainFacts.{hit-before, hit-at}
 use Rattle.call_lists.proofs.Ring.{Fit, fit-blank, rd-blank, fit-wr, fit-put, rd-back, rd-here, put-ahead, put-at}
 use Rattle.call_lists.proofs.StepFacts.{Dues, Takes, Says, step-says, reply-fits}
 use Rattle.call_lists.proofs.Reached.{Reached, Left, samples-more, reached-drain, reached-due, left-drain, left-due, take-time, take-ended, take-sum, left-take, reached-take, take-samples, take-records, take-ahead, good-on, take-short, due-left}
-use Rattle.call_lists.proofs.LatestTime.{StandsFor, stands-first, stands-later}
+use Rattle.call_lists.proofs.LatestTime.{StandsFor, stands-later}
 
 module _ (G : Generator) (L : Laws G) (o : G .Value) where
   open Generator G using (Byte, Draw, Time, t0, after, adds, entry, total)
@@ -43,7 +43,7 @@ module _ (G : Generator) (L : Laws G) (o : G .Value) where
     written = refl;
     time = refl;
     over = refl;
-    mark = stands-first G L;
+    mark = refl;
     fit = fit-blank G o;
     holds = λ n le lt. rd-blank G o (n % w) (mod-lt n pos);
   }
@@ -190,7 +190,7 @@ module _ (G : Generator) (L : Laws G) (o : G .Value) where
         let left = due-left G L b l l′ t v a f in
         rw (f .time)
         (stands-later G L (b .mark) (z .mark) (after (timeOf G t0 (b .taken)) (f .next)) (h .mark)
-        (good-on G L (timeOf G t0 (b .taken)) (f .next) (g .good) (left .in-range .0)) (left .no-jump))
+        (good-on G L (timeOf G t0 (b .taken)) (f .next) (g .good) (left .in-range .0)))
 
     pub on-kept : (c : Step G) → Says G (ended G t0 (b .taken)) (length (b .used)) (timeOf G t0 (b .taken)) l c → Kept b (benchOn G goB b l c) (machineOn G o goZ z l c)
     on-kept (halt s) f = record

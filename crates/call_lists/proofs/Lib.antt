@@ -9,11 +9,11 @@ pub mod InStep
 pub mod FlatLists
 pub mod Counted
 pub mod Reach
+pub mod ListClaim
 pub mod EverySample
 pub mod Demand3
 pub mod Batch
 pub mod Stretch
 pub mod Turns
-pub mod Simulated
 pub mod Plans
 pub mod Batched

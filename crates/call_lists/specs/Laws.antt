@@ -32,8 +32,9 @@ module _ (G : Generator) where
     pub Good : Time → Type 0
     pub good-first : Good t0
     pub good-after : (t : Time) (d : Draw) → Good t → GapInRange d → Good (after t d)
-    -- order of times; none is before the first
+    -- order of times; none is before the first, and no other as early
     pub first-time : (t : Time) → Good t → NotAfter t0 t
+    pub first-alone : (t : Time) → Good t → NotAfter t t0 → t ≡ t0
     pub same-time : (t : Time) → Good t → NotAfter t t
     pub time-trans : (a b c : Time) → Good a → Good b → Good c → NotAfter a b → NotAfter b c → NotAfter a c
     pub time-on : (t : Time) (d : Draw) → Good t → GapInRange d → NotAfter t (after t d)

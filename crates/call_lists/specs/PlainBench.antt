@@ -190,6 +190,11 @@ module _ (G : Generator) where
   latest none t = some t
   latest (some m) t = some (cond (before m t) t m)
 
+  -- the latest time as a plain time: the first time, 0.0, where there is none
+  abbrev pub latestOrFirst : Option Time → Time
+  latestOrFirst none = t0
+  latestOrFirst (some m) = m
+
   -- what a bench comes to after the steps, what is left of what was lent, and the stop
   pub record Benched : Type 0 where
     pub bench : Bench

@@ -4,8 +4,9 @@ use mathlib.Core.List.{List, [], _∷_}
 use mathlib.Core.Path.{_≡_, refl}
 use Prim.Native.Nat.{ℕ}
 use Rattle.call_lists.specs.PlainBench.{Call, Result, refused, ran, wrongLength, wrongDraw, wrongNoise, done, outputFull, wantsNoise, wantsDraws, recordsFull, bench0, benchResults}
-use Rattle.call_lists.specs.Demand3.{bench, allSamples, allRecords, plainOutput, plainLines}
+use Rattle.call_lists.specs.Demand3.{bench, plainOutput, plainLines}
 use Rattle.call_lists.specs.Machine.{runs}
+use Rattle.call_lists.proofs.ListClaim.{allSamples, allRecords}
 use Rattle.call_lists_example.specs.Small.{smallOf, small}
 
 abbrev pub calls : List (Call small)

@@ -11,8 +11,8 @@ use borrow.Author.Tests.{ltb-false, le-ltb}
 use Rattle.call_lists.specs.Generator.{negative, from}
 use Rattle.call_lists.specs.PlainRun.{ends, reply, kindOf}
 use Rattle.call_lists.specs.Laws.{Laws}
-use Rattle.call_lists.specs.Demand3.{Demand3}
 use Rattle.call_lists.specs.Machine.{runs}
+use Rattle.call_lists.proofs.ListClaim.{Demand3}
 use Rattle.call_lists.proofs.Demand3.{demand3}
 use Rattle.call_lists_example.specs.Small.{SmallDraw, faultOf, startOf, smallOf}
 
@@ -43,6 +43,7 @@ laws total = record {
   good-first = tt;
   good-after = λ t d g o. tt;
   first-time = λ t g. le-ltb t 0 (omega arith);
+  first-alone = λ t g p. omega (arith, ltb-false 0 t p);
   same-time = λ t g. le-ltb t t (omega arith);
   time-trans = λ a b c ga gb gc p q. le-ltb c a (omega (arith, ltb-false b a p, ltb-false c b q));
   time-on = λ t d g o. le-ltb (t + d .gap) t (omega arith);

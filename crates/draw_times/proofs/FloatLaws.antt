@@ -9,12 +9,12 @@ use lib.Ieee.{Float, binary32, binary64, fits, lt, ofBits}
 use lib.ListN.{length}
 use Rattle.call_lists.specs.PlainRun.{reply, kind}
 use Rattle.call_lists.specs.Laws.{Laws}
-use Rattle.call_lists.specs.Demand3.{Demand3}
 use Rattle.call_lists.specs.Machine.{runs}
+use Rattle.call_lists.proofs.ListClaim.{Demand3}
 use Rattle.call_lists.proofs.Demand3.{demand3}
 use Rattle.constants.specs.Rate.{replyLimit, holdBack}
 use Rattle.draw_times.specs.FloatGenerator.{Draws, nought, noiseScale, generator}
-use Rattle.draw_times.proofs.Times.{GoodTime, Gap, not-before-itself, not-before-zero, not-after-trans, time-on, good-on}
+use Rattle.draw_times.proofs.Times.{GoodTime, Gap, not-before-itself, not-before-zero, zero-alone, not-after-trans, time-on, good-on}
 
 -- what is asked of draws
 pub record DrawLaws (S : Draws) (sps total : ℕ) : Type 0 where
@@ -39,6 +39,7 @@ module _ (S : Draws) (sps total : ℕ) (K : DrawLaws S sps total) where
     good-first = good-zero;
     good-after = λ t d g e. good-on t (S .gap d) g (K .gap-in-range d e);
     first-time = λ t g. not-before-zero t (g .non-neg);
+    first-alone = zero-alone;
     same-time = λ t g. not-before-itself t (g .non-neg);
     time-trans = λ a b c ga gb gc p q. not-after-trans a b c (ga .non-neg) (gb .non-neg) (gc .non-neg) p q;
     time-on = λ t d g e. time-on t (S .gap d) g (K .gap-in-range d e);

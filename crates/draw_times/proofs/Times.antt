@@ -3,13 +3,13 @@
 use mathlib.Core.Bool.{Bool, true, false, cond, _||_, _&&_, true≢false}
 use mathlib.Core.Path.{_≡_, refl, sym, ap, _∙_, subst}
 use Prim.Native.Nat.{ℕ, zero, suc, _+_, _-_, _*_, _^_, _/_, _%_, _≤_, _<_, compare}
-use native.Mathlib.Nat.{zero-mul, mul-assoc, mul-right-comm, eq-of-mul-eq-mul-right, mul-pos, mul-le-mul-right, le-of-eq, lt-of-lt-of-le}
+use native.Mathlib.Nat.{zero-mul, mul-assoc, mul-right-comm, eq-of-mul-eq-mul-right, mul-pos, mul-le-mul-right, le-of-eq, lt-irrefl, zero-lt-suc, lt-of-lt-of-le}
 use native.Mathlib.Omega.{arith}
 use borrow.Author.Tests.{ltb-true, ltb-false, le-ltb, eqb-true}
-use lib.Dec.{T, leb, leb→le, ltb, eqb, ltb→lt}
+use lib.Dec.{T, leb, leb→le, ltb, eqb, eqb→eq, ltb→lt}
 use lib.IntN.{ℤ, pos, negsuc}
 use lib.Ieee.{Float, Format, nan, inf, fin, binary64, up, down, lt, le, eq, add, sum, round, units, odd, fits, prec, emax, low, size, nearest, level}
-use lib.Ieee.Fits.{add-fits, down-pos, core, round-is, and-l, and-r, reach}
+use lib.Ieee.Fits.{add-fits, up-pos, down-pos, core, round-is, and-l, and-r, reach}
 use native.Mathlib.Decide.{decLe}
 use lib.Pow.{pow-lt, pow-pos, pow-add, shl-lt, pow-mono}
 use lib.Ieee.Exact.{HasValue, round-exact}
@@ -219,3 +219,20 @@ not-before-zero (inf true) g = absurd (true≢false g)
 not-before-zero (inf false) g = refl
 not-before-zero (fin true m e) g = absurd (true≢false g)
 not-before-zero (fin false m e) g = le-ltb (m * up e * down (pos 0)) (0 * up (pos 0) * down e) (omega (arith, zero-mul (down e)))
+
+-- and no other is as early, since 0.0 is written in one way
+pub zero-alone : (t : Float) → GoodTime t → lt (fin false 0 (pos 0)) t ≡ false → t ≡ fin false 0 (pos 0)
+unfolding lt fits
+zero-alone nan g h = absurd (g .non-neg)
+zero-alone (inf true) g h = absurd (true≢false (g .non-neg))
+zero-alone (inf false) g h = absurd (true≢false h)
+zero-alone (fin true m e) g h = absurd (true≢false (g .non-neg))
+zero-alone (fin false (suc m) e) g h =
+    absurd (lt-irrefl 0 (lt-of-lt-of-le (mul-pos (mul-pos (zero-lt-suc m) (up-pos e)) (down-pos (pos 0))) (omega (arith, zero-mul (down e), ltb-false (0 * up (pos 0) * down e) (suc m * up e * down (pos 0)) h))))
+zero-alone (fin false zero (pos zero)) g h = refl
+zero-alone (fin false zero (pos (suc k))) g h =
+    let above : 1 < 2 ^ suc k = pow-lt {i = 0} {j = suc k} (omega arith) in
+    absurd (omega (arith, eqb→eq (2 ^ suc k * 1) 1 (g .fit)))
+zero-alone (fin false zero (negsuc k)) g h =
+    let above : 1 < 2 ^ suc k = pow-lt {i = 0} {j = suc k} (omega arith) in
+    absurd (omega (arith, eqb→eq (1 * 2 ^ suc k) 1 (g .fit)))

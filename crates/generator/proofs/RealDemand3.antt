@@ -3,8 +3,8 @@ use Prim.Native.Nat.{ℕ, _^_, _≤_}
 use lib.Ieee.{Float}
 use Rattle.constants.specs.Rate.{four}
 use Rattle.call_lists.specs.Laws.{Laws}
-use Rattle.call_lists.specs.Demand3.{Demand3}
 use Rattle.call_lists.specs.Machine.{runs}
+use Rattle.call_lists.proofs.ListClaim.{Demand3}
 use Rattle.draw_times.proofs.FloatLaws.{laws, float-demand3}
 use Rattle.generator.specs.Real.{Filters, draws, real}
 use Rattle.generator.proofs.FiltersInRange.{FiltersInRange}

@@ -1,30 +1,31 @@
--- Demand 3 of document 01 for callers in C: where `more1090_open` answers refusal 0, then for every list of calls of `more1090_run` from the state that it returned and the memory that it left, refused calls too,
--- each lent anything and given the state as the last call returned it, what the caller sees of each is what `results` of that list gives, and `Demand3` holds of `results` (`opened-calls`). Assumes nothing.
-use mathlib.Core.Path.{_≡_, refl, sym, ap, _∙_, subst}
+-- Demand 3 of document 01 for callers in C: `opened-calls`, at the end of this file, is a term of the claim `OpenedCalls`. Assumes nothing.
+use mathlib.Core.Path.{_≡_, refl, sym, ap, _∙_}
 use mathlib.Core.List.{List, [], _∷_, map, map-map}
 use Prim.Native.Nat.{ℕ}
 use native.Mathlib.Omega.{arith}
+use lib.ListN.{getD}
 use lib.Ieee.{Float}
 use Rattle.constants.specs.Rate.{four}
 use Rattle.call_lists.specs.PlainBench as Bench
 use Rattle.refusals.specs.declared.Refusal as Refusal
-use Rattle.refusals.specs.Number.{numberOf, valuesOf}
+use Rattle.refusals.specs.Number.{numberOf}
 use Rattle.opening.specs.declared.Opened as Opened
 use Rattle.opening.specs.Opening as Opening
 use Rattle.running.specs.declared.State.{State}
-use Rattle.running.specs.Turns.{genOf}
+use Rattle.running.specs.declared.Counts.{Counts}
+use Rattle.running.specs.declared.Answer as Answer
 use Rattle.running.specs.Ended.{Left}
-use Rattle.running.specs.Calls.{refusalGiven, runLeft}
-use Rattle.running.specs.Handed.{Lent, runsLeft, callOf}
-use Rattle.simulation.specs.Seen.{Seen, seenLeft, countsGiven, answerGiven, seenResult}
-use Rattle.simulation.specs.OpenedRuns.{OpenedRuns}
+use Rattle.running.specs.Calls.{runLeft}
+use Rattle.running.specs.Handed.{Lent, runsLeft}
+use Rattle.simulation.specs.Seen.{Numbered, stopped, refused, Seen, answerSeen, seenLeft, countsOf, answerOf, seenResult}
+use Rattle.simulation.specs.OpenedRuns.{Run, Opens, calls, gen, results, lastState, Demand3}
 use Rattle.simulation.proofs.Demand3.{opened-runs}
-use Rattle.simulation.proofs.SameNumbers.{same-stops}
 use Rattle.more1090_generator.specs.declared.FlatState.{FlatState}
-use Rattle.more1090_generator.specs.States.{flatOf, stateFrom}
+use Rattle.more1090_generator.specs.declared.FlatAnswer.{FlatAnswer}
+use Rattle.more1090_generator.specs.States.{flatOf}
 use Rattle.more1090_generator.specs.Answers.{valuesFlat, openedFlat, told, answered, ranFlat, FlatLeft, leftFlat, flatRunLeft, flatRunsLeft}
 use Rattle.more1090_generator.specs.Seen.{FlatSeen, flatSeen, benchAnswer, benchSeen}
-use Rattle.more1090_generator.specs.OpenedCalls.{CallsFor, OpenedCalls}
+use Rattle.more1090_generator.specs.OpenedCalls.{lastFlat, Demand3InC, OpenedCalls}
 use Rattle.more1090_generator.proofs.StateBack.{state-back}
 
 -- a list of calls in C's numbers is the list of calls, each as C has it
@@ -40,70 +41,83 @@ module _ (modeS modeAC : List Float) where
       ap (λ (x : State). next (runLeft x modeS modeAC memory (l .draws) (l .noise) (l .output) (l .records)) ls) (state-back s)
       ∙ ap (λ (x : List FlatLeft). leftFlat r ∷ x) (runs-flat ls (r .ran .state) (r .memory))
 
--- what is seen of the code's call, in C's numbers
+last-flat : (ls : List Left) (s : State) → lastFlat (flatOf s) (map leftFlat ls) ≡ flatOf (lastState s ls)
+unfolding leftFlat ranFlat
+last-flat [] s = refl
+last-flat (l ∷ ls) s = last-flat ls (l .ran .state)
+
+-- what is seen of a run call, in C's numbers
+answerFlat : Counts → Numbered → FlatAnswer
+answerFlat n (stopped stop) = told n stop 0 0 0
+answerFlat n (refused ns) = told n 5 (getD ns 0 0) (getD ns 1 0) (getD ns 2 0)
+
 seenFlat : Seen → FlatSeen
-seenFlat v = record { answer = answered (v .counts) (v .answer); output = v .output; records = v .records }
+seenFlat v = record { answer = answerFlat (v .counts) (v .answer); output = v .output; records = v .records }
+
+same-answer : (n : Counts) (a : Answer.Answer) → answered n a ≡ answerFlat n (answerSeen a)
+unfolding answered answerFlat answerSeen valuesFlat
+same-answer n (Answer.the-variants.Stopped stop) = refl
+same-answer n (Answer.the-variants.Refused q) = refl
 
 same-seen : (l : Left) → flatSeen (leftFlat l) ≡ seenFlat (seenLeft l)
 unfolding flatSeen leftFlat ranFlat seenFlat seenLeft
-same-seen l = refl
+same-seen l = λ i. record { answer = same-answer (l .ran .counts) (l .ran .answer) i; output = l .output; records = l .records }
 
-bench-answer : (a : Bench.Answer) → answered (countsGiven a) (answerGiven a) ≡ benchAnswer a
-unfolding answered told benchAnswer countsGiven answerGiven refusalGiven numberOf valuesOf valuesFlat
-bench-answer (Bench.refused Bench.wrongLength) = refl
-bench-answer (Bench.refused (Bench.wrongDraw d k)) = refl
-bench-answer (Bench.refused (Bench.wrongNoise p)) = refl
-bench-answer (Bench.ran taken samples noise records stop) = ap (λ n. told (record { taken = taken; samples = samples; noise = noise; records = records }) n 0 0 0) (same-stops stop)
+bench-answer : (a : Bench.Answer) → answerFlat (countsOf a) (answerOf a) ≡ benchAnswer a
+unfolding answerFlat told benchAnswer countsOf answerOf
+bench-answer (Bench.refused q) = refl
+bench-answer (Bench.ran taken samples noise records stop) = refl
 
-module _ (s : State) (modeS modeAC : List Float) where
-  bench-seen : (r : Bench.Result (genOf s modeS modeAC)) → seenFlat (seenResult s modeS modeAC r) ≡ benchSeen s modeS modeAC r
-  unfolding seenFlat seenResult benchSeen
-  bench-seen r = λ i. record { answer = bench-answer (r .answer) i; output = r .output; records = r .records }
+bench-seen : (r : Run) (x : Bench.Result (gen r)) → seenFlat (seenResult (r .state) (r .buffers .modeS) (r .buffers .modeAC) x) ≡ benchSeen (r .state) (r .buffers .modeS) (r .buffers .modeAC) x
+unfolding seenFlat seenResult benchSeen
+bench-seen r x = λ i. record { answer = bench-answer (x .answer) i; output = x .output; records = x .records }
 
 -- what one function makes of another, place by place
 each : {A B C : Type 0} (f : B → C) (g : A → B) (h : A → C) → ((a : A) → f (g a) ≡ h a) → (l : List A) → map f (map g l) ≡ map h l
 each f g h e [] = refl
 each f g h e (a ∷ l) = λ i. e a i ∷ each f g h e l i
 
-calls-of : (s : State) (modeS modeAC memory : List Float) → OpenedRuns s modeS modeAC memory → CallsFor (flatOf s) s modeS modeAC memory
-calls-of s modeS modeAC memory o = record {
-  results = o .results;
-  seen = λ ls.
-      ap (map flatSeen) (runs-flat modeS modeAC ls s memory)
-      ∙ each flatSeen leftFlat (λ (l : Left). seenFlat (seenLeft l)) same-seen (runsLeft s modeS modeAC memory ls)
-      ∙ sym (map-map seenFlat seenLeft (runsLeft s modeS modeAC memory ls))
-      ∙ ap (map seenFlat) (o .seen ls)
-      ∙ each seenFlat (seenResult s modeS modeAC) (benchSeen s modeS modeAC) (bench-seen s modeS modeAC) (o .results (map (callOf s modeS modeAC) ls));
-  demand3 = o .demand3;
-  finite = o .finite;
-}
+-- a run's calls in C
+module _ (tapsS tapsAC : List Float) (settings : List ℕ) (given : Opening.Lent) (r : Run) (o : Opens tapsS tapsAC settings given r) where
+  same-calls : (cs : List Lent) → flatRunsLeft (flatOf (r .state)) (r .buffers .modeS) (r .buffers .modeAC) (r .buffers .memory) cs ≡ map leftFlat (calls r cs)
+  same-calls cs = runs-flat (r .buffers .modeS) (r .buffers .modeAC) cs (r .state) (r .buffers .memory)
+
+  in-c : Demand3InC tapsS tapsAC settings given (flatOf (r .state)) r
+  in-c =
+      let d = opened-runs tapsS tapsAC settings given r o in
+      record {
+        opens = o;
+        demand3 = d;
+        same = same-calls;
+        answers = λ cs.
+            ap (map flatSeen) (same-calls cs)
+            ∙ each flatSeen leftFlat (λ (l : Left). seenFlat (seenLeft l)) same-seen (calls r cs)
+            ∙ sym (map-map seenFlat seenLeft (calls r cs))
+            ∙ ap (map seenFlat) (d .answers cs)
+            ∙ each seenFlat (seenResult (r .state) (r .buffers .modeS) (r .buffers .modeAC)) (benchSeen (r .state) (r .buffers .modeS) (r .buffers .modeAC)) (bench-seen r) (results r cs);
+        state = λ cs. ap (lastFlat (flatOf (r .state))) (same-calls cs) ∙ last-flat (calls r cs) (r .state) ∙ ap flatOf (d .state cs);
+      }
 
 -- no refusal has the number 0
-refused : (q : Refusal.Refusal) → numberOf q ≡ 0 → ⊥
+refusal-above : (q : Refusal.Refusal) → numberOf q ≡ 0 → ⊥
 unfolding numberOf
-refused Refusal.the-variants.Duration e = absurd (omega arith)
-refused (Refusal.the-variants.Rate k) e = absurd (omega arith)
-refused Refusal.the-variants.Total e = absurd (omega arith)
-refused (Refusal.the-variants.Distribution k) e = absurd (omega arith)
-refused Refusal.the-variants.Taps e = absurd (omega arith)
-refused Refusal.the-variants.Prototype e = absurd (omega arith)
-refused (Refusal.the-variants.Draw d k) e = absurd (omega arith)
-refused (Refusal.the-variants.Noise p) e = absurd (omega arith)
-refused Refusal.the-variants.Lent e = absurd (omega arith)
+refusal-above Refusal.the-variants.Duration e = absurd (omega arith)
+refusal-above (Refusal.the-variants.Rate k) e = absurd (omega arith)
+refusal-above Refusal.the-variants.Total e = absurd (omega arith)
+refusal-above (Refusal.the-variants.Distribution k) e = absurd (omega arith)
+refusal-above Refusal.the-variants.Taps e = absurd (omega arith)
+refusal-above Refusal.the-variants.Prototype e = absurd (omega arith)
+refusal-above (Refusal.the-variants.Draw d k) e = absurd (omega arith)
+refusal-above (Refusal.the-variants.Noise p) e = absurd (omega arith)
+refusal-above Refusal.the-variants.Lent e = absurd (omega arith)
 
-module _ (tapsS tapsAC : List Float) (bytes : List ℕ) (lent : Opening.Lent) where
-  opened-as : (o : Opened.Opened) → Opening.openedOf four Opening.half tapsS tapsAC bytes lent ≡ o → openedFlat o .refusal ≡ 0 →
-      let l = Opening.leftBy four tapsS tapsAC o lent in
-      OpenedCalls (openedFlat o .state) (l .modeS) (l .modeAC) (l .memory)
-  unfolding openedFlat Opening.leftBy
-  opened-as (Opened.the-variants.Refused q) e h = absurd (refused q h)
-  opened-as (Opened.the-variants.Run s) e h =
-      let l = Opening.leftBy four tapsS tapsAC (Opened.the-variants.Run s) lent in
-      subst (λ (x : State). CallsFor (flatOf s) x (l .modeS) (l .modeAC) (l .memory)) (sym (state-back s)) (calls-of s (l .modeS) (l .modeAC) (l .memory) (opened-runs tapsS tapsAC bytes lent s e))
+opened-as : (tapsS tapsAC : List Float) (settings : List ℕ) (given : Opening.Lent) (o : Opened.Opened) → Opening.openedOf four Opening.half tapsS tapsAC settings given ≡ o → openedFlat o .refusal ≡ 0
+    → (r : Run) × Demand3InC tapsS tapsAC settings given (openedFlat o .state) r
+unfolding openedFlat
+opened-as tapsS tapsAC settings given (Opened.the-variants.Refused q) e h = absurd (refusal-above q h)
+opened-as tapsS tapsAC settings given (Opened.the-variants.Run s) e h =
+    let r : Run = record { state = s; buffers = Opening.leftBy four tapsS tapsAC (Opened.the-variants.Run s) given } in
+    (r, in-c tapsS tapsAC settings given r (record { answers = e; leaves = refl }))
 
-  -- what the contract of `more1090_open` says that it returns and leaves
-  pub opened-calls : openedFlat (Opening.openedOf four Opening.half tapsS tapsAC bytes lent) .refusal ≡ 0 →
-      let o = Opening.openedOf four Opening.half tapsS tapsAC bytes lent in
-      let l = Opening.leftBy four tapsS tapsAC o lent in
-      OpenedCalls (openedFlat o .state) (l .modeS) (l .modeAC) (l .memory)
-  opened-calls h = opened-as _ refl h
+pub opened-calls : OpenedCalls
+opened-calls tapsS tapsAC settings given h = opened-as tapsS tapsAC settings given _ refl h

@@ -1,25 +1,40 @@
--- Demand 3 of document 01 for callers in C: what is claimed of a state that opening gave, and of calls on it in C's numbers. Definitions only.
+-- Demand 3 of document 01 for callers in C, hypothesis and claim in one statement: `OpenedCalls`, at the end of this file. Where `more1090_open` answers refusal 0, it opened a run of which all is claimed that `simulation/specs/OpenedRuns` claims,
+-- and calls of `more1090_run`, refused ones among them, with any draws, noise and buffers, answer and leave what run calls on it do, in C's numbers. Definitions only.
 use mathlib.Core.Path.{_≡_}
-use mathlib.Core.List.{List, map}
+use mathlib.Core.List.{List, [], _∷_, map}
+use Prim.Native.Nat.{ℕ}
 use lib.Ieee.{Float}
-use Rattle.call_lists.specs.Each.{Each}
-use Rattle.call_lists.specs.PlainBench as Bench
-use Rattle.call_lists.specs.Demand3 as Claim
-use Rattle.running.specs.declared.State.{State}
-use Rattle.running.specs.Turns.{genOf}
-use Rattle.running.specs.Handed.{Lent, callOf}
-use Rattle.simulation.specs.OpenedRuns.{Finite53}
+use Rattle.constants.specs.Rate.{four}
+use Rattle.running.specs.Handed.{Lent}
+use Rattle.opening.specs.Opening as Opening
+use Rattle.simulation.specs.OpenedRuns.{Run, Opens, calls, results, bench, stateAfter, Demand3}
 use Rattle.more1090_generator.specs.declared.FlatState.{FlatState}
-use Rattle.more1090_generator.specs.States.{stateFrom}
-use Rattle.more1090_generator.specs.Answers.{flatRunsLeft}
+use Rattle.more1090_generator.specs.States.{flatOf}
+use Rattle.more1090_generator.specs.Answers.{openedFlat, FlatLeft, leftFlat, flatRunsLeft}
 use Rattle.more1090_generator.specs.Seen.{flatSeen, benchSeen}
 
--- f is a state in C's numbers that stands for s, the prototypes and working memory what opening left beside it
-pub record CallsFor (f : FlatState) (s : State) (modeS modeAC memory : List Float) : Type 0 where
-  pub results : List (Bench.Call (genOf s modeS modeAC)) → List (Bench.Result (genOf s modeS modeAC))
-  pub seen : (ls : List Lent) → map flatSeen (flatRunsLeft f modeS modeAC memory ls) ≡ map (benchSeen s modeS modeAC) (results (map (callOf s modeS modeAC) ls))
-  pub demand3 : Claim.Demand3 (genOf s modeS modeAC) results
-  pub finite : (cs : List (Bench.Call (genOf s modeS modeAC))) → Each Finite53 (Claim.allSamples (genOf s modeS modeAC) (results cs))
+-- what each call of a list answers and leaves, from state f and the run's buffers on, given state, prototypes and memory as the last call left them (by the contract of `more1090_run`)
+abbrev pub flatCalls : FlatState → Run → List Lent → List FlatLeft
+flatCalls f r cs = flatRunsLeft f (r .buffers .modeS) (r .buffers .modeAC) (r .buffers .memory) cs
 
-abbrev pub OpenedCalls : FlatState → List Float → List Float → List Float → Type 0
-OpenedCalls f modeS modeAC memory = CallsFor f (stateFrom f) modeS modeAC memory
+-- the state that the last call returns, or f where there is none
+abbrev pub lastFlat : FlatState → List FlatLeft → FlatState
+lastFlat f [] = f
+lastFlat f (l ∷ ls) = lastFlat (l .ran .state) ls
+
+-- the claim, on the state f that `more1090_open` returned for a run r
+pub record Demand3InC (tapsS tapsAC : List Float) (settings : List ℕ) (given : Opening.Lent) (f : FlatState) (r : Run) : Type 0 where
+  -- the run is opened with these settings and filters, and leaves its buffers in those given; (a) to (e) and the rest of demand 3 hold of it
+  pub opens : Opens tapsS tapsAC settings given r
+  pub demand3 : Demand3 tapsS tapsAC settings r
+  -- each call answers and leaves what the run call does, in C's numbers
+  pub same : (cs : List Lent) → flatCalls f r cs ≡ map leftFlat (calls r cs)
+  -- so each answer is the plain bench's, in document 01's numbers and values, and so are output and record bytes after it
+  pub answers : (cs : List Lent) → map flatSeen (flatCalls f r cs) ≡ map (benchSeen (r .state) (r .buffers .modeS) (r .buffers .modeAC)) (results r cs)
+  -- and the state that comes back is the plain bench's
+  pub state : (cs : List Lent) → lastFlat f (flatCalls f r cs) ≡ flatOf (stateAfter r (bench r cs))
+
+abbrev pub OpenedCalls : Type 0
+OpenedCalls = (tapsS tapsAC : List Float) (settings : List ℕ) (given : Opening.Lent) →
+    let o = Opening.openedOf four Opening.half tapsS tapsAC settings given in
+    openedFlat o .refusal ≡ 0 → (r : Run) × Demand3InC tapsS tapsAC settings given (openedFlat o .state) r

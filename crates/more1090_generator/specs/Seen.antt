@@ -5,7 +5,7 @@ use lib.Ieee.{Float}
 use lib.ListN.{getD}
 use Rattle.call_lists.specs.PlainBench as Bench
 use Rattle.running.specs.declared.State.{State}
-use Rattle.running.specs.Turns.{genOf}
+use Rattle.running.specs.Generated.{genOf}
 use Rattle.more1090_generator.specs.declared.FlatAnswer.{FlatAnswer}
 use Rattle.more1090_generator.specs.Answers.{FlatLeft}
 

@@ -13,19 +13,20 @@ use Rattle.running.specs.Handed.{stateOf, ranGiven, leftGiven, Lent, run
 use Rattle.running.proofs.RunIsTheTheorys.{run-is}
 use Rattle.running.proofs.MemoryKept.{run-kept}
 
-module _ (s : State) (modeS modeAC : List Float) (p : length modeS ≡ 1792) (a : length modeAC ≡ 1792) where
-  -- the state after a call is the one that stands for the machine's
-  given-state : (r : Bench.Answer) (z : Machine.State (genOf s modeS modeAC) nan) → ranGiven s modeS modeAC r z .state ≡ stateOf s modeS modeAC z
+-- the state after a call is the one that stands for the machine's
+module _ (s : State) (modeS modeAC : List Float) where
+  pub given-state : (r : Bench.Answer) (z : Machine.State (genOf s modeS modeAC) nan) → ranGiven s modeS modeAC r z .state ≡ stateOf s modeS modeAC z
   unfolding ranGiven
   given-state (Bench.refused q) z = refl
   given-state (Bench.ran d n v l w) z = refl
 
+module _ (s : State) (modeS modeAC : List Float) (p : length modeS ≡ 1792) (a : length modeAC ≡ 1792) where
   pub runs-are : (ls : List Lent) (z : Machine.State (genOf s modeS modeAC) nan) → length (z .memory) ≡ 2252 → runsLeft (stateOf s modeS modeAC z) modeS modeAC (z .memory) ls ≡ runsGiven s modeS modeAC z ls
   unfolding runsLeft runsGiven leftGiven runLeft ranGiven
   runs-are [] z m = refl
   runs-are (l ∷ ls) z m =
       ap (λ (x : Left). x ∷ runsLeft (x .ran .state) modeS modeAC (x .memory) ls) one
-      ∙ ap (λ (y : State). leftGiven s modeS modeAC r (t .1) ∷ runsLeft y modeS modeAC (t .1 .memory) ls) (given-state (r .answer) (t .1))
+      ∙ ap (λ (y : State). leftGiven s modeS modeAC r (t .1) ∷ runsLeft y modeS modeAC (t .1 .memory) ls) (given-state s modeS modeAC (r .answer) (t .1))
       ∙ ap (λ (more : List Left). leftGiven s modeS modeAC r (t .1) ∷ more) (runs-are ls (t .1) (run-kept (genOf s modeS modeAC) nan z (callOf s modeS modeAC l) ∙ m))
     where
       t : Bench.Given (genOf s modeS modeAC) × Machine.State (genOf s modeS modeAC) nan

@@ -11,7 +11,7 @@ use Rattle.run_checks.specs.Checks.{wrongMemory}
 use Rattle.running.specs.declared.State.{State}
 use Rattle.running.specs.declared.Answer as Answer
 use Rattle.running.specs.declared.Ran.{Ran}
-use Rattle.running.specs.Turns.{genOf}
+use Rattle.running.specs.Generated.{genOf}
 use Rattle.running.specs.Ended.{Left, callLeft}
 
 -- a refusal of the theory, as the code answers it: the same number and values

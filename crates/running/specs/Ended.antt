@@ -10,7 +10,7 @@ use Rattle.turns.specs.declared.Next as Next
 use Rattle.run_plans.specs.declared.Stop as Stop
 use Rattle.running.specs.declared.Answer as Answer
 use Rattle.running.specs.declared.Ran.{Ran}
-use Rattle.running.specs.Turns.{genOf}
+use Rattle.running.specs.Generated.{genOf}
 
 -- a stop of the theory, as the code answers it
 unfoldable pub stopGiven : Bench.Stop → Stop.Stop

@@ -7,7 +7,7 @@ use Rattle.call_lists.specs.Machine as Machine
 use Rattle.running.specs.declared.State.{State}
 use Rattle.running.specs.declared.Answer as Answer
 use Rattle.running.specs.declared.Ran.{Ran}
-use Rattle.running.specs.Turns.{genOf}
+use Rattle.running.specs.Generated.{genOf}
 use Rattle.running.specs.Ended.{stopGiven, Left}
 use Rattle.running.specs.Calls.{refusalGiven, runLeft}
 

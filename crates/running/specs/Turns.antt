@@ -1,4 +1,4 @@
--- The generator of a state and its prototypes (`genOf`); and the code's turns, as the theory of lists of calls has them, which only contracts within this crate cite. Definitions only.
+-- The code's turns, as the theory of lists of calls has them, which only contracts within this crate cite. Definitions only.
 use Prim.Native.Nat.{ℕ, _+_, _*_, _≤_, _<_}
 use mathlib.Core.List.{List}
 use mathlib.Core.Path.{_≡_}
@@ -7,18 +7,11 @@ use lib.Ieee.{Float, nan}
 use Rattle.call_lists.specs.Generator.{Generator}
 use Rattle.call_lists.specs.Turns as Theory
 use Rattle.call_lists.specs.Turns.{Within, turnFuel}
-use Rattle.generator.specs.Real.{Filters, real}
 use Rattle.running.specs.declared.State.{State}
 use Rattle.turns.specs.declared.Turn.{Turn}
 use Rattle.turns.specs.declared.Next as Next
 use Rattle.run_plans.specs.Plans.{stopRead}
-
--- what a state and the prototypes fix
-abbrev pub filtersOf : State → List Float → List Float → Filters
-filtersOf s modeS modeAC = record { rates = s .rates; distributions = s .distributions; delays = s .delays; modeS = modeS; modeAC = modeAC }
-
-abbrev pub genOf : State → List Float → List Float → Generator
-genOf s modeS modeAC = real (filtersOf s modeS modeAC) (s .total)
+pub use Rattle.running.specs.Generated.{filtersOf, genOf}
 
 -- the counts lie within what is lent
 pub record Inside (t : Turn) (noise output records : ℕ) : Type 0 where

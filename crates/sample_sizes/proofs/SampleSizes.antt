@@ -25,7 +25,7 @@ use Rattle.message_config_laws.proofs.FirstClock.{first-clock-of}
 use Rattle.call_lists.specs.Each.{Each}
 use Rattle.call_lists.specs.PlainRun.{reply, kind}
 use Rattle.call_lists.specs.PlainBench.{Call, Result}
-use Rattle.call_lists.specs.Demand3.{allSamples, Demand3}
+use Rattle.call_lists.proofs.ListClaim.{allSamples, Demand3}
 use Rattle.call_lists.proofs.EverySample.{Both, KeptBySums, every-sample}
 use Rattle.draw_times.specs.FloatGenerator.{noiseScale}
 use Rattle.draw_times.proofs.FloatLaws.{laws}

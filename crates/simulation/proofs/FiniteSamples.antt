@@ -14,12 +14,12 @@ use Rattle.float_bits.specs.Range.{abs, within}
 use Rattle.call_lists.specs.Each.{Each}
 use Rattle.call_lists.specs.Generator.{Generator}
 use Rattle.call_lists.specs.PlainBench as Bench
-use Rattle.call_lists.specs.Demand3.{allSamples, Demand3}
+use Rattle.call_lists.proofs.ListClaim.{allSamples, Demand3}
 use Rattle.pulse_shape.specs.Prototype.{modeSPrototype, modeACPrototype}
 use Rattle.pulse_shape.proofs.Whole.{length-prototype}
 use Rattle.sample_sizes.proofs.SampleSizes.{samples-sized}
 use Rattle.running.specs.declared.State.{State}
-use Rattle.running.specs.Turns.{filtersOf, genOf}
+use Rattle.running.specs.Generated.{filtersOf, genOf}
 use Rattle.opening.specs.declared.Opened as Opened
 use Rattle.opening.specs.Opening as Opening
 use Rattle.opening.proofs.WhatIsOpened.{opened-run-in-range, what-is-opened}

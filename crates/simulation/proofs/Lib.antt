@@ -1,4 +1,5 @@
 pub mod FiniteSamples
-pub mod Demand3
 pub mod SameNumbers
+pub mod SameRun
+pub mod Demand3
 pub mod RunRefusals

@@ -16,7 +16,7 @@ use Rattle.run_checks.specs.Checks.{wrongMemory}
 use Rattle.running.specs.declared.State.{State}
 use Rattle.running.specs.declared.Answer.{Answer}
 use Rattle.running.specs.declared.Answer.the-variants.{Refused}
-use Rattle.running.specs.Turns.{genOf}
+use Rattle.running.specs.Generated.{genOf}
 use Rattle.running.specs.Ended.{Left, leftBy, callLeft}
 use Rattle.running.specs.Calls.{refusalGiven, refusedBy, runBy, callRefusal, runLeft}
 use Rattle.running.specs.Handed.{Lent, callOf}

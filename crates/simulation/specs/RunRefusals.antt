@@ -11,7 +11,7 @@ use Rattle.run_checks.specs.Checks.{wrongMemory}
 use Rattle.run_plans.specs.declared.Stop.{Stop}
 use Rattle.running.specs.declared.State.{State}
 use Rattle.running.specs.declared.Answer as Answer
-use Rattle.running.specs.Turns.{genOf}
+use Rattle.running.specs.Generated.{genOf}
 use Rattle.running.specs.Calls.{refusalGiven}
 use Rattle.running.specs.Handed.{Lent, callOf}
 

@@ -1,36 +1,43 @@
--- What a caller sees of a run call: its counts, its answer and the two lent buffers after it; as the code's contract has it, and as document 01's plain bench has it. Definitions only.
+-- What a caller sees of a run call: its counts, its answer in document 01's numbers, and the two buffers after it; as the contract of `run` has it, and as the plain bench has it. Definitions only.
 use Prim.Native.Nat.{ℕ}
-use mathlib.Core.List.{List, map}
+use mathlib.Core.List.{List, _∷_}
 use lib.Ieee.{Float}
-use Rattle.call_lists.specs.Generator.{Generator}
 use Rattle.call_lists.specs.PlainBench as Bench
+use Rattle.refusals.specs.Number.{numberOf, valuesOf}
 use Rattle.running.specs.declared.State.{State}
 use Rattle.running.specs.declared.Counts.{Counts}
 use Rattle.running.specs.declared.Answer as Answer
-use Rattle.running.specs.Turns.{genOf}
-use Rattle.running.specs.Ended.{stopGiven, Left}
-use Rattle.running.specs.Calls.{refusalGiven}
-use Rattle.running.specs.Handed.{Lent, runsLeft}
+use Rattle.running.specs.Generated.{genOf}
+use Rattle.running.specs.Ended.{stopNumber, Left}
+
+-- an answer: a stop, numbered in the order of document 01's steps; or a refusal's number and values
+pub data Numbered : Type 0 where
+  stopped : ℕ → Numbered
+  refused : List ℕ → Numbered
 
 pub record Seen : Type 0 where
   pub counts : Counts
-  pub answer : Answer.Answer
+  pub answer : Numbered
   pub output : List Float
   pub records : List ℕ
 
 -- of what the contract of a run call leaves
+unfoldable pub answerSeen : Answer.Answer → Numbered
+answerSeen (Answer.the-variants.Stopped stop) = stopped (stopNumber stop)
+answerSeen (Answer.the-variants.Refused q) = refused (numberOf q ∷ valuesOf q)
+
 unfoldable pub seenLeft : Left → Seen
-seenLeft l = record { counts = l .ran .counts; answer = l .ran .answer; output = l .output; records = l .records }
+seenLeft l = record { counts = l .ran .counts; answer = answerSeen (l .ran .answer); output = l .output; records = l .records }
 
--- the plain bench's answer in the code's own words: the same counts, stop, or number and values
-unfoldable pub countsGiven : Bench.Answer → Counts
-countsGiven (Bench.refused q) = record { taken = 0; samples = 0; noise = 0; records = 0 }
-countsGiven (Bench.ran taken samples noise records stop) = record { taken = taken; samples = samples; noise = noise; records = records }
+-- of the plain bench's result: a refused call counts nothing
+unfoldable pub countsOf : Bench.Answer → Counts
+countsOf (Bench.refused q) = record { taken = 0; samples = 0; noise = 0; records = 0 }
+countsOf (Bench.ran taken samples noise records stop) = record { taken = taken; samples = samples; noise = noise; records = records }
 
-unfoldable pub answerGiven : Bench.Answer → Answer.Answer
-answerGiven (Bench.refused q) = Answer.the-variants.Refused (refusalGiven q)
-answerGiven (Bench.ran taken samples noise records stop) = Answer.the-variants.Stopped (stopGiven stop)
+unfoldable pub answerOf : Bench.Answer → Numbered
+answerOf (Bench.refused q) = refused (Bench.numbers q)
+answerOf (Bench.ran taken samples noise records stop) = stopped (Bench.stopNumber stop)
 
 module _ (s : State) (modeS modeAC : List Float) where
   unfoldable pub seenResult : Bench.Result (genOf s modeS modeAC) → Seen
-  seenResult r = record { counts = countsGiven (r .answer); answer = answerGiven (r .answer); output = r .output; records = r .records }
+  seenResult r = record { counts = countsOf (r .answer); answer = answerOf (r .answer); output = r .output; records = r .records }

@@ -13,7 +13,7 @@ use Rattle.call_lists.specs.Generator.{Generator, NoisePair}
 use Rattle.call_lists.specs.PlainRun.{Kind, ignored, ends, reply, Reply, kind, timeOf, ended, replies, samplesFrom, plainSamples, plainRecords}
 use Rattle.call_lists.specs.PlainBench.{Stop, done, outputFull, wantsNoise, wantsDraws, recordsFull, Lent, Step, halt, drain, due, taking, write, step5, step4, dueBy, step1, latest, Bench, Benched, benchStep, benchOn, benchSteps, fuel}
 use Rattle.call_lists.specs.Laws.{Laws, Accepted}
-use Rattle.call_lists.specs.Demand3.{isDone}
+use Rattle.call_lists.proofs.ListClaim.{isDone}
 use Rattle.call_lists.proofs.PlainFacts.{ended-still, replies-still}
 use Rattle.call_lists.proofs.StepFacts.{used-slots, Says, step-says, reply-fits}
 use Rattle.call_lists.proofs.Reached.{Reached, Left, reached-drain, reached-due, reached-take, left-drain, left-due, left-take}

@@ -1,19 +1,16 @@
 -- Feeding a run its noise in any chunks makes a list of run calls from where it stands, each given state, prototypes and memory as the last left them (`fed-runs`), and the run comes to what those calls leave (`fed-all`).
--- So what opening leaves, fed in any chunks, is a list of calls of which `simulation/proofs/Demand3` speaks (`fed-opened`). Assumes nothing.
+-- So an opened run, fed in any chunks, is a list of calls of which `simulation/specs/OpenedRuns` speaks (`fed-opened`). Assumes nothing.
 use Prim.Native.Nat.{ℕ}
 use mathlib.Core.Path.{_≡_, refl, sym, ap, _∙_}
 use mathlib.Core.List.{List, [], _∷_, map}
 use lib.Ieee.{Float}
-use Rattle.constants.specs.Rate.{four}
-use Rattle.pulse_shape.specs.Prototype.{modeSPrototype, modeACPrototype}
 use Rattle.refusals.specs.declared.Refusal as Refusal
-use Rattle.running.specs.declared.State.{State}
 use Rattle.running.specs.declared.Answer as Answer
 use Rattle.running.specs.Ended.{Left}
-use Rattle.running.specs.Handed.{callOf, runsLeft}
-use Rattle.opening.specs.declared.Opened as Opened
+use Rattle.running.specs.Handed.{runsLeft}
 use Rattle.opening.specs.Opening as Opening
 use Rattle.simulation.specs.Seen.{seenLeft, seenResult}
+use Rattle.simulation.specs.OpenedRuns.{Run, Opens, results}
 use Rattle.simulation.proofs.Demand3.{opened-runs}
 use Rattle.tape_verdict.specs.Verdict.{startOf}
 use Rattle.tape_feed.specs.Feeding.{Fed, feedAfter, fedAfter, calledOf, fedThen, fedOf}
@@ -43,17 +40,16 @@ module _ (modeS modeAC : List Float) (draws : List ℕ) where
       ap (λ (x : Fed). fedAll modeS modeAC draws (keep x) cs) (ap (fedThen modeS modeAC draws (c .noise) (lend c d)) e)
       ∙ fed-all cs (leftFor modeS modeAC draws d c .ran .answer) (heldAfter modeS modeAC draws d (leftFor modeS modeAC draws d c)) refl
 
--- what opening leaves, fed in any chunks: what is seen of its calls is what demand 3's results give
-module _ (tapsS tapsAC : List Float) (bytes : List ℕ) (lent : Opening.Lent) (s : State) (opens : Opening.openedOf four Opening.half tapsS tapsAC bytes lent ≡ Opened.the-variants.Run s) (draws records : List ℕ) where
+-- an opened run, fed in any chunks: what is seen of its calls is the plain bench's
+module _ (tapsS tapsAC : List Float) (settings : List ℕ) (given : Opening.Lent) (r : Run) (o : Opens tapsS tapsAC settings given r) (draws records : List ℕ) where
   -- the run that nothing has been fed
   abbrev pub started : Held
-  started = begun s (Opening.leftBy four tapsS tapsAC (Opened.the-variants.Run s) lent .memory) records
+  started = begun (r .state) (r .buffers .memory) records
 
   pub fed-opened : (chunks : List Chunk)
-      → map seenLeft (lefts (modeSPrototype four tapsS) (modeACPrototype four tapsAC) draws chunks (startOf s .answer) started)
-      ≡ map (seenResult s (modeSPrototype four tapsS) (modeACPrototype four tapsAC))
-      (opened-runs tapsS tapsAC bytes lent s opens .results (map (callOf s (modeSPrototype four tapsS) (modeACPrototype four tapsAC)) (lents (modeSPrototype four tapsS) (modeACPrototype four tapsAC) draws chunks (startOf s .answer) started)))
+      → map seenLeft (lefts (r .buffers .modeS) (r .buffers .modeAC) draws chunks (startOf (r .state) .answer) started)
+      ≡ map (seenResult (r .state) (r .buffers .modeS) (r .buffers .modeAC)) (results r (lents (r .buffers .modeS) (r .buffers .modeAC) draws chunks (startOf (r .state) .answer) started))
   unfolding startOf begun
   fed-opened chunks =
-      sym (ap (map seenLeft) (fed-runs (modeSPrototype four tapsS) (modeACPrototype four tapsAC) draws chunks (startOf s .answer) started))
-      ∙ opened-runs tapsS tapsAC bytes lent s opens .seen (lents (modeSPrototype four tapsS) (modeACPrototype four tapsAC) draws chunks (startOf s .answer) started)
+      sym (ap (map seenLeft) (fed-runs (r .buffers .modeS) (r .buffers .modeAC) draws chunks (startOf (r .state) .answer) started))
+      ∙ opened-runs tapsS tapsAC settings given r o .answers (lents (r .buffers .modeS) (r .buffers .modeAC) draws chunks (startOf (r .state) .answer) started)

@@ -12,7 +12,8 @@ use Rattle.call_lists.specs.Generator.{NoisePair}
 use Rattle.call_lists.specs.PlainRun.{ended, plainRecords}
 use Rattle.call_lists.specs.PlainBench as Bench
 use Rattle.call_lists.specs.PlainBench.{pairs, join, over, firstLoud, Bench, bench0}
-use Rattle.call_lists.specs.Demand3.{plainLines, isDone}
+use Rattle.call_lists.specs.Demand3.{plainLines}
+use Rattle.call_lists.proofs.ListClaim.{isDone}
 use Rattle.call_lists.specs.Machine as Machine
 use Rattle.call_lists.proofs.FlatLists.{length-draws}
 use Rattle.call_lists.proofs.InStep.{Matches}

@@ -1,0 +1,13 @@
+-- The generator of a state and its prototypes, as plain run and plain bench take it. Definitions only.
+use mathlib.Core.List.{List}
+use lib.Ieee.{Float}
+use Rattle.call_lists.specs.Generator.{Generator}
+use Rattle.generator.specs.Real.{Filters, real}
+use Rattle.running.specs.declared.State.{State}
+
+-- what a state and the prototypes fix
+abbrev pub filtersOf : State → List Float → List Float → Filters
+filtersOf s modeS modeAC = record { rates = s .rates; distributions = s .distributions; delays = s .delays; modeS = modeS; modeAC = modeAC }
+
+abbrev pub genOf : State → List Float → List Float → Generator
+genOf s modeS modeAC = real (filtersOf s modeS modeAC) (s .total)
