@@ -1,20 +1,20 @@
 -- At 4 samples per pulse and a clock error within 0.1, a step is at least 1,843 cells of 2 ^ -13, 0.225 being 1,843.2, and at most a half. Assumes nothing.
 use mathlib.Core.Path.{_≡_, refl, sym, ap, _∙_, subst}
 use Prim.Native.Nat.{ℕ, _+_, _-_, _*_, _^_, _≤_, _<_, zero-le}
-use native.Mathlib.Nat.{le-trans, le-of-eq, le-of-lt, lt-of-lt-of-le, lt-of-le-of-lt, one-mul, mul-comm, mul-assoc, mul-right-comm, mul-le-mul-right, mul-le-mul-left, zero-lt-suc, mul-zero, zero-mul}
+use native.Mathlib.Nat.{le-trans, le-of-eq, lt-of-lt-of-le, lt-of-le-of-lt, one-mul, mul-comm, mul-assoc, mul-right-comm, mul-le-mul-right, mul-le-mul-left, zero-lt-suc}
 use native.Mathlib.Omega.{arith}
-use mathlib.Core.Bool.{Bool, true, false, _&&_, _||_}
+use mathlib.Core.Bool.{Bool, true, false}
 use lib.IntN.{ℤ, pos, negsuc}
-use lib.Dec.{T, ltb, eqb, ltb→lt, eqb→eq, lit≤, lit<}
+use lib.Dec.{T, lit≤, lit<}
 use lib.Pow.{pow-pos, pow-lt}
 use lib.Ieee.{Float, nan, inf, fin, binary64, up, down, round, sum, add, mul, div, lt, le, fits, ofInt}
 use lib.Ieee.Fits.{down-pos}
 use lib.Ieee.Scale.{overflow}
-use Rattle.rounding.proofs.Units.{G, G-ge, G-le, Units, rounded, mul-units, lt-units, le-units, units-of, lt-finite, sum-less, cross-back}
+use Rattle.rounding.proofs.Units.{G, G-ge, G-le, Units, rounded, mul-units, units-of, same-sign, sum-less, cross-back}
+use Rattle.rounding.proofs.Order.{le-out}
 use Rattle.rounding.proofs.More.{of-int}
 use Rattle.pulse_shape.proofs.DelayWithin.{div-units}
 use Rattle.constants.specs.Rate.{four}
-use Rattle.filterbank.specs.declared.Clock.{Clock}
 use Rattle.filterbank.specs.Clocked.{one, stepOf, startClock}
 use Rattle.filterbank.proofs.Grid.{Grid, Stepping, Kept}
 
@@ -30,14 +30,6 @@ abbrev pub minusTenth : Float
 minusTenth = fin true 3602879701896397 (negsuc 54)
 
 -- ---- 1 + e
-or-le : (a b : ℕ) → T (ltb a b || (eqb a b && true)) → a ≤ b
-or-le a b t = go (ltb a b) (eqb a b) (ltb→lt a b) (eqb→eq a b) t
-  where
-    go : (x y : Bool) → (T x → a < b) → (T y → a ≡ b) → T (x || (y && true)) → a ≤ b
-    go true y p q t = le-of-lt (p tt)
-    go false true p q t = le-of-eq (q tt)
-    go false false p q t = absurd t
-
 -- between 7372 / 8192, which is above 0.8998, and 2
 abbrev Near : Float → Type 0
 Near c = (g : ℕ) × Units c g × (7372 * 2 ^ 1061 ≤ g) × (g ≤ 1 * 2 ^ 1075)
@@ -61,9 +53,8 @@ plus-is : (s : Bool) (m : ℕ) (e : ℤ) → add binary64 oneF (fin s m e) ≡ s
 unfolding add
 plus-is s m e = refl
 
-sum-plus : (a b c : ℕ) → sum binary64 false a false b c ≡ round binary64 false (a + b) c
-unfolding sum
-sum-plus a b c = refl
+more : (d : ℕ) → 0 < d → 0 < 1 * d
+more d h = omega arith
 
 one-plus : (e : Float) → T (le minusTenth e) → T (le e tenth) → Near (add binary64 oneF e)
 unfolding le
@@ -72,12 +63,9 @@ one-plus (inf true) l h = absurd l
 one-plus (inf false) l h = absurd h
 one-plus (fin false m e) l h =
     let x = m * up e in
-    subst Near (sym (plus-is false m e ∙ sum-plus (1 * 1 * down e) (x * 1) (1 * down e)))
-    (near-of (1 * 1 * down e + x * 1) (1 * down e) (more (down e) (down-pos e)) (bottom x (down e)) (top x (down e) (or-le (m * up e * 2 ^ 55) (3602879701896397 * 1 * down e) h)))
+    subst Near (sym (plus-is false m e ∙ same-sign false (1 * 1 * down e) (x * 1) (1 * down e)))
+    (near-of (1 * 1 * down e + x * 1) (1 * down e) (more (down e) (down-pos e)) (bottom x (down e)) (top x (down e) (le-out false (m * up e * 2 ^ 55) false (3602879701896397 * 1 * down e) h)))
   where
-    more : (d : ℕ) → 0 < d → 0 < 1 * d
-    more d h = omega arith
-
     bottom : (x d : ℕ) → 7372 * (1 * d) ≤ 8192 * (1 * 1 * d + x * 1)
     bottom x d = omega arith
 
@@ -85,21 +73,10 @@ one-plus (fin false m e) l h =
     top x d h = omega arith
 one-plus (fin true m e) l h =
     let x = m * up e in
-    let k : m * up e * 2 ^ 55 ≤ 3602879701896397 * 1 * down e = flip (m * up e * 2 ^ 55) (3602879701896397 * 1 * down e) l in
+    let k : m * up e * 2 ^ 55 ≤ 3602879701896397 * 1 * down e = le-out true (3602879701896397 * 1 * down e) true (m * up e * 2 ^ 55) l in
     subst Near (sym (plus-is true m e ∙ sum-less (1 * 1 * down e) (x * 1) (1 * down e) (under x (down e) k)))
     (near-of (1 * 1 * down e - x * 1) (1 * down e) (more (down e) (down-pos e)) (bottom x (down e) k) (top x (down e)))
   where
-    flip : (a b : ℕ) → T (ltb a b || (eqb b a && true)) → a ≤ b
-    flip a b t = go (ltb a b) (eqb b a) (ltb→lt a b) (eqb→eq b a) t
-      where
-        go : (x y : Bool) → (T x → a < b) → (T y → b ≡ a) → T (x || (y && true)) → a ≤ b
-        go true y p q t = le-of-lt (p tt)
-        go false true p q t = le-of-eq (sym (q tt))
-        go false false p q t = absurd t
-
-    more : (d : ℕ) → 0 < d → 0 < 1 * d
-    more d h = omega arith
-
     under : (x d : ℕ) → x * 2 ^ 55 ≤ 3602879701896397 * 1 * d → x * 1 ≤ 1 * 1 * d
     under x d h = omega arith
 
@@ -142,7 +119,7 @@ unfolding le
 at-most-two nan n U t = absurd U
 at-most-two (inf s) n U t = absurd U
 at-most-two (fin true m e) n U t = le-trans (le-of-eq (U .1)) zero-le
-at-most-two (fin false m e) n U t = cross-back n (2 * 2 ^ 1074) (down e) 1 (m * up e) 2 (down-pos e) (lit< tt) U refl (or-le (m * up e * 1) (2 * down e) t)
+at-most-two (fin false m e) n U t = cross-back n (2 * 2 ^ 1074) (down e) 1 (m * up e) 2 (down-pos e) (lit< tt) U refl (le-out false (m * up e * 1) false (2 * down e) t)
 
 finite-of : (p : Float) → T (le p twoF) → T (lt p (inf false))
 unfolding le lt

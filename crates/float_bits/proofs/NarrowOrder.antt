@@ -2,7 +2,7 @@
 use mathlib.Core.Path.{_≡_, refl, sym, ap, _∙_, subst}
 use mathlib.Core.Logic.{_⊎_, inl, inr}
 use Prim.Native.Nat.{ℕ, _+_, _*_, _/_, _%_, _^_, _≤_, _<_}
-use native.Mathlib.Nat.{lt-of-le-of-lt, lt-of-lt-of-le, le-of-eq, mul-assoc, mul-one, one-mul, zero-lt-suc, zero-mul, mul-pos, eq-zero-or-pos, lt-irrefl}
+use native.Mathlib.Nat.{lt-of-le-of-lt, lt-of-lt-of-le, le-of-eq, mul-assoc, mul-one, one-mul, zero-lt-suc, zero-mul, eq-zero-or-pos}
 use native.Mathlib.Omega.{arith}
 use mathlib.Core.Bool.{Bool, true, false, not}
 use lib.IntN.{ℤ, pos}
@@ -15,6 +15,7 @@ use lib.Ieee.Exact.{HasValue, round-exact}
 use lib.Ieee.Fits.{round-fits, down-pos}
 use lib.Ieee.Order.{round-mono}
 use lib.Ieee.Scale.{finite}
+use Rattle.rounding.proofs.Units.{first-zero}
 use Rattle.rounding.proofs.Order.{Le, Signed, le-fin, fin-le, le-neg, le-signed, round-signed, round-neg, bits-neg}
 use Rattle.float_bits.specs.Narrow.{narrow}
 use Rattle.float_bits.specs.Range.{abs, within}
@@ -35,7 +36,7 @@ zeros (fin r m e) (inf u) s t c d C D p q = absurd q
 zeros (fin r m e) (fin u n f) s t c d C D p q = fin-le r m e u n f (all r u (m * up e * down f) (n * up f * down e) (none (m * up e) c (down e) (down f) C (p .1)) (none (n * up f) d (down f) (down e) D (q .1)))
   where
     none : (a c d f : ℕ) → 0 < c → a * c ≡ 0 * d → a * f ≡ 0
-    none a c d f C e = elim (eq-zero-or-pos a) [ inl z ↦ ap (λ (x : ℕ). x * f) z ∙ zero-mul f | inr p ↦ absurd (lt-irrefl 0 (subst (λ (x : ℕ). 0 < x) (e ∙ zero-mul d) (mul-pos p C))) ]
+    none a c d f C e = ap (λ (x : ℕ). x * f) (first-zero a c C (e ∙ zero-mul d)) ∙ zero-mul f
 
     all : (r u : Bool) (a b : ℕ) → a ≡ 0 → b ≡ 0 → Le r a u b
     all false false a b A B = omega arith
@@ -45,10 +46,7 @@ zeros (fin r m e) (fin u n f) s t c d C D p q = fin-le r m e u n f (all r u (m *
 
 zero-narrow : (s : Bool) (m : ℕ) (e : ℤ) (d : ℕ) → 0 < d → m * up e * d ≡ 0 → HasValue (narrow (fin s m e)) s 0 (down e)
 unfolding narrow
-zero-narrow s m e d D h = subst (λ (a : ℕ). HasValue (round binary32 s a (down e)) s 0 (down e)) (sym (first (m * up e) d D h)) (round-exact binary32 s 0 (down e) 0 0 (down-pos e) (pow-pos 24) (pow-pos 277) (zero-mul (2 ^ 149) ∙ sym (zero-mul (down e))))
-  where
-    first : (a d : ℕ) → 0 < d → a * d ≡ 0 → a ≡ 0
-    first a d D e = elim (eq-zero-or-pos a) [ inl z ↦ z | inr p ↦ absurd (lt-irrefl 0 (subst (λ (x : ℕ). 0 < x) e (mul-pos p D))) ]
+zero-narrow s m e d D h = subst (λ (a : ℕ). HasValue (round binary32 s a (down e)) s 0 (down e)) (sym (first-zero (m * up e) d D h)) (round-exact binary32 s 0 (down e) 0 0 (down-pos e) (pow-pos 24) (pow-pos 277) (zero-mul (2 ^ 149) ∙ sym (zero-mul (down e))))
 
 mono-fin : (m : ℕ) (e : ℤ) (n : ℕ) (d : ℤ) → m * up e * down d ≤ n * up d * down e → T (le (narrow (fin false m e)) (narrow (fin false n d)))
 unfolding narrow

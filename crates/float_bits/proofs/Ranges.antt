@@ -9,13 +9,8 @@ use lib.Ieee.{Float, nan, inf, fin, up, down, lt, le, neg}
 use lib.Ieee.Scale.{finite}
 use Rattle.rounding.proofs.Order.{Le, le-fin, fin-le}
 use Rattle.rounding.proofs.Val.{Val, le-val, val-le}
+use Rattle.rounding.proofs.Compared.{same-test}
 use Rattle.float_bits.specs.Range.{abs, within}
-
-same : (a b : Bool) → (T a → T b) → (T b → T a) → a ≡ b
-same true true f g = refl
-same true false f g = absurd (f tt)
-same false true f g = absurd (g tt)
-same false false f g = refl
 
 -- ±a ≤ ±b, by the signs: with the first, the second says what the size alone says
 second : (s : Bool) (a : ℕ) (t : Bool) (b : ℕ) → Le s a t b → Le (not t) b s a → Le false a t b
@@ -46,10 +41,10 @@ within-test (fin s m e) (inf false) = (λ h. unfold le in refl, λ h. absurd (tr
 within-test (fin s m e) (fin t n d) =
     let a = m * up e * down d in
     let b = n * up d * down e in (
-      λ h. same (le (fin (not t) n d) (fin s m e)) (le (fin false m e) (fin t n d))
+      λ h. same-test (le (fin (not t) n d) (fin s m e)) (le (fin false m e) (fin t n d))
           (λ k. fin-le false m e t n d (second s a t b (le-fin s m e t n d (subst T (sym h) tt)) (le-fin (not t) n d s m e k)))
           (λ k. fin-le (not t) n d s m e (back s a t b (le-fin false m e t n d k) .1)),
-      λ h. same false (le (fin false m e) (fin t n d))
+      λ h. same-test false (le (fin false m e) (fin t n d))
           (λ k. absurd k)
           (λ k. subst T h (fin-le s m e t n d (back s a t b (le-fin false m e t n d k) .0))),
     )

@@ -1,17 +1,14 @@
 -- From -b to b by the language's comparisons is finite and at most b units in size (`within-of-tests`, `tests-of-within`), and the laws of the wraps in
 -- those terms: every finite phase wraps to -PI to PI, and so does one from -2 PI to 2 PI once wrapped. Assumes nothing.
-use mathlib.Core.Path.{_≡_, refl, sym, subst}
-use mathlib.Core.Logic.{inl, inr}
+use mathlib.Core.Path.{_≡_, refl}
 use Prim.Native.Nat.{ℕ, _+_, _*_, _≤_}
-use native.Mathlib.Nat.{eq-or-lt-of-le}
 use native.Mathlib.Omega.{arith}
-use mathlib.Core.Bool.{Bool, true, false, _&&_, _||_}
-use lib.Dec.{T, ltb, eqb, lt→ltb, eqb-refl, lit<}
+use mathlib.Core.Bool.{Bool, true, false, _||_}
+use lib.Dec.{T, lit<}
 use lib.Ieee.{Float, nan, inf, fin, binary64, add, neg, lt, eq, le, fits}
 use lib.Ieee.Scale.{finite}
-use Rattle.rounding.proofs.Val.{Val, neg-val}
+use Rattle.rounding.proofs.Val.{Val, neg-val, le-val, val-le}
 use Rattle.math.specs.Phase.{pi, twoPi, phaseWrap, phaseWrapOnce}
-use Rattle.rounding.proofs.Compared.{le-val, le-above, le-below}
 use Rattle.rounding.proofs.Size.{Within, number, sum-within}
 use Rattle.math.proofs.Constants.{piUnits, twoPiUnits, pi-val, twoPi-val}
 use Rattle.math.proofs.Wrapped.{wrapped, once-wrapped}
@@ -44,48 +41,10 @@ within-of-tests x b k F v t =
     (N .sign, N .count, N .is, go (N .sign) (N .count) (N .is))
   where
     go : (s : Bool) (n : ℕ) → Val x s n → n ≤ k
-    go false n w = le-above n k (subst T (le-val x b false false n k w v) (t .1))
-    go true n w = le-below n k (subst T (le-val (neg b) x true true k n (neg-val b false k v) w) (t .0))
+    go false n w = le-val x b false false n k w v (t .1)
+    go true n w = le-val (neg b) x true true k n (neg-val b false k v) w (t .0)
 
 -- ---- and the bound the tests
-left : (x y : Bool) → T x → T (x || y)
-left true y t = tt
-left false y t = absurd t
-
-right : (x y : Bool) → T y → T (x || y)
-right true y t = tt
-right false y t = t
-
-both : (x y : Bool) → T x → T y → T (x && y)
-both true y s t = t
-both false y s t = absurd s
-
-same : (n k : ℕ) → n ≡ k → T (eqb n k)
-same n k e = subst (λ (x : ℕ). T (eqb n x)) e (eqb-refl n)
-
--- n ≤ k, for one sign
-alike : (n k : ℕ) → n ≤ k → T (ltb n k || (eqb n k && true))
-alike n k h = elim (eq-or-lt-of-le h) [ inl e ↦ right (ltb n k) (eqb n k && true) (both (eqb n k) true (same n k e) tt) | inr l ↦ left (ltb n k) (eqb n k && true) (lt→ltb n k l) ]
-
--- -n ≤ k
-crossed : (n k : ℕ) → T (ltb 0 (n + k) || (eqb n k && (false || eqb n 0)))
-crossed n k = elim (eq-or-lt-of-le (zero-le-sum n k)) [
-  | inl e ↦ right (ltb 0 (n + k)) (eqb n k && eqb n 0) (both (eqb n k) (eqb n 0) (same n k (equal n k e)) (same n 0 (none n k e)))
-  | inr l ↦ left (ltb 0 (n + k)) (eqb n k && eqb n 0) (lt→ltb 0 (n + k) l)
-]
-  where
-    zero-le-sum : (n k : ℕ) → 0 ≤ n + k
-    zero-le-sum n k = omega arith
-
-    equal : (n k : ℕ) → 0 ≡ n + k → n ≡ k
-    equal n k e = omega arith
-
-    none : (n k : ℕ) → 0 ≡ n + k → n ≡ 0
-    none n k e = omega arith
-
-swapped : (n k : ℕ) → n ≤ k → T (ltb n k || (eqb k n && true))
-swapped n k h = elim (eq-or-lt-of-le h) [ inl e ↦ right (ltb n k) (eqb k n && true) (both (eqb k n) true (same k n (sym e)) tt) | inr l ↦ left (ltb n k) (eqb k n && true) (lt→ltb n k l) ]
-
 pub tests-of-within : (x b : Float) (k : ℕ) → Val b false k → Within x k → Between b x
 tests-of-within x b k v w = go (w .0) (w .2)
   where
@@ -93,14 +52,8 @@ tests-of-within x b k v w = go (w .0) (w .2)
     n = w .1
 
     go : (s : Bool) → Val x s n → Between b x
-    go false u = (
-      subst T (sym (le-val (neg b) x true false k n (neg-val b false k v) u)) (crossed k n),
-      subst T (sym (le-val x b false false n k u v)) (alike n k (w .3)),
-    )
-    go true u = (
-      subst T (sym (le-val (neg b) x true true k n (neg-val b false k v) u)) (swapped n k (w .3)),
-      subst T (sym (le-val x b true false n k u v)) (crossed n k),
-    )
+    go false u = (val-le (neg b) x true false k n (neg-val b false k v) u tt, val-le x b false false n k u v (w .3))
+    go true u = (val-le (neg b) x true true k n (neg-val b false k v) u (w .3), val-le x b true false n k u v tt)
 
 -- ---- the wraps
 pub wrapped-in-range : (x : Float) → T (fits binary64 x) → T (finite x) → Between pi (phaseWrap x)

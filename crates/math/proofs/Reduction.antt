@@ -11,7 +11,8 @@ use Rattle.math.specs.declared.Reduced.{Reduced}
 use Rattle.math.specs.Phase.{pi}
 use Rattle.math.specs.Carrier.{halfPi, outerLimit, innerLimit, reduced}
 use Rattle.rounding.proofs.Compared.{lt-val}
-use Rattle.rounding.proofs.Size.{Within, apart, sub-is}
+use Rattle.rounding.proofs.More.{sub-is}
+use Rattle.rounding.proofs.Size.{Within, apart}
 use Rattle.math.proofs.Constants.{quarterUnits, piUnits, pi-val, halfPi-val, outer-val, inner-val}
 
 -- five values by four tests

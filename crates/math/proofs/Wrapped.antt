@@ -1,36 +1,26 @@
 -- The wraps keep a finite phase finite and bring it within PI of 0: `wrapped` for every finite phase, `once-wrapped` for one within 2 PI.
 -- PI itself is reached (`wraps-to-pi`), though math.rs says "[-pi, pi)". Assumes nothing.
-use mathlib.Core.Path.{_≡_, refl, sym, _∙_, subst}
+use mathlib.Core.Path.{_≡_, refl, sym, subst}
 use mathlib.Core.Logic.{inl, inr}
 use Prim.Native.Nat.{ℕ, _+_, _-_, _*_, _%_, _^_, _≤_, _<_, zero-le}
-use native.Mathlib.Nat.{le-trans, le-of-lt, lt-of-le-of-lt, eq-or-lt-of-le, zero-mul, mul-pos, mul-le-mul-right, mod-lt, sub-le, eq-zero-or-pos, lt-irrefl}
+use native.Mathlib.Nat.{le-trans, le-of-lt, lt-of-le-of-lt, eq-or-lt-of-le, mul-le-mul-right, mod-lt, sub-le}
 use native.Mathlib.Omega.{arith}
-use mathlib.Core.Bool.{Bool, true, false, not, _||_, cond, false≢true}
+use mathlib.Core.Bool.{Bool, true, false, not, _||_, cond}
 use lib.Dec.{T, ltb→lt, nltb→le, lit<, lit≤}
 use lib.Pow.{pow-pos}
-use lib.Ieee.{Float, nan, inf, fin, binary64, up, down, ofBits, add, sub, mul, neg, rem, lt, le, below, level, fits}
-use lib.Ieee.Fits.{up-pos}
+use lib.Ieee.{Float, binary64, ofBits, add, sub, mul, neg, rem, lt, le, below, level, fits}
 use lib.Ieee.Scale.{finite}
 use Rattle.rounding.proofs.Units.{G, G-le, Units}
-use Rattle.rounding.proofs.More.{sub-all, sub-negative}
-use Rattle.rounding.proofs.Val.{Val, val-units, neg-val, add-opposite-r}
+use Rattle.rounding.proofs.More.{sub-all, sub-negative, sub-is}
+use Rattle.rounding.proofs.Val.{Val, val-units, minus-zero, neg-val, add-opposite-r}
 use Rattle.math.specs.Phase.{pi, twoPi, remEuclid, phaseWrap, phaseWrapOnce}
-use Rattle.rounding.proofs.Compared.{lt-val, le-val, le-above, le-above-no, no-level}
-use Rattle.rounding.proofs.Size.{Within, Number, number, units-within, apart, add-equal, add-small, le-or-lt, sub-is, largest, rep-largest}
+use Rattle.rounding.proofs.Order.{le-out, le-out-no}
+use Rattle.rounding.proofs.Compared.{lt-val, le-val, no-level}
+use Rattle.rounding.proofs.Size.{Within, Number, number, units-within, apart, add-equal, add-small, le-or-lt, largest, rep-largest}
 use Rattle.rounding.proofs.Remainder.{rem-val}
 use Rattle.math.proofs.Constants.{piUnits, twoPiUnits, pi-val, minus-pi-val, twoPi-val}
 
 -- ---- `phase_wrap_f64`
--- -0 is no units
-minus-zero : (x : Float) → Val x true 0 → Units x 0
-minus-zero nan v = v
-minus-zero (inf s) v = v
-minus-zero (fin false m e) v = absurd (false≢true (v .0))
-minus-zero (fin true m e) v = (first m (up e) (up-pos e) (first (m * up e) (2 ^ 1074) (pow-pos 1074) (v .1 ∙ zero-mul (down e))), refl)
-  where
-    first : (m u : ℕ) → 0 < u → m * u ≡ 0 → m ≡ 0
-    first m u U e = elim (eq-zero-or-pos m) [ inl z ↦ z | inr p ↦ absurd (lt-irrefl 0 (subst (λ (x : ℕ). 0 < x) e (mul-pos p U))) ]
-
 zero-is : Val (ofBits binary64 0) false 0
 unfolding ofBits
 zero-is = (refl, refl)
@@ -94,9 +84,9 @@ unfolding phaseWrapOnce
 once-cases Holds x s n v high low mid = go s v (le pi x) (le-val pi x false s piUnits n pi-val v) (lt x (neg pi)) (lt-val x (neg pi) s true n piUnits v minus-pi-val)
   where
     go : (s : Bool) → Val x s n → (a : Bool) → a ≡ (below false piUnits s n || level false piUnits s n) → (b : Bool) → b ≡ below s n true piUnits → Holds (cond a (sub binary64 x twoPi) (cond b (add binary64 x twoPi) x))
-    go false v true e b f = high v (le-above piUnits n (subst T e tt))
+    go false v true e b f = high v (le-out false piUnits false n (subst T e tt))
     go false v false e true f = absurd (subst T f tt)
-    go false v false e false f = mid (le-of-lt (le-above-no piUnits n (subst (λ (t : Bool). T (not t)) e tt)))
+    go false v false e false f = mid (le-of-lt (le-out-no piUnits n (subst (λ (t : Bool). T (not t)) e tt)))
     go true v true e b f = absurd (no-level piUnits n (lit< tt) (subst T e tt))
     go true v false e true f = low v (ltb→lt piUnits n (subst T f tt))
     go true v false e false f = mid (nltb→le piUnits n (subst (λ (t : Bool). T (not t)) f tt))

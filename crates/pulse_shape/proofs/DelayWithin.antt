@@ -1,46 +1,32 @@
 -- A delay lies within its prototype: where values of at most 16 in size cross a positive level, the delay is finite, at least 0 and below 7 * sps samples, which is 28 at document 01's rate.
 -- The quotient is of a smaller difference by a larger one, and rounding keeps order. Assumes nothing.
 use mathlib.Core.Path.{_≡_, refl, sym, ap, _∙_, subst}
-use mathlib.Core.Logic.{_⊎_, inl, inr}
-use Prim.Native.Nat.{ℕ, zero, suc, _+_, _-_, _*_, _/_, _%_, _^_, _≤_, _<_, zero-le}
-use native.Mathlib.Nat.{le-trans, le-of-eq, le-of-lt, lt-of-lt-of-le, lt-of-le-of-lt, eq-zero-or-pos, lt-irrefl, mul-pos, mul-one, one-mul, zero-mul, mul-comm, mul-assoc, mul-right-comm, mul-le-mul-right, mul-le-mul-left, mul-lt-mul-of-pos-right, add-mul, mul-div-cancel}
+use Prim.Native.Nat.{ℕ, zero, suc, _+_, _-_, _*_, _/_, _^_, _≤_, _<_, zero-le}
+use native.Mathlib.Nat.{le-trans, le-of-eq, le-of-lt, lt-of-lt-of-le, lt-of-le-of-lt, one-mul, zero-mul, mul-comm, mul-assoc, mul-le-mul-right, mul-le-mul-left, mul-lt-mul-of-pos-right, add-mul, mul-div-cancel}
 use native.Mathlib.Omega.{arith}
-use mathlib.Core.Bool.{Bool, true, false, not, _&&_, _||_, false≢true}
+use mathlib.Core.Bool.{Bool, true, false, _&&_}
 use mathlib.Core.List.{List, [], _∷_}
-use lib.IntN.{ℤ, pos, negsuc}
-use lib.Dec.{T, ltb, eqb, ltb→lt, lt→ltb, eqb→eq, lit<, lit≤}
-use lib.Pow.{pow-pos, pow-add}
+use lib.IntN.{ℤ, pos}
+use lib.Dec.{T, lit<, lit≤}
+use lib.Pow.{pow-pos}
 use lib.ListN.{length, getD}
-use lib.Ieee.{Float, nan, inf, fin, binary32, binary64, up, down, round, neg, add, sub, mul, div, lt, le, eq, fits, ofInt, ofBits}
-use lib.Ieee.Fits.{and-l, and-r, up-pos, down-pos, fits-widens}
+use lib.Ieee.{Float, nan, inf, fin, binary32, binary64, up, down, neg, add, sub, div, lt, le, eq, fits, ofInt, ofBits}
+use lib.Ieee.Fits.{and-l, and-r, down-pos, fits-widens}
 use lib.Ieee.Scale.{overflow}
-use Rattle.rounding.proofs.Units.{G, G-mono, G-exact, G-ge, G-le, Units, add-units, units-of, zero-round, cross-back, lt-units}
+use Rattle.rounding.proofs.Units.{G, G-mono, G-zero, G-ge, G-le, Units, no-less, add-units, units-of, cross-back, lt-units}
 use Rattle.rounding.proofs.More.{sub-all, of-int, lt-from, nonneg}
-use Rattle.rounding.proofs.Val.{Val, val-units, div-val}
+use Rattle.rounding.proofs.Order.{le-out, zero-le-fin}
+use Rattle.rounding.proofs.Val.{Val, val-units, minus-zero, div-val}
 use Rattle.constants.specs.Rate.{four, branches, prototypeLength}
 use Rattle.pulse_shape.specs.declared.Crossing.{Crossing}
 use Rattle.pulse_shape.specs.declared.Crossing.the-variants.{At, Nowhere}
-use Rattle.pulse_shape.specs.Accepted.{within16, allWithin16, sixteen}
+use Rattle.pulse_shape.specs.Accepted.{within16, allWithin16}
 use Rattle.pulse_shape.specs.GroupDelay.{crosses, delayAt, choose, delayFrom, groupDelay, modeACRatio, over, modeACGroupDelay}
 
 abbrev zeroF : Float
 zeroF = fin false 0 (pos 0)
 
 -- ---- units of a finite value, by its size
-or-l : (a b : Bool) → T a → T (a || b)
-or-l true b t = tt
-or-l false b t = absurd t
-
-not-below-zero : (m : ℕ) (e : ℤ) → T (le zeroF (fin false m e))
-unfolding le
-not-below-zero m e = go (0 * 1 * down e) (m * up e * 1) (zero-mul (down e))
-  where
-    go : (a b : ℕ) → a ≡ 0 → T (ltb a b || (eqb a b && true))
-    go a b z = elim (eq-zero-or-pos b) [
-      | inl y ↦ subst (λ (x : ℕ). T (ltb x b || (eqb x b && true))) (sym z) (subst (λ (x : ℕ). T (ltb 0 x || (eqb 0 x && true))) (sym y) tt)
-      | inr p ↦ or-l (ltb a b) (eqb a b && true) (lt→ltb a b (subst (λ (x : ℕ). x < b) (sym z) p))
-    ]
-
 finite-lt : (s : Bool) (m : ℕ) (e : ℤ) → T (lt (fin s m e) (inf false))
 unfolding lt
 finite-lt s m e = tt
@@ -51,30 +37,15 @@ size-fits s zero e F = F
 size-fits s (suc m) e F = F
 
 size-units : (s : Bool) (m : ℕ) (e : ℤ) → T (fits binary64 (fin s m e)) → (n : ℕ) × Units (fin false m e) n
-size-units s m e F = units-of (fin false m e) (size-fits s m e F) (not-below-zero m e) (finite-lt false m e)
+size-units s m e F = units-of (fin false m e) (size-fits s m e F) (zero-le-fin m e) (finite-lt false m e)
 
 -- ---- a quotient of values that are not negative
-minus-zero : (z : Float) → Val z true 0 → Units z 0
-minus-zero nan v = v
-minus-zero (inf s) v = v
-minus-zero (fin false m e) v = absurd (false≢true (v .0))
-minus-zero (fin true m e) v = (first m (up e) (2 ^ 1074) (up-pos e) (pow-pos 1074) (v .1 ∙ zero-mul (down e)), refl)
-  where
-    first : (m u c : ℕ) → 0 < u → 0 < c → m * u * c ≡ 0 → m ≡ 0
-    first m u c U C e = elim (eq-zero-or-pos m) [ inl z ↦ z | inr p ↦ absurd (lt-irrefl 0 (subst (λ (x : ℕ). 0 < x) e (mul-pos (mul-pos p U) C))) ]
-
-G-zero : (k : ℕ) → 0 < k → G 0 k ≡ 0
-G-zero k K = G-exact 0 k 0 0 K (pow-pos 53) (sym (zero-mul k))
-
 pub div-units : (x y : Float) (n k : ℕ) → Units x n → Units y k → 0 < k → G n k < overflow binary64 → Units (div binary64 x y) (G n k)
 div-units nan y n k p q K l = absurd p
 div-units (inf s) y n k p q K l = absurd p
 div-units (fin s m e) nan n k p q K l = absurd q
 div-units (fin s m e) (inf t) n k p q K l = absurd q
-div-units (fin s m e) (fin true i d) n k p q K l = absurd (none k K (q .1))
-  where
-    none : (k : ℕ) → 0 < k → k ≡ 0 → ⊥
-    none k h e = omega arith
+div-units (fin s m e) (fin true i d) n k p q K l = absurd (no-less k K (q .1))
 div-units (fin false m e) (fin false i d) n k p q K l = val-units (div binary64 (fin false m e) (fin false i d)) (G n k) (div-val (fin false m e) (fin false i d) false false n k (refl, p) (refl, q) K l)
 div-units (fin true m e) (fin false i d) n k p q K l =
     subst (λ (g : ℕ). Units (div binary64 (fin true m e) (fin false i d)) g) (sym (ap (λ (x : ℕ). G x k) (p .1) ∙ G-zero k K))
@@ -88,14 +59,6 @@ div-units (fin true m e) (fin false i d) n k p q K l =
 -- ---- the two differences, of which the first is not the larger
 abbrev Differences : Float → Float → Float → Type 0
 Differences level a b = (x : ℕ) × (y : ℕ) × Units (sub binary64 level a) x × Units (sub binary64 b a) y × (x ≤ y) × (0 < y) × (y ≤ 32 * 2 ^ 1074)
-
-not-above : (a b : ℕ) → T (ltb a b || (eqb a b && true)) → a ≤ b
-not-above a b t = go (ltb a b) (eqb a b) (ltb→lt a b) (eqb→eq a b) t
-  where
-    go : (x y : Bool) → (T x → a < b) → (T y → a ≡ b) → T (x || (y && true)) → a ≤ b
-    go true y p q t = le-of-lt (p tt)
-    go false true p q t = le-of-eq (q tt)
-    go false false p q t = absurd t
 
 -- values n of at most 32, exactly or rounded
 small : (n : ℕ) → n ≤ 32 * 2 ^ 1074 → G n (2 ^ 1074) ≤ 32 * 2 ^ 1074
@@ -152,23 +115,15 @@ module _ (ml : ℕ) (el : ℤ) (ma : ℕ) (ea : ℤ) (mb : ℕ) (eb : ℤ) (nl n
 
 at-most-16 : (m : ℕ) (e : ℤ) (n : ℕ) → Units (fin false m e) n → T (le (fin false m e) (fin false 1 (pos 4))) → n ≤ 16 * 2 ^ 1074
 unfolding le
-at-most-16 m e n U t = cross-back n (16 * 2 ^ 1074) (down e) 1 (m * up e) 16 (down-pos e) (lit< tt) U refl (not-above (m * up e * 1) (16 * down e) t)
+at-most-16 m e n U t = cross-back n (16 * 2 ^ 1074) (down e) 1 (m * up e) 16 (down-pos e) (lit< tt) U refl (le-out false (m * up e * 1) false (16 * down e) t)
 
 at-least-minus-16 : (m : ℕ) (e : ℤ) (n : ℕ) → Units (fin false m e) n → T (le (fin true 1 (pos 4)) (fin true m e)) → n ≤ 16 * 2 ^ 1074
 unfolding le
-at-least-minus-16 m e n U t = cross-back n (16 * 2 ^ 1074) (down e) 1 (m * up e) 16 (down-pos e) (lit< tt) U refl (flipped (m * up e * 1) (16 * down e) t)
-  where
-    flipped : (a b : ℕ) → T (ltb a b || (eqb b a && true)) → a ≤ b
-    flipped a b t = go (ltb a b) (eqb b a) (ltb→lt a b) (eqb→eq b a) t
-      where
-        go : (x y : Bool) → (T x → a < b) → (T y → b ≡ a) → T (x || (y && true)) → a ≤ b
-        go true y p q t = le-of-lt (p tt)
-        go false true p q t = le-of-eq (sym (q tt))
-        go false false p q t = absurd t
+at-least-minus-16 m e n U t = cross-back n (16 * 2 ^ 1074) (down e) 1 (m * up e) 16 (down-pos e) (lit< tt) U refl (le-out true (16 * down e) true (m * up e * 1) t)
 
 no-more : (m : ℕ) (e : ℤ) (k : ℕ) (d : ℤ) (n l : ℕ) → Units (fin false m e) n → Units (fin false k d) l → T (le (fin false m e) (fin false k d)) → n ≤ l
 unfolding le
-no-more m e k d n l U W t = cross-back n l (down e) (down d) (m * up e) (k * up d) (down-pos e) (down-pos d) U W (not-above (m * up e * down d) (k * up d * down e) t)
+no-more m e k d n l U W t = cross-back n l (down e) (down d) (m * up e) (k * up d) (down-pos e) (down-pos d) U W (le-out false (m * up e * down d) false (k * up d * down e) t)
 
 -- the test of 16 in size, as two comparisons with finite numbers
 within-tests : (x : Float) → T (within16 x) → T (le (fin true 1 (pos 4)) x) × T (le x (fin false 1 (pos 4)))
@@ -212,12 +167,12 @@ one-at-most x y h Y = G-le x y 1 1074 Y (lit< tt) (at (2 ^ 1074) x y h)
     at : (u x y : ℕ) → x ≤ y → x * u ≤ 1 * u * y
     at u x y h = le-trans (mul-le-mul-right u h) (le-of-eq (mul-comm y u ∙ ap (λ (z : ℕ). z * y) (sym (one-mul u))))
 
-sum-at-most : (j t : ℕ) → j < 2 ^ 52 → t ≤ 1 * 2 ^ 1074 → G (j * 2 ^ 1074 + t) (2 ^ 1074) ≤ suc j * 2 ^ 1074
-sum-at-most j t J h = G-le (j * 2 ^ 1074 + t) (2 ^ 1074) (suc j) 1074 (pow-pos 1074) (room j J) (mul-le-mul-right (2 ^ 1074) (at (2 ^ 1074) j t h))
-  where
-    room : (j : ℕ) → j < 2 ^ 52 → suc j < 2 ^ 53
-    room j h = omega arith
+room-53 : (j : ℕ) → j < 2 ^ 52 → suc j < 2 ^ 53
+room-53 j h = omega arith
 
+sum-at-most : (j t : ℕ) → j < 2 ^ 52 → t ≤ 1 * 2 ^ 1074 → G (j * 2 ^ 1074 + t) (2 ^ 1074) ≤ suc j * 2 ^ 1074
+sum-at-most j t J h = G-le (j * 2 ^ 1074 + t) (2 ^ 1074) (suc j) 1074 (pow-pos 1074) (room-53 j J) (mul-le-mul-right (2 ^ 1074) (at (2 ^ 1074) j t h))
+  where
     at : (u j t : ℕ) → t ≤ 1 * u → j * u + t ≤ suc j * u
     at u j t h = le-trans (more (j * u) t (1 * u) h) (le-of-eq (sym (add-mul j 1 u) ∙ ap (λ (z : ℕ). z * u) (next j)))
       where
@@ -228,11 +183,8 @@ sum-at-most j t J h = G-le (j * 2 ^ 1074 + t) (2 ^ 1074) (suc j) 1074 (pow-pos 1
         next j = omega arith
 
 part-at-most : (j s : ℕ) → j < 2 ^ 52 → s ≤ suc j * 2 ^ 1074 → G s (64 * 2 ^ 1074) ≤ suc j * 2 ^ 1068
-part-at-most j s J h = G-le s (64 * 2 ^ 1074) (suc j) 1068 (lit< tt) (room j J) (le-trans (mul-le-mul-right (2 ^ 1074) h) (le-of-eq (at (suc j))))
+part-at-most j s J h = G-le s (64 * 2 ^ 1074) (suc j) 1068 (lit< tt) (room-53 j J) (le-trans (mul-le-mul-right (2 ^ 1074) h) (le-of-eq (at (suc j))))
   where
-    room : (j : ℕ) → j < 2 ^ 52 → suc j < 2 ^ 53
-    room j h = omega arith
-
     at : (q : ℕ) → q * 2 ^ 1074 * 2 ^ 1074 ≡ q * 2 ^ 1068 * (64 * 2 ^ 1074)
     at q = mul-assoc q (2 ^ 1074) (2 ^ 1074) ∙ sym (mul-assoc q (2 ^ 1068) (64 * 2 ^ 1074))
 

@@ -2,9 +2,10 @@
 use Prim.Native.Nat.{ℕ, zero, suc, _+_, _-_, _<_, _≤_}
 use mathlib.Core.Path.{_≡_, refl, sym, ap, _∙_}
 use mathlib.Core.List.{List, [], _∷_, _++_, append-nil}
+use native.Mathlib.Nat.{sub-zero}
 use native.Mathlib.Omega.{arith}
 use native.Mathlib.Numerals.{add-one}
-use lib.ListN.{length, set, take, replicate, length-set, length-replicate}
+use lib.ListN.{length, set, take, length-set}
 use lib.Seq.{take-suc-set, take-all, append-snoc}
 use lib.Ieee.{Float}
 use Rattle.pulse_shape.specs.Values.{valuesFrom, values}
@@ -35,14 +36,18 @@ filled f (suc n) t k e =
     ∙ ap (λ (l : List Float). l ++ valuesFrom f n (k + 1)) (take-suc-set t k (f k) (omega arith))
     ∙ append-snoc (take k t) (f k) (valuesFrom f n (k + 1))
 
-pub fill-all : (f : ℕ → Float) (n : ℕ) (z : Float) → fillFrom f n (replicate n z) 0 ≡ values f n
-fill-all f n z = filled f n (replicate n z) 0 (length-replicate n z ∙ omega arith)
+pub fill-all : (f : ℕ → Float) (n : ℕ) (t : List Float) → length t ≡ n → fillFrom f n t 0 ≡ values f n
+fill-all f n t e = filled f n t 0 (e ∙ omega arith)
+
+-- before the first turn
+pub fill-first : (f : ℕ → Float) (t : List Float) → fillFrom f (length t - 0) t 0 ≡ fillFrom f (length t) t 0
+fill-first f t = ap (λ (n : ℕ). fillFrom f n t 0) (sub-zero (length t))
 
 -- a turn of the loop, from what the loop comes to before it
 pub fill-on : (f : ℕ → Float) (e : ℕ) (t : List Float) (k : ℕ) (x : Float) (w : List Float) → k < e → x ≡ f k → fillFrom f (e - k) t k ≡ w
     → fillFrom f (e - (k + 1)) (set t k x) (k + 1) ≡ w
 fill-on f e t k x w h p q = ap (λ (y : Float). fillFrom f (e - (k + 1)) (set t k y) (k + 1)) p ∙ sym (fill-turn f e t k h) ∙ q
 
--- the end of the loop
-pub fill-done : (f : ℕ → Float) (e : ℕ) (t : List Float) (k : ℕ) (z : Float) → e ≤ k → fillFrom f (e - k) t k ≡ fillFrom f e (replicate e z) 0 → t ≡ values f e
-fill-done f e t k z h q = sym (fill-end f e t k h) ∙ q ∙ fill-all f e z
+-- the end of the loop, over a list of the same length
+pub fill-done : (f : ℕ → Float) (e : ℕ) (t : List Float) (k : ℕ) (before : List Float) → e ≤ k → length before ≡ e → fillFrom f (e - k) t k ≡ fillFrom f e before 0 → t ≡ values f e
+fill-done f e t k before h l q = sym (fill-end f e t k h) ∙ q ∙ fill-all f e before l

@@ -3,4 +3,5 @@ pub mod DelayWithin
 pub mod Whole
 pub mod Delays
 pub mod Fill
+pub mod Trapezoids
 pub mod Turns

@@ -5,6 +5,7 @@ ghost use Prim.Native.Nat.{_≤_, _<_, _+_, _-_, min};
 ghost use lib.ListN.{length};
 ghost use lib.Ieee.{binary32, ofBits};
 ghost use Rattle.constants.specs.Rate.{four};
+ghost use Rattle.pulse_shape.specs.Values.{values};
 ghost use Rattle.pulse_shape.specs.Trapezoid.{trapezoidAt, modeSTrapezoid, modeACTrapezoid};
 ghost use Rattle.pulse_shape.specs.Convolve.{productsFrom, firstTerm, convolveAt};
 ghost use Rattle.pulse_shape.specs.Prototype.{prototypeOf, modeSPrototype, modeACPrototype};
@@ -30,15 +31,24 @@ fn trapezoid_at(rise: u32, fall: u32, total: u32, j: u32) -> f32
     1.0 - ratio(j - (total - fall) + 1, fall)
 }
 
+// Fills a list with the trapezoid of its length and of two edges.
+fn trapezoid(out: &mut [f32], rise: u32, fall: u32)
+    requires { ⌜ (length (now out) ≤ 1792) × (fall ≤ length (now out)) ⌝ }
+    ensures { λ _. ⌜ now (out .exit) ≡ values (trapezoidAt rise fall (length (now (out .entry)))) (length (now (out .entry))) ⌝ }
+{
+    let total = out.len() as u32;
+    let mut j: usize = 0;
+    while j < out.len() {
+        out[j] = trapezoid_at(rise, fall, total, j as u32);
+        j = j + 1;
+    }
+}
+
 fn mode_s_trapezoid() -> [f32; 307]
     ensures { λ r. ⌜ r ≡ modeSTrapezoid four ⌝ }
 {
     let mut out = [0.0f32; 307];
-    let mut j: usize = 0;
-    while j < 307 {
-        out[j] = trapezoid_at(38, 64, 307, j as u32);
-        j = j + 1;
-    }
+    trapezoid(&mut out, 38, 64);
     out
 }
 
@@ -46,11 +56,7 @@ fn mode_ac_trapezoid() -> [f32; 278]
     ensures { λ r. ⌜ r ≡ modeACTrapezoid four ⌝ }
 {
     let mut out = [0.0f32; 278];
-    let mut j: usize = 0;
-    while j < 278 {
-        out[j] = trapezoid_at(40, 40, 278, j as u32);
-        j = j + 1;
-    }
+    trapezoid(&mut out, 40, 40);
     out
 }
 

@@ -1,14 +1,14 @@
 -- Comparisons of finite values in units of 2 ^ -1074, and what a test that passed or failed says of them. Assumes nothing.
 use mathlib.Core.Path.{_≡_, refl, sym, ap, _∙_, subst}
-use Prim.Native.Nat.{ℕ, _+_, _*_, _^_, _≤_, _<_}
-use native.Mathlib.Nat.{le-of-eq, le-of-lt, lt-of-lt-of-le, lt-of-le-of-lt, zero-mul, mul-comm, mul-assoc, mul-right-comm, mul-lt-mul-of-pos-right, lt-of-mul-lt-mul-right, mul-pos, add-mul, eq-of-mul-eq-mul-right, lt-irrefl}
-use native.Mathlib.Omega.{arith}
-use mathlib.Core.Bool.{Bool, true, false, not, _&&_, _||_, Bool·beq}
+use Prim.Native.Nat.{ℕ, _+_, _*_, _^_, _<_}
+use native.Mathlib.Nat.{le-of-eq, lt-of-lt-of-le, lt-of-le-of-lt, zero-mul, mul-assoc, mul-right-comm, mul-lt-mul-of-pos-right, lt-of-mul-lt-mul-right, mul-pos, add-mul, eq-of-mul-eq-mul-right, lt-irrefl}
+use mathlib.Core.Bool.{Bool, true, false, _&&_, _||_, Bool·beq}
 use lib.IntN.{ℤ}
-use lib.Dec.{T, ltb, eqb, ltb→lt, lt→ltb, nltb→le, eqb→eq, eqb-refl}
+use lib.Dec.{T, ltb, eqb, ltb→lt, lt→ltb, eqb→eq}
 use lib.Pow.{pow-pos}
 use lib.Ieee.{Float, nan, inf, fin, up, down, below, level, lt, eq, le}
-use lib.Ieee.Fits.{down-pos}
+use lib.Ieee.Fits.{down-pos, eq→eqb}
+use Rattle.rounding.proofs.Units.{one-value}
 use Rattle.rounding.proofs.Val.{Val}
 
 -- ---- two tests that pass together are one
@@ -27,11 +27,8 @@ ltb-scaled a b n k p d P D e f =
 eqb-scaled : (a b n k p d : ℕ) → 0 < p → 0 < d → a * p ≡ n * d → b * p ≡ k * d → eqb a b ≡ eqb n k
 eqb-scaled a b n k p d P D e f =
     same-test (eqb a b) (eqb n k)
-    (λ t. from n k (eq-of-mul-eq-mul-right d D n k (sym e ∙ ap (λ (x : ℕ). x * p) (eqb→eq a b t) ∙ f)))
-    (λ t. from a b (eq-of-mul-eq-mul-right p P a b (e ∙ ap (λ (x : ℕ). x * d) (eqb→eq n k t) ∙ sym f)))
-  where
-    from : (x y : ℕ) → x ≡ y → T (eqb x y)
-    from x y e = subst (λ (z : ℕ). T (eqb x z)) e (eqb-refl x)
+    (λ t. eq→eqb {a = n} {b = k} (eq-of-mul-eq-mul-right d D n k (sym e ∙ ap (λ (x : ℕ). x * p) (eqb→eq a b t) ∙ f)))
+    (λ t. eq→eqb {a = a} {b = b} (eq-of-mul-eq-mul-right p P a b (e ∙ ap (λ (x : ℕ). x * d) (eqb→eq n k t) ∙ sym f)))
 
 below-scaled : (s t : Bool) (a b n k p d : ℕ) → 0 < p → 0 < d → a * p ≡ n * d → b * p ≡ k * d → below s a t b ≡ below s n t k
 below-scaled false false a b n k p d P D e f = ltb-scaled a b n k p d P D e f
@@ -48,9 +45,6 @@ level-scaled s t a b n k p d P D e f =
 left : (m : ℕ) (e d : ℤ) (n : ℕ) → m * up e * 2 ^ 1074 ≡ n * down e → m * up e * down d * 2 ^ 1074 ≡ n * (down e * down d)
 left m e d n p = mul-right-comm (m * up e) (down d) (2 ^ 1074) ∙ ap (λ (x : ℕ). x * down d) p ∙ mul-assoc n (down e) (down d)
 
-right : (m : ℕ) (e d : ℤ) (n : ℕ) → m * up e * 2 ^ 1074 ≡ n * down e → m * up e * down d * 2 ^ 1074 ≡ n * (down d * down e)
-right m e d n p = left m e d n p ∙ ap (λ (x : ℕ). n * x) (mul-comm (down e) (down d))
-
 -- ---- a comparison of x and y is that of their units
 pub lt-val : (x y : Float) (s t : Bool) (n k : ℕ) → Val x s n → Val y t k → lt x y ≡ below s n t k
 unfolding lt
@@ -61,7 +55,7 @@ lt-val (fin u m e) (inf v) s t n k p q = absurd q
 lt-val (fin u m e) (fin v i d) s t n k p q =
     ap (λ (b : Bool). below b (m * up e * down d) v (i * up d * down e)) (p .0)
     ∙ ap (λ (b : Bool). below s (m * up e * down d) b (i * up d * down e)) (q .0)
-    ∙ below-scaled s t (m * up e * down d) (i * up d * down e) n k (2 ^ 1074) (down e * down d) (pow-pos 1074) (mul-pos (down-pos e) (down-pos d)) (left m e d n (p .1)) (right i d e k (q .1))
+    ∙ below-scaled s t (m * up e * down d) (i * up d * down e) n k (2 ^ 1074) (down e * down d) (pow-pos 1074) (mul-pos (down-pos e) (down-pos d)) (left m e d n (p .1)) (one-value i d k e (q .1))
 
 eq-val : (x y : Float) (s t : Bool) (n k : ℕ) → Val x s n → Val y t k → eq x y ≡ level s n t k
 unfolding eq
@@ -72,43 +66,13 @@ eq-val (fin u m e) (inf v) s t n k p q = absurd q
 eq-val (fin u m e) (fin v i d) s t n k p q =
     ap (λ (b : Bool). level b (m * up e * down d) v (i * up d * down e)) (p .0)
     ∙ ap (λ (b : Bool). level s (m * up e * down d) b (i * up d * down e)) (q .0)
-    ∙ level-scaled s t (m * up e * down d) (i * up d * down e) n k (2 ^ 1074) (down e * down d) (pow-pos 1074) (mul-pos (down-pos e) (down-pos d)) (left m e d n (p .1)) (right i d e k (q .1))
+    ∙ level-scaled s t (m * up e * down d) (i * up d * down e) n k (2 ^ 1074) (down e * down d) (pow-pos 1074) (mul-pos (down-pos e) (down-pos d)) (left m e d n (p .1)) (one-value i d k e (q .1))
 
 pub le-val : (x y : Float) (s t : Bool) (n k : ℕ) → Val x s n → Val y t k → le x y ≡ (below s n t k || level s n t k)
 unfolding le
 le-val x y s t n k p q = ap (λ (b : Bool). b || eq x y) (lt-val x y s t n k p q) ∙ ap (λ (b : Bool). below s n t k || b) (eq-val x y s t n k p q)
 
 -- ---- what the tests say of two sizes
-or-le : (n k : ℕ) (b : Bool) → (T b → n ≡ k) → T (ltb n k || b) → n ≤ k
-or-le n k b f t = go (ltb n k) (ltb→lt n k) t
-  where
-    go : (x : Bool) → (T x → n < k) → T (x || b) → n ≤ k
-    go true h t = le-of-lt (h tt)
-    go false h t = le-of-eq (f t)
-
-and-first : (x y : Bool) → T (x && y) → T x
-and-first true y t = tt
-and-first false y t = t
-
--- n ≤ k for two that are not negative
-pub le-above : (n k : ℕ) → T (below false n false k || level false n false k) → n ≤ k
-le-above n k t = or-le n k (level false n false k) (λ u. eqb→eq n k (and-first (eqb n k) true u)) t
-
-pub le-above-no : (n k : ℕ) → T (not (below false n false k || level false n false k)) → k < n
-le-above-no n k t = go (ltb n k) (nltb→le n k) (eqb n k) (λ (e : n ≡ k). subst (λ (x : ℕ). T (eqb n x)) e (eqb-refl n)) t
-  where
-    other : (n k : ℕ) → k ≤ n → (n ≡ k → ⊥) → k < n
-    other n k h g = omega arith
-
-    go : (x : Bool) → (T (not x) → k ≤ n) → (y : Bool) → (n ≡ k → T y) → T (not (x || (y && true))) → k < n
-    go true f y g t = absurd t
-    go false f true g t = absurd t
-    go false f false g t = other n k (f tt) (λ e. g e)
-
--- -k ≤ -n
-pub le-below : (n k : ℕ) → T (below true k true n || level true k true n) → n ≤ k
-le-below n k t = or-le n k (level true k true n) (λ u. sym (eqb→eq k n (and-first (eqb k n) true u))) t
-
 -- one that is above 0 is no less than a negative one, nor than -0
 pub no-level : (n k : ℕ) → 0 < n → T (below false n true k || level false n true k) → ⊥
 no-level n k h t = go (eqb n k) (eqb n 0) (λ u. lt-irrefl 0 (subst (λ (x : ℕ). 0 < x) (eqb→eq n 0 u) h)) t

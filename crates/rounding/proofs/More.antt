@@ -1,14 +1,14 @@
 -- More on units: differences and products with no condition on zeros, negative differences, casts, exact results, and the error of a rounding. Assumes nothing.
 use mathlib.Core.Path.{_≡_, refl, sym, ap, _∙_, subst}
-use mathlib.Core.Logic.{_⊎_, inl, inr}
-use Prim.Native.Nat.{ℕ, zero, suc, _+_, _-_, _*_, _/_, _%_, _^_, _≤_, _<_, min, zero-le}
-use native.Mathlib.Nat.{le-refl, le-trans, le-of-eq, le-of-lt, lt-of-lt-of-le, lt-of-le-of-lt, lt-of-not-le, not-le-of-lt, eq-zero-or-pos, mul-one, one-mul, zero-mul, mul-comm, mul-assoc, mul-right-comm, mul-le-mul-right, le-of-mul-le-mul-right, mul-pos, add-zero, sub-zero, zero-div, lt-irrefl, zero-lt-suc, eq-of-mul-eq-mul-right, zero-add, mul-le-mul-left, div-lt-iff-lt-mul, mul-lt-mul-of-pos-right, add-mul}
+use mathlib.Core.Logic.{inl, inr}
+use Prim.Native.Nat.{ℕ, zero, suc, _+_, _-_, _*_, _/_, _%_, _^_, _≤_, _<_, min}
+use native.Mathlib.Nat.{le-trans, le-of-eq, lt-of-not-le, not-le-of-lt, eq-zero-or-pos, mul-one, zero-mul, mul-comm, mul-assoc, mul-right-comm, le-of-mul-le-mul-right, mul-pos, add-zero, sub-zero, eq-of-mul-eq-mul-right, zero-add, mul-le-mul-left, div-lt-iff-lt-mul, mul-lt-mul-of-pos-right, add-mul}
 use native.Mathlib.Omega.{arith}
-use mathlib.Core.Bool.{Bool, true, false, not, _&&_, _||_, cond, true≢false}
+use mathlib.Core.Bool.{Bool, true, false, not, _&&_, true≢false}
 use lib.IntN.{ℤ, pos, negsuc}
-use lib.Dec.{T, ltb, leb, eqb, ltb→lt, nltb→le, lt→ltb, eqb→eq, eqb-refl, leb→le}
-use lib.Pow.{pow-add, pow-pos, pow-mono, pow-lt}
-use lib.Ieee.{Float, nan, inf, fin, binary64, up, down, unlike, size, round, neg, sum, add, sub, mul, lt, le, fits, isNan, ofInt, toUnsigned}
+use lib.Dec.{T, ltb, leb, eqb, ltb→lt, lt→ltb, leb→le}
+use lib.Pow.{pow-add, pow-pos, pow-mono}
+use lib.Ieee.{Float, nan, inf, fin, binary64, up, down, unlike, size, round, neg, add, sub, mul, lt, le, fits, isNan, ofInt, toUnsigned}
 use lib.Ieee.Digits.{size-le, back}
 use lib.Ieee.Fits.{up-pos, down-pos, and-l, and-r, round-is}
 use lib.Ieee.Exact.{HasValue, units-val}
@@ -17,7 +17,9 @@ use lib.Ieee.Nearest.{closest, div-same}
 use lib.Ieee.Order.{drop, kept}
 use lib.Ieee.Scale.{overflow, round-same}
 use Rattle.rounding.proofs.Half.{closest-off}
-use Rattle.rounding.proofs.Units.{G, G-exact, Units, of-value, add-units, sub-units, mul-units, lt-units, cross, in-units-sub, cross-back, pow-le-back, less-opened, zero-round}
+use Rattle.rounding.proofs.Units.{G, G-exact, Units, add-units, sub-units, mul-units, lt-units, in-units-sub, cross-back, less-opened, zero-round, G-zero, first-zero, mul-opened, opposite-r, one-value}
+use Rattle.rounding.proofs.Pattern.{pow-le-back}
+use Rattle.rounding.proofs.Order.{fin-le, zero-le-fin}
 
 -- ---- tests from facts
 by-test : (b : Bool) → (T (not b) → ⊥) → T b
@@ -28,28 +30,10 @@ pub lt-from : (x : Float) (m : ℕ) (e : ℤ) (n k : ℕ) → Units x n → Unit
 lt-from x m e n k p q h = by-test (lt x (fin false m e)) (λ t. not-le-of-lt h (lt-units x m e n k p q .1 t))
 
 pub nonneg : (x : Float) (n : ℕ) → Units x n → T (le (fin false 0 (pos 0)) x)
-unfolding le
 nonneg nan n p = absurd p
 nonneg (inf s) n p = absurd p
-nonneg (fin false m e) n p = by-test (ltb (0 * 1 * down e) (m * up e * 1) || (eqb (0 * 1 * down e) (m * up e * 1) && true)) (λ t. no (0 * 1 * down e) (m * up e * 1) (zero-mul (down e)) t)
-  where
-    same : (a b : ℕ) → a ≡ 0 → b ≤ a → a ≡ b
-    same a b e h = omega arith
-
-    first : (x y : Bool) → T (not (x || y)) → T (not x) × T (not y)
-    first true y t = absurd t
-    first false y t = (tt, t)
-
-    last : (y : Bool) → T y → T (not (y && true)) → ⊥
-    last true t n = n
-    last false t n = t
-
-    no : (a b : ℕ) → a ≡ 0 → T (not (ltb a b || (eqb a b && true))) → ⊥
-    no a b e t = let s = first (ltb a b) (eqb a b && true) t in last (eqb a b) (subst (λ (x : ℕ). T (eqb a x)) (same a b e (nltb→le a b (s .0))) (eqb-refl a)) (s .1)
-nonneg (fin true m e) n p = yes (0 * 1 * down e) (m * up e * 1) (zero-mul (down e)) (mul-one (m * up e) ∙ ap (λ (x : ℕ). x * up e) (p .0) ∙ zero-mul (up e))
-  where
-    yes : (a b : ℕ) → a ≡ 0 → b ≡ 0 → T (eqb a b && eqb a 0)
-    yes a b e f = subst (λ (x : ℕ). T (eqb a x && eqb a 0)) (sym f) (subst (λ (x : ℕ). T (eqb x 0 && eqb x 0)) (sym e) tt)
+nonneg (fin false m e) n p = zero-le-fin m e
+nonneg (fin true m e) n p = fin-le false 0 (pos 0) true m e (zero-mul (down e), mul-one (m * up e) ∙ ap (λ (x : ℕ). x * up e) (p .0) ∙ zero-mul (up e))
 
 pub above-minus-one : (x : Float) (n : ℕ) → Units x n → T (lt (fin true 1 (pos 0)) x)
 unfolding lt
@@ -71,16 +55,6 @@ no-nan (inf s) n p = tt
 no-nan (fin s m e) n p = tt
 
 -- ---- a product, with zeros
-mul-opened : (s : Bool) (m : ℕ) (e : ℤ) (t : Bool) (n : ℕ) (d : ℤ) → mul binary64 (fin s m e) (fin t n d) ≡ round binary64 (unlike s t) (m * up e * (n * up d)) (down e * down d)
-unfolding mul
-mul-opened s m e t n d = refl
-
-G-zero : (c : ℕ) → 0 < c → G 0 c ≡ 0
-G-zero c C = G-exact 0 c 0 0 C (pow-pos 53) (sym (zero-mul c))
-
-first-zero : (m u : ℕ) → 0 < u → m * u ≡ 0 → m ≡ 0
-first-zero m u U e = elim (eq-zero-or-pos m) [ inl z ↦ z | inr p ↦ absurd (lt-irrefl 0 (subst (λ (x : ℕ). 0 < x) e (mul-pos p U))) ]
-
 -- no units: m is 0
 no-units : (s : Bool) (m : ℕ) (e : ℤ) → Units (fin s m e) 0 → m ≡ 0
 no-units true m e p = p .0
@@ -107,7 +81,7 @@ mul-all (fin s m e) (fin t i d) n k p q l = elim (eq-zero-or-pos n) [
 ]
 
 -- ---- a difference, with zeros
-sub-is : (x y : Float) → sub binary64 x y ≡ add binary64 x (neg y)
+pub sub-is : (x y : Float) → sub binary64 x y ≡ add binary64 x (neg y)
 unfolding sub
 sub-is x y = refl
 
@@ -186,17 +160,9 @@ rep-of (fin false (suc m) e) n F p =
 pub round-value : (s : Bool) (a c : ℕ) → G a c < overflow binary64 → HasValue (round binary64 s a c) s (G a c) (2 ^ 1074)
 round-value s a c h = subst (λ (z : Float). HasValue z s (G a c) (2 ^ 1074)) (sym (round-is binary64 s a c)) (units-val binary64 s (kept 53 (a * 2 ^ 1074) c) (drop 53 (a * 2 ^ 1074) c) h)
 
-sum-more : (a b c : ℕ) → a < b → sum binary64 false a true b c ≡ round binary64 true (b - a) c
-unfolding sum
-sum-more a b c h = go (ltb a b) (nltb→le a b)
-  where
-    go : (t : Bool) → (T (not t) → b ≤ a) → cond t (round binary64 true (b - a) c) (round binary64 false (a - b) c) ≡ round binary64 true (b - a) c
-    go true k = refl
-    go false k = absurd (not-le-of-lt h (k tt))
-
-minus-zero : (m : ℕ) (e : ℤ) (n : ℕ) (d : ℤ) → m ≡ 0 → sub binary64 (fin true m e) (fin false n d) ≡ round binary64 true (n * up d * down e) (down e * down d)
+zero-minus : (m : ℕ) (e : ℤ) (n : ℕ) (d : ℤ) → m ≡ 0 → sub binary64 (fin true m e) (fin false n d) ≡ round binary64 true (n * up d * down e) (down e * down d)
 unfolding sub
-minus-zero m e n d z = ap (λ (x : ℕ). round binary64 true (x * up e * down d + n * up d * down e) (down e * down d)) z ∙ ap (λ (x : ℕ). round binary64 true (x * down d + n * up d * down e) (down e * down d)) (zero-mul (up e)) ∙ ap (λ (x : ℕ). round binary64 true (x + n * up d * down e) (down e * down d)) (zero-mul (down d)) ∙ ap (λ (x : ℕ). round binary64 true x (down e * down d)) (zero-add (n * up d * down e))
+zero-minus m e n d z = ap (λ (x : ℕ). round binary64 true (x * up e * down d + n * up d * down e) (down e * down d)) z ∙ ap (λ (x : ℕ). round binary64 true (x * down d + n * up d * down e) (down e * down d)) (zero-mul (up e)) ∙ ap (λ (x : ℕ). round binary64 true (x + n * up d * down e) (down e * down d)) (zero-mul (down d)) ∙ ap (λ (x : ℕ). round binary64 true x (down e * down d)) (zero-add (n * up d * down e))
 
 pub sub-negative : (x y : Float) (n k : ℕ) → Units x n → Units y k → n < k → G (k - n) (2 ^ 1074) < overflow binary64 → HasValue (sub binary64 x y) true (G (k - n) (2 ^ 1074)) (2 ^ 1074)
 sub-negative nan y n k p q h l = absurd p
@@ -211,11 +177,11 @@ sub-negative (fin true m e) (fin false i d) n k p q h l =
     let z : k - n ≡ k = ap (λ (x : ℕ). k - x) (p .1) ∙ sub-zero k in
     subst (λ (w : ℕ). HasValue (sub binary64 (fin true m e) (fin false i d)) true (G w (2 ^ 1074)) (2 ^ 1074)) (sym z)
     (subst (λ (w : Float). HasValue w true (G k (2 ^ 1074)) (2 ^ 1074))
-    (sym (minus-zero m e i d (p .0) ∙ round-same binary64 true (i * up d * down e) (down e * down d) k (2 ^ 1074) (mul-pos (down-pos e) (down-pos d)) (pow-pos 1074) (mul-right-comm (i * up d) (down e) (2 ^ 1074) ∙ ap (λ (w : ℕ). w * down e) q ∙ mul-assoc k (down d) (down e) ∙ ap (λ (w : ℕ). k * w) (mul-comm (down d) (down e)))))
+    (sym (zero-minus m e i d (p .0) ∙ round-same binary64 true (i * up d * down e) (down e * down d) k (2 ^ 1074) (mul-pos (down-pos e) (down-pos d)) (pow-pos 1074) (one-value i d k e q)))
     (round-value true k (2 ^ 1074) (subst (λ (w : ℕ). G w (2 ^ 1074) < overflow binary64) z l)))
 sub-negative (fin false m e) (fin false i d) n k p q h l =
     subst (λ (w : Float). HasValue w true (G (k - n) (2 ^ 1074)) (2 ^ 1074))
-    (sym (less-opened m e i d ∙ sum-more (m * up e * down d) (i * up d * down e) (down e * down d) (cross-lt n k (down e) (down d) (m * up e) (i * up d) p q (down-pos e) (down-pos d) h)
+    (sym (less-opened m e i d ∙ opposite-r true (m * up e * down d) (i * up d * down e) (down e * down d) (cross-lt n k (down e) (down d) (m * up e) (i * up d) p q (down-pos e) (down-pos d) h)
     ∙ ap (round binary64 true (i * up d * down e - m * up e * down d)) (mul-comm (down e) (down d))
     ∙ round-same binary64 true (i * up d * down e - m * up e * down d) (down d * down e) (k - n) (2 ^ 1074) (mul-pos (down-pos d) (down-pos e)) (pow-pos 1074) (in-units-sub k n (down d) (down e) (i * up d) (m * up e) q p)))
     (round-value true (k - n) (2 ^ 1074) l)

@@ -1,13 +1,13 @@
 -- Comparison by sign and size: what `le` says of two finite values, that a negation turns it round, and that rounding keeps the sign. For either format. Assumes nothing.
 use mathlib.Core.Path.{_≡_, refl, sym, ap, _∙_}
 use mathlib.Core.Logic.{_⊎_, inl, inr}
-use Prim.Native.Nat.{ℕ, zero, suc, _+_, _-_, _*_, _/_, _%_, _^_, _≤_, _<_, compare}
-use native.Mathlib.Nat.{le-of-lt, le-of-eq, eq-or-lt-of-le, eq-zero-or-pos}
+use Prim.Native.Nat.{ℕ, zero, suc, _+_, _-_, _*_, _/_, _%_, _^_, _≤_, _<_, compare, zero-le}
+use native.Mathlib.Nat.{le-of-lt, le-of-eq, le-trans, eq-or-lt-of-le, eq-zero-or-pos, zero-mul}
 use native.Mathlib.Omega.{arith}
 use mathlib.Core.Bool.{_||_, Bool, true, false, not, _&&_, cond, true≢false, false≢true}
-use lib.IntN.{ℤ}
-use lib.Dec.{T, leb, ltb, eqb, ltb→lt, lt→ltb, le→leb, eqb→eq}
-use lib.Arith.{lt→nleb}
+use lib.IntN.{ℤ, pos}
+use lib.Dec.{T, leb, ltb, eqb, ltb→lt, nltb→le, lt→ltb, le→leb, eqb→eq}
+use lib.Arith.{lt→nleb, lt-of-le-ne}
 use lib.Ieee.{Float, nan, inf, fin, Format, binary32, binary64, prec, emax, low, up, down, below, level, lt, eq, le, neg, odd, units, round, nearest, size, ofFields, ofBits, hid, ones, top}
 use lib.Ieee.Fits.{and-i, and-l, and-r, eq→eqb}
 use lib.Ieee.Bits.{is-true, is-false}
@@ -42,11 +42,20 @@ both-zero a b t =
 zeros : (a b : ℕ) → a ≡ 0 → b ≡ 0 → T (eqb a b && eqb a 0)
 zeros a b A B = and-i (eqb a b) (eqb a 0) (eq→eqb {a = a} {b = b} (A ∙ sym B)) (eq→eqb {a = a} {b = 0} A)
 
-le-out : (s : Bool) (a : ℕ) (t : Bool) (b : ℕ) → T (below s a t b || level s a t b) → Le s a t b
+pub le-out : (s : Bool) (a : ℕ) (t : Bool) (b : ℕ) → T (below s a t b || level s a t b) → Le s a t b
 le-out false a false b h = elim (or-split (ltb a b) (eqb a b && true) h) [ inl l ↦ le-of-lt (ltb→lt a b l) | inr e ↦ le-of-eq (same a b e) ]
 le-out true a false b h = tt
 le-out false a true b h = both-zero a b h
 le-out true a true b h = elim (or-split (ltb b a) (eqb a b && true) h) [ inl l ↦ le-of-lt (ltb→lt b a l) | inr e ↦ le-of-eq (sym (same a b e)) ]
+
+-- and where the test fails, of two that are not negative
+pub le-out-no : (a b : ℕ) → T (not (below false a false b || level false a false b)) → b < a
+le-out-no a b t = go (ltb a b) (nltb→le a b) (eqb a b) (λ (e : a ≡ b). eq→eqb {a = a} {b = b} e) t
+  where
+    go : (x : Bool) → (T (not x) → b ≤ a) → (y : Bool) → (a ≡ b → T y) → T (not (x || (y && true))) → b < a
+    go true f y g t = absurd t
+    go false f true g t = absurd t
+    go false f false g t = lt-of-le-ne (f tt) (λ (e : b ≡ a). g (sym e))
 
 le-in : (s : Bool) (a : ℕ) (t : Bool) (b : ℕ) → Le s a t b → T (below s a t b || level s a t b)
 le-in false a false b h = elim (eq-or-lt-of-le h) [ inl e ↦ or-r (ltb a b) (eqb a b && true) (and-i (eqb a b) true (eq→eqb {a = a} {b = b} e) tt) | inr l ↦ or-l (ltb a b) (eqb a b && true) (lt→ltb a b l) ]
@@ -67,6 +76,10 @@ le-fin s m e t n d h = le-out s (m * up e * down d) t (n * up d * down e) h
 pub fin-le : (s : Bool) (m : ℕ) (e : ℤ) (t : Bool) (n : ℕ) (d : ℤ) → Le s (m * up e * down d) t (n * up d * down e) → T (le (fin s m e) (fin t n d))
 unfolding le lt eq
 fin-le s m e t n d h = le-in s (m * up e * down d) t (n * up d * down e) h
+
+-- 0 is at most every value without a sign
+pub zero-le-fin : (m : ℕ) (e : ℤ) → T (le (fin false 0 (pos 0)) (fin false m e))
+zero-le-fin m e = fin-le false 0 (pos 0) false m e (le-trans (le-of-eq (zero-mul (down e))) zero-le)
 
 turned : (s : Bool) (a : ℕ) (t : Bool) (b : ℕ) → Le s a t b → Le (not t) b (not s) a
 turned false a false b h = h

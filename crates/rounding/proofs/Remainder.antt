@@ -1,8 +1,7 @@
 -- The remainder of two finite values, in units of 2 ^ -1074: that of their units, rounded. Assumes nothing.
 use mathlib.Core.Path.{_≡_, refl, sym, ap, _∙_, subst}
-use mathlib.Core.Logic.{inl, inr}
 use Prim.Native.Nat.{ℕ, _+_, _-_, _*_, _/_, _%_, _^_, _≤_, _<_}
-use native.Mathlib.Nat.{le-of-eq, lt-of-lt-of-le, lt-of-le-of-lt, eq-zero-or-pos, lt-irrefl, zero-mul, mul-comm, mul-assoc, mul-right-comm, mul-pos, div-add-mod', add-mul, mul-sub, mul-lt-mul-of-pos-right, lt-of-mul-lt-mul-right, le-of-mul-le-mul-right, mul-add-mod-self-right, mod-eq-of-lt, mod-lt}
+use native.Mathlib.Nat.{le-of-eq, lt-of-lt-of-le, lt-of-le-of-lt, mul-comm, mul-assoc, mul-right-comm, mul-pos, div-add-mod', add-mul, mul-sub, mul-lt-mul-of-pos-right, lt-of-mul-lt-mul-right, le-of-mul-le-mul-right, mul-add-mod-self-right, mod-eq-of-lt, mod-lt}
 use native.Mathlib.Omega.{arith}
 use mathlib.Core.Bool.{Bool, true, false, cond}
 use lib.IntN.{ℤ}
@@ -11,12 +10,9 @@ use lib.Pow.{pow-pos}
 use lib.Ieee.{Float, nan, inf, fin, binary64, up, down, round, rem}
 use lib.Ieee.Fits.{down-pos}
 use lib.Ieee.Scale.{overflow, round-same}
-use Rattle.rounding.proofs.Units.{G}
+use Rattle.rounding.proofs.Units.{G, first-pos, no-less}
 use Rattle.rounding.proofs.More.{round-value}
 use Rattle.rounding.proofs.Val.{Val}
-
-first-pos : (a b : ℕ) → 0 < a * b → 0 < a
-first-pos a b h = elim (eq-zero-or-pos a) [ inl z ↦ absurd (lt-irrefl 0 (subst (λ (x : ℕ). 0 < x) (ap (λ (x : ℕ). x * b) z ∙ zero-mul b) h)) | inr p ↦ p ]
 
 -- a and b over one denominator: the remainder is too
 mod-scaled : (a b n k p d : ℕ) → 0 < p → 0 < d → 0 < k → a * p ≡ n * d → b * p ≡ k * d → a % b * p ≡ n % k * d
@@ -43,11 +39,8 @@ opened : (s : Bool) (m : ℕ) (e : ℤ) (t : Bool) (i : ℕ) (d : ℤ) → 0 < i
 unfolding rem
 opened s m e t i d h = go (eqb i 0) (eqb→eq i 0)
   where
-    no : (i : ℕ) → 0 < i → i ≡ 0 → ⊥
-    no i h e = omega arith
-
     go : (b : Bool) → (T b → i ≡ 0) → cond b nan (round binary64 s (m * up e * down d % (i * up d * down e)) (down e * down d)) ≡ round binary64 s (m * up e * down d % (i * up d * down e)) (down e * down d)
-    go true z = absurd (no i h (z tt))
+    go true z = absurd (no-less i h (z tt))
     go false z = refl
 
 pub rem-val : (x y : Float) (s t : Bool) (n k : ℕ) → Val x s n → Val y t k → 0 < k → G (n % k) (2 ^ 1074) < overflow binary64 → Val (rem binary64 x y) s (G (n % k) (2 ^ 1074))

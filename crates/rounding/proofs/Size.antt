@@ -2,18 +2,19 @@
 use mathlib.Core.Path.{_≡_, refl, sym, ap, _∙_, subst}
 use mathlib.Core.Logic.{_⊎_, inl, inr}
 use Prim.Native.Nat.{ℕ, zero, suc, _+_, _-_, _*_, _%_, _^_, _≤_, _<_, zero-le}
-use native.Mathlib.Nat.{le-refl, le-trans, le-of-eq, le-of-lt, lt-of-lt-of-le, lt-of-le-of-lt, eq-or-lt-of-le, zero-mul, mul-assoc, mul-right-comm, mul-le-mul-right, mul-le-mul, mul-pos, sub-self, le-antisymm, mul-lt-mul-of-pos-right, lt-of-mul-lt-mul-right, zero-lt-suc}
+use native.Mathlib.Nat.{le-refl, le-trans, le-of-eq, le-of-lt, lt-of-lt-of-le, lt-of-le-of-lt, eq-or-lt-of-le, zero-mul, mul-assoc, mul-right-comm, mul-le-mul-right, mul-le-mul, mul-pos, sub-self, le-antisymm, mul-lt-mul-of-pos-right, lt-of-mul-lt-mul-right}
 use native.Mathlib.Omega.{arith}
-use mathlib.Core.Bool.{Bool, true, false, not, _&&_, _||_, cond}
-use lib.IntN.{ℤ, pos}
-use lib.Dec.{T, leb, ltb, eqb, leb→le, nleb→lt, ltb→lt, lt→ltb, lit<, lit≤}
+use mathlib.Core.Bool.{Bool, true, false, not, _&&_, cond}
+use lib.IntN.{ℤ}
+use lib.Dec.{T, leb, ltb, eqb, leb→le, nleb→lt, ltb→lt, lit<, lit≤}
 use lib.Pow.{pow-add, pow-pos, pow-mono}
-use lib.Ieee.{Float, nan, inf, fin, binary64, up, down, round, neg, sum, add, sub, lt, le, fits}
+use lib.Ieee.{Float, nan, inf, fin, binary64, up, down, round, neg, sum, add, lt, fits}
 use lib.Ieee.Digits.{back}
-use lib.Ieee.Fits.{up-pos, down-pos, and-r}
+use lib.Ieee.Fits.{down-pos, and-r}
 use lib.Ieee.Scale.{overflow, finite}
-use Rattle.rounding.proofs.Units.{G, G-exact, G-le, Units, cross, units-of}
+use Rattle.rounding.proofs.Units.{G, G-zero, G-le, Units, cross, units-of, sum-less, opened}
 use Rattle.rounding.proofs.More.{Rep, rep-of, R-error, round-value}
+use Rattle.rounding.proofs.Order.{zero-le-fin}
 use Rattle.rounding.proofs.Val.{Val, neg-val, add-same, add-opposite, add-opposite-r}
 
 abbrev pub Within : Float → ℕ → Type 0
@@ -37,14 +38,6 @@ units-within (fin true m e) n b p h = (true, 0, (refl, ap (λ (x : ℕ). x * up 
 zero-eq : (u d : ℕ) → 0 * u * 2 ^ 1074 ≡ 0 * d
 zero-eq u d = ap (λ (x : ℕ). x * 2 ^ 1074) (zero-mul u) ∙ sym (zero-mul d)
 
-not-below : (m : ℕ) (e : ℤ) → T (le (fin false 0 (pos 0)) (fin false (suc m) e))
-unfolding le lt
-not-below m e = first (ltb (0 * 1 * down e) (suc m * up e * 1)) (eqb (0 * 1 * down e) (suc m * up e * 1) && true) (lt→ltb (0 * 1 * down e) (suc m * up e * 1) (lt-of-le-of-lt (le-of-eq (zero-mul (down e))) (mul-pos (mul-pos (zero-lt-suc m) (up-pos e)) (zero-lt-suc 0))))
-  where
-    first : (x y : Bool) → T x → T (x || y)
-    first true y t = tt
-    first false y t = absurd t
-
 under-top : (m : ℕ) (e : ℤ) (n : ℕ) → T (fits binary64 (fin false (suc m) e)) → suc m * up e * 2 ^ 1074 ≡ n * down e → n < overflow binary64
 unfolding fits
 under-top m e n F p =
@@ -67,7 +60,7 @@ number nan F h = absurd h
 number (inf s) F h = absurd h
 number (fin s zero e) F h = record { sign = s; count = 0; is = (refl, zero-eq (up e) (down e)); exact = (0, 0, pow-pos 53, refl); under = pow-pos 2098 }
 number (fin s (suc m) e) F h =
-    let u = units-of (fin false (suc m) e) F (not-below m e) tt in
+    let u = units-of (fin false (suc m) e) F (zero-le-fin (suc m) e) tt in
     record { sign = s; count = u .0; is = (refl, u .1); exact = rep-of (fin false (suc m) e) (u .0) F (u .1); under = under-top m e (u .0) F (u .1) }
 
 -- ---- sums. b is q * 2 ^ j, a value of the format
@@ -81,24 +74,10 @@ zero-sum true a c = go (ltb a a) (ltb→lt a a)
     go : (t : Bool) → (T t → a < a) → cond t (round binary64 false (a - a) c) (round binary64 (true && t) (a - a) c) ≡ round binary64 false 0 c
     go true k = absurd (no a (k tt))
     go false k = ap (λ (x : ℕ). round binary64 false x c) (sub-self a)
-zero-sum false a c = go (ltb a a) (ltb→lt a a)
-  where
-    no : (a : ℕ) → a < a → ⊥
-    no a h = omega arith
-
-    go : (t : Bool) → (T t → a < a) → cond t (round binary64 true (a - a) c) (round binary64 false (a - a) c) ≡ round binary64 false 0 c
-    go true k = absurd (no a (k tt))
-    go false k = ap (λ (x : ℕ). round binary64 false x c) (sub-self a)
-
-opened : (s : Bool) (m : ℕ) (e : ℤ) (t : Bool) (n : ℕ) (d : ℤ) → add binary64 (fin s m e) (fin t n d) ≡ sum binary64 s (m * up e * down d) t (n * up d * down e) (down e * down d)
-unfolding add
-opened s m e t n d = refl
+zero-sum false a c = sum-less a a c (le-refl a) ∙ ap (λ (x : ℕ). round binary64 false x c) (sub-self a)
 
 zero-val : (c : ℕ) → 0 < c → Val (round binary64 false 0 c) false 0
 zero-val c C = subst (λ (g : ℕ). Val (round binary64 false 0 c) false g) (G-zero c C) (round-value false 0 c (lt-of-le-of-lt (le-of-eq (G-zero c C)) (pow-pos 2098)))
-  where
-    G-zero : (c : ℕ) → 0 < c → G 0 c ≡ 0
-    G-zero c C = G-exact 0 c 0 0 C (pow-pos 53) (sym (zero-mul c))
 
 -- x + -x is +0
 pub add-equal : (x y : Float) (s : Bool) (n : ℕ) → Val x s n → Val y (not s) n → Val (add binary64 x y) false 0
@@ -170,10 +149,6 @@ sum-within x y b c q j Q O X Y h = go (X .0) (Y .0) (X .2) (Y .2)
         same-or-not true false = inr refl
         same-or-not false true = inr refl
         same-or-not false false = inl refl
-
-pub sub-is : (x y : Float) → sub binary64 x y ≡ add binary64 x (neg y)
-unfolding sub
-sub-is x y = refl
 
 -- ---- the largest finite value, and a sum with a small number
 abbrev pub largest : ℕ

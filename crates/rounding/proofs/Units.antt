@@ -1,23 +1,24 @@
 -- A finite `f64` that is not negative as a whole number of units of 2 ^ -1074, and the operations on such numbers: `G a c` is a / c rounded, in units.
 -- It keeps the order, and it is exact at q * 2 ^ j for a q of at most 53 digits. Assumes nothing.
 use mathlib.Core.Path.{_≡_, refl, sym, ap, _∙_, subst}
-use mathlib.Core.Logic.{_⊎_, inl, inr}
+use mathlib.Core.Logic.{inl, inr}
 use Prim.Native.Nat.{ℕ, zero, suc, _+_, _-_, _*_, _/_, _%_, _^_, _≤_, _<_, zero-le}
-use native.Mathlib.Nat.{le-refl, le-trans, le-of-eq, le-of-lt, lt-of-lt-of-le, lt-of-le-of-lt, lt-of-not-le, not-le-of-lt, le-of-suc-le-suc, le-antisymm, eq-or-lt-of-le, eq-zero-or-pos, mul-one, one-mul, zero-mul, mul-comm, mul-assoc, mul-left-comm, mul-right-comm, mul-mul-mul-comm, mul-le-mul-right, mul-lt-mul-of-pos-right, lt-of-mul-lt-mul-right, le-of-mul-le-mul-right, mul-pos, mul-div-cancel, mul-mod-left, le-div-iff-mul-le, add-mul, mul-sub, add-zero, zero-add, sub-zero, lt-irrefl, zero-lt-suc, eq-of-mul-eq-mul-right}
+use native.Mathlib.Nat.{le-trans, le-of-eq, lt-of-lt-of-le, lt-of-le-of-lt, lt-of-not-le, not-le-of-lt, le-antisymm, eq-or-lt-of-le, eq-zero-or-pos, mul-one, zero-mul, mul-comm, mul-assoc, mul-right-comm, mul-mul-mul-comm, mul-le-mul-right, le-of-mul-le-mul-right, mul-pos, mul-div-cancel, mul-mod-left, add-mul, mul-sub, add-zero, zero-add, sub-zero, lt-irrefl, zero-lt-suc}
 use native.Mathlib.Omega.{arith}
-use mathlib.Core.Bool.{Bool, true, false, not, _&&_, _||_, cond, true≢false}
+use mathlib.Core.Bool.{Bool, true, false, not, _&&_, cond, true≢false}
 use lib.IntN.{ℤ, pos, negsuc}
-use lib.Dec.{T, ltb, leb, eqb, ltb→lt, nltb→le, lt→ltb, eqb→eq, eqb-refl, leb→le}
-use lib.Pow.{pow-add, pow-pos, pow-mono, pow-lt, shl-lt}
-use lib.Ieee.{Float, nan, inf, fin, binary64, up, down, size, round, sum, add, sub, mul, lt, le, fits}
+use lib.Dec.{T, ltb, leb, eqb, ltb→lt, nltb→le, lt→ltb, eqb→eq, leb→le}
+use lib.Pow.{pow-add, pow-pos, pow-mono, shl-lt}
+use lib.Ieee.{Float, nan, inf, fin, binary64, up, down, unlike, size, round, sum, add, sub, mul, lt, le, fits}
 use lib.Ieee.Digits.{size-lt, size-le, back}
 use lib.Ieee.Fits.{up-pos, down-pos, and-l, and-r}
 use lib.Ieee.Exact.{HasValue, round-exact}
-use lib.Ieee.Nearest.{closest, closest-mono, closest-same, div-mono}
+use lib.Ieee.Nearest.{closest, closest-mono, div-mono}
 use lib.Ieee.Order.{drop, kept}
 use lib.Ieee.Scale.{grid, overflow, round-same, round-val}
-use Rattle.rounding.proofs.Pattern.{kept-le, kept-ge, pow-le-back as exponents}
+use Rattle.rounding.proofs.Pattern.{kept-le, kept-ge, pow-le-back}
 use Rattle.rounding.proofs.Half.{closest-down}
+use Rattle.rounding.proofs.Order.{le-out, le-out-no}
 
 abbrev pub G : ℕ → ℕ → ℕ
 G a c = grid binary64 a c
@@ -80,6 +81,19 @@ G-ge a c q j C Q h = le-trans (le-of-eq (sym (G-exact (q * 2 ^ j) (2 ^ 1074) q j
 pub G-le : (a c q j : ℕ) → 0 < c → q < 2 ^ 53 → a * 2 ^ 1074 ≤ q * 2 ^ j * c → G a c ≤ q * 2 ^ j
 G-le a c q j C Q h = le-trans (G-mono a c (q * 2 ^ j) (2 ^ 1074) C (pow-pos 1074) h) (le-of-eq (G-exact (q * 2 ^ j) (2 ^ 1074) q j (pow-pos 1074) Q refl))
 
+pub G-zero : (c : ℕ) → 0 < c → G 0 c ≡ 0
+G-zero c C = G-exact 0 c 0 0 C (pow-pos 53) (sym (zero-mul c))
+
+-- ---- factors of nothing and of something
+pub first-zero : (m u : ℕ) → 0 < u → m * u ≡ 0 → m ≡ 0
+first-zero m u U e = elim (eq-zero-or-pos m) [ inl z ↦ z | inr p ↦ absurd (lt-irrefl 0 (subst (λ (x : ℕ). 0 < x) e (mul-pos p U))) ]
+
+pub first-pos : (a b : ℕ) → 0 < a * b → 0 < a
+first-pos a b h = elim (eq-zero-or-pos a) [ inl z ↦ absurd (lt-irrefl 0 (subst (λ (x : ℕ). 0 < x) (ap (λ (x : ℕ). x * b) z ∙ zero-mul b) h)) | inr p ↦ p ]
+
+pub no-less : (n : ℕ) → 0 < n → n ≡ 0 → ⊥
+no-less n h e = omega arith
+
 -- ---- x is n units: finite, and not negative, -0 being 0 units
 abbrev pub Units : Float → ℕ → Type 0
 Units nan n = ⊥
@@ -100,14 +114,14 @@ rounded a c h = of-value (round binary64 false a c) (G a c) (round-val binary64 
 pub zero-round : (s : Bool) (c : ℕ) → 0 < c → Units (round binary64 s 0 c) 0
 zero-round s c C = go (round binary64 s 0 c) (round-exact binary64 s 0 c 0 0 C (pow-pos 53) (pow-pos 2098) (sym (zero-mul c)))
   where
-    first : (m u c : ℕ) → 0 < u → 0 < c → m * u * c ≡ 0 → m ≡ 0
-    first m u c U C e = elim (eq-zero-or-pos m) [ inl z ↦ z | inr p ↦ absurd (lt-irrefl 0 (subst (λ (x : ℕ). 0 < x) e (mul-pos (mul-pos p U) C))) ]
+    first : (m u : ℕ) → 0 < u → m * u * c ≡ 0 → m ≡ 0
+    first m u U e = first-zero m u U (first-zero (m * u) c C e)
 
     go : (x : Float) → HasValue x s 0 c → Units x 0
     go nan v = v
     go (inf t) v = v
-    go (fin true m e) v = (first m (up e) c (up-pos e) C (v .1 ∙ zero-mul (down e)), refl)
-    go (fin false m e) v = ap (λ (x : ℕ). x * up e * 2 ^ 1074) (first m (up e) c (up-pos e) C (v .1 ∙ zero-mul (down e))) ∙ ap (λ (x : ℕ). x * 2 ^ 1074) (zero-mul (up e)) ∙ sym (zero-mul (down e))
+    go (fin true m e) v = (first m (up e) (up-pos e) (v .1 ∙ zero-mul (down e)), refl)
+    go (fin false m e) v = ap (λ (x : ℕ). x * up e * 2 ^ 1074) (first m (up e) (up-pos e) (v .1 ∙ zero-mul (down e))) ∙ ap (λ (x : ℕ). x * 2 ^ 1074) (zero-mul (up e)) ∙ sym (zero-mul (down e))
 
 -- ---- a sum
 sum-mixed : (b c : ℕ) → sum binary64 true 0 false b c ≡ round binary64 false b c
@@ -129,13 +143,25 @@ sum-less a b c h = go (ltb a b) (ltb→lt a b)
     go true k = absurd (not-le-of-lt (k tt) h)
     go false k = refl
 
-sum-plus : (a b c : ℕ) → sum binary64 false a false b c ≡ round binary64 false (a + b) c
+-- one sign
+pub same-sign : (s : Bool) (a b c : ℕ) → sum binary64 s a s b c ≡ round binary64 s (a + b) c
 unfolding sum
-sum-plus a b c = refl
+same-sign true a b c = refl
+same-sign false a b c = refl
 
-sum-zeros : (c : ℕ) → sum binary64 true 0 true 0 c ≡ round binary64 true 0 c
+-- two signs, the second one's size the larger
+pub opposite-r : (s : Bool) (a b c : ℕ) → a < b → sum binary64 (not s) a s b c ≡ round binary64 s (b - a) c
 unfolding sum
-sum-zeros c = refl
+opposite-r true a b c h = go (ltb a b) (lt→ltb a b h)
+  where
+    go : (t : Bool) → T t → cond t (round binary64 true (b - a) c) (round binary64 false (a - b) c) ≡ round binary64 true (b - a) c
+    go true w = refl
+    go false w = absurd w
+opposite-r false a b c h = go (ltb a b) (lt→ltb a b h)
+  where
+    go : (t : Bool) → T t → cond t (round binary64 false (b - a) c) (round binary64 (true && ltb b a) (a - b) c) ≡ round binary64 false (b - a) c
+    go true w = refl
+    go false w = absurd w
 
 -- the same fraction, with its parts in units
 pub in-units : (a b de dd x y : ℕ) → x * 2 ^ 1074 ≡ a * de → y * 2 ^ 1074 ≡ b * dd → (x * dd + y * de) * 2 ^ 1074 ≡ (a + b) * (de * dd)
@@ -145,14 +171,14 @@ in-units a b de dd x y p q =
     ∙ ap (λ (z : ℕ). a * (de * dd) + z) (mul-right-comm y de (2 ^ 1074) ∙ ap (λ (z : ℕ). z * de) q ∙ mul-assoc b dd de ∙ ap (λ (z : ℕ). b * z) (mul-comm dd de))
     ∙ sym (add-mul a b (de * dd))
 
-opened : (s : Bool) (m : ℕ) (e : ℤ) (t : Bool) (n : ℕ) (d : ℤ) → add binary64 (fin s m e) (fin t n d) ≡ sum binary64 s (m * up e * down d) t (n * up d * down e) (down e * down d)
+pub opened : (s : Bool) (m : ℕ) (e : ℤ) (t : Bool) (n : ℕ) (d : ℤ) → add binary64 (fin s m e) (fin t n d) ≡ sum binary64 s (m * up e * down d) t (n * up d * down e) (down e * down d)
 unfolding add
 opened s m e t n d = refl
 
 gone : (m u d : ℕ) → m ≡ 0 → m * u * d ≡ 0
 gone m u d e = ap (λ (x : ℕ). x * u * d) e ∙ ap (λ (x : ℕ). x * d) (zero-mul u) ∙ zero-mul d
 
-one-value : (n : ℕ) (d : ℤ) (k : ℕ) (e : ℤ) → n * up d * 2 ^ 1074 ≡ k * down d → n * up d * down e * 2 ^ 1074 ≡ k * (down e * down d)
+pub one-value : (n : ℕ) (d : ℤ) (k : ℕ) (e : ℤ) → n * up d * 2 ^ 1074 ≡ k * down d → n * up d * down e * 2 ^ 1074 ≡ k * (down e * down d)
 one-value n d k e q = mul-right-comm (n * up d) (down e) (2 ^ 1074) ∙ ap (λ (z : ℕ). z * down e) q ∙ mul-assoc k (down d) (down e) ∙ ap (λ (z : ℕ). k * z) (mul-comm (down d) (down e))
 
 pub add-units : (x y : Float) (n k : ℕ) → Units x n → Units y k → G (n + k) (2 ^ 1074) < overflow binary64 → Units (add binary64 x y) (G (n + k) (2 ^ 1074))
@@ -162,7 +188,7 @@ add-units (fin s m e) nan n k p q h = absurd q
 add-units (fin s m e) (inf t) n k p q h = absurd q
 add-units (fin false m e) (fin false l d) n k p q h =
     subst (λ (z : Float). Units z (G (n + k) (2 ^ 1074)))
-    (sym (opened false m e false l d ∙ sum-plus (m * up e * down d) (l * up d * down e) (down e * down d) ∙ round-same binary64 false (m * up e * down d + l * up d * down e) (down e * down d) (n + k) (2 ^ 1074) (mul-pos (down-pos e) (down-pos d)) (pow-pos 1074) (in-units n k (down e) (down d) (m * up e) (l * up d) p q)))
+    (sym (opened false m e false l d ∙ same-sign false (m * up e * down d) (l * up d * down e) (down e * down d) ∙ round-same binary64 false (m * up e * down d + l * up d * down e) (down e * down d) (n + k) (2 ^ 1074) (mul-pos (down-pos e) (down-pos d)) (pow-pos 1074) (in-units n k (down e) (down d) (m * up e) (l * up d) p q)))
     (rounded (n + k) (2 ^ 1074) h)
 add-units (fin true m e) (fin false l d) n k p q h =
     subst (λ (i : ℕ). Units (add binary64 (fin true m e) (fin false l d)) (G i (2 ^ 1074))) (sym (ap (λ (x : ℕ). x + k) (p .1) ∙ zero-add k))
@@ -175,8 +201,8 @@ add-units (fin false m e) (fin true l d) n k p q h =
     (sym (opened false m e true l d ∙ ap (λ (x : ℕ). sum binary64 false (m * up e * down d) true x (down e * down d)) (gone l (up d) (down e) (q .0)) ∙ sum-less (m * up e * down d) 0 (down e * down d) zero-le ∙ ap (λ (x : ℕ). round binary64 false x (down e * down d)) (sub-zero (m * up e * down d)) ∙ ap (round binary64 false (m * up e * down d)) (mul-comm (down e) (down d)) ∙ round-same binary64 false (m * up e * down d) (down d * down e) n (2 ^ 1074) (mul-pos (down-pos d) (down-pos e)) (pow-pos 1074) (one-value m e n d p)))
     (rounded n (2 ^ 1074) (subst (λ (i : ℕ). G i (2 ^ 1074) < overflow binary64) (ap (λ (x : ℕ). n + x) (q .1) ∙ add-zero n) h)))
 add-units (fin true m e) (fin true l d) n k p q h =
-    subst (λ (i : ℕ). Units (add binary64 (fin true m e) (fin true l d)) i) (sym (ap (λ (i : ℕ). G i (2 ^ 1074)) (ap (λ (x : ℕ). x + k) (p .1) ∙ zero-add k ∙ q .1) ∙ G-exact 0 (2 ^ 1074) 0 0 (pow-pos 1074) (pow-pos 53) refl))
-    (subst (λ (z : Float). Units z 0) (sym (opened true m e true l d ∙ ap (λ (x : ℕ). sum binary64 true x true (l * up d * down e) (down e * down d)) (gone m (up e) (down d) (p .0)) ∙ ap (λ (x : ℕ). sum binary64 true 0 true x (down e * down d)) (gone l (up d) (down e) (q .0)) ∙ sum-zeros (down e * down d)))
+    subst (λ (i : ℕ). Units (add binary64 (fin true m e) (fin true l d)) i) (sym (ap (λ (i : ℕ). G i (2 ^ 1074)) (ap (λ (x : ℕ). x + k) (p .1) ∙ zero-add k ∙ q .1) ∙ G-zero (2 ^ 1074) (pow-pos 1074)))
+    (subst (λ (z : Float). Units z 0) (sym (opened true m e true l d ∙ ap (λ (x : ℕ). sum binary64 true x true (l * up d * down e) (down e * down d)) (gone m (up e) (down d) (p .0)) ∙ ap (λ (x : ℕ). sum binary64 true 0 true x (down e * down d)) (gone l (up d) (down e) (q .0)) ∙ same-sign true 0 0 (down e * down d)))
     (zero-round true (down e * down d) (mul-pos (down-pos e) (down-pos d))))
 
 -- ---- a difference x - y for y ≤ x
@@ -210,9 +236,6 @@ pub less-opened : (m : ℕ) (e : ℤ) (n : ℕ) (d : ℤ) → sub binary64 (fin 
 unfolding sub
 less-opened m e n d = refl
 
-no-less : (n : ℕ) → 0 < n → n ≡ 0 → ⊥
-no-less n h e = omega arith
-
 pub sub-units : (x y : Float) (n k : ℕ) → Units x n → Units y k → 0 < k → k ≤ n → G (n - k) (2 ^ 1074) < overflow binary64 → Units (sub binary64 x y) (G (n - k) (2 ^ 1074))
 sub-units nan y n k p q K h l = absurd p
 sub-units (inf s) y n k p q K h l = absurd p
@@ -227,9 +250,9 @@ sub-units (fin false m e) (fin false i d) n k p q K h l =
     (rounded (n - k) (2 ^ 1074) l)
 
 -- ---- a product of two that are above zero
-mul-opened : (m : ℕ) (e : ℤ) (n : ℕ) (d : ℤ) → mul binary64 (fin false m e) (fin false n d) ≡ round binary64 false (m * up e * (n * up d)) (down e * down d)
+pub mul-opened : (s : Bool) (m : ℕ) (e : ℤ) (t : Bool) (n : ℕ) (d : ℤ) → mul binary64 (fin s m e) (fin t n d) ≡ round binary64 (unlike s t) (m * up e * (n * up d)) (down e * down d)
 unfolding mul
-mul-opened m e n d = refl
+mul-opened s m e t n d = refl
 
 pub mul-units : (x y : Float) (n k : ℕ) → Units x n → Units y k → 0 < n → 0 < k → G (n * k) (2 ^ 1074 * 2 ^ 1074) < overflow binary64 → Units (mul binary64 x y) (G (n * k) (2 ^ 1074 * 2 ^ 1074))
 mul-units nan y n k p q N K l = absurd p
@@ -240,22 +263,11 @@ mul-units (fin true m e) (fin t i d) n k p q N K l = absurd (no-less n N (p .1))
 mul-units (fin false m e) (fin true i d) n k p q N K l = absurd (no-less k K (q .1))
 mul-units (fin false m e) (fin false i d) n k p q N K l =
     subst (λ (z : Float). Units z (G (n * k) (2 ^ 1074 * 2 ^ 1074)))
-    (sym (mul-opened m e i d ∙ round-same binary64 false (m * up e * (i * up d)) (down e * down d) (n * k) (2 ^ 1074 * 2 ^ 1074) (mul-pos (down-pos e) (down-pos d)) (mul-pos (pow-pos 1074) (pow-pos 1074))
+    (sym (mul-opened false m e false i d ∙ round-same binary64 false (m * up e * (i * up d)) (down e * down d) (n * k) (2 ^ 1074 * 2 ^ 1074) (mul-pos (down-pos e) (down-pos d)) (mul-pos (pow-pos 1074) (pow-pos 1074))
     (mul-mul-mul-comm (m * up e) (i * up d) (2 ^ 1074) (2 ^ 1074) ∙ ap (λ (z : ℕ). z * (i * up d * 2 ^ 1074)) p ∙ ap (λ (z : ℕ). n * down e * z) q ∙ mul-mul-mul-comm n (down e) k (down d))))
     (rounded (n * k) (2 ^ 1074 * 2 ^ 1074) l)
 
 -- ---- comparisons, the left one above zero for `le`
-or-cases : (a b : ℕ) → (T (ltb a b || (eqb a b && true)) → a ≤ b) × (T (not (ltb a b || (eqb a b && true))) → b < a)
-or-cases a b = go (ltb a b) (eqb a b) (ltb→lt a b) (nltb→le a b) (eqb→eq a b) (λ (e : a ≡ b). subst (λ (x : ℕ). T (eqb a x)) e (eqb-refl a))
-  where
-    ne : (a b : ℕ) → b ≤ a → (a ≡ b → ⊥) → b < a
-    ne a b h n = omega arith
-
-    go : (x y : Bool) → (T x → a < b) → (T (not x) → b ≤ a) → (T y → a ≡ b) → (a ≡ b → T y) → (T (x || (y && true)) → a ≤ b) × (T (not (x || (y && true))) → b < a)
-    go true y p q r s = (λ t. le-of-lt (p tt), λ t. absurd t)
-    go false true p q r s = (λ t. le-of-eq (r tt), λ t. absurd t)
-    go false false p q r s = (λ t. absurd t, λ t. ne a b (q tt) s)
-
 pub le-units : (m : ℕ) (e : ℤ) (y : Float) (n k : ℕ) → Units (fin false m e) n → 0 < n → Units y k → (T (le (fin false m e) y) → n ≤ k) × (T (not (le (fin false m e) y)) → k < n)
 unfolding le
 le-units m e nan n k p N q = absurd q
@@ -267,11 +279,10 @@ le-units m e (fin true i d) n k p N q = (λ (t : T (eqb (m * up e * down d) (i *
       where
         refl' : 0 * 2 ^ 1074 ≡ 0 * down d
         refl' = sym (zero-mul (down d))
-le-units m e (fin false i d) n k p N q =
-    let c = or-cases (m * up e * down d) (i * up d * down e) in (
-      λ t. cross-back n k (down e) (down d) (m * up e) (i * up d) (down-pos e) (down-pos d) p q (c .0 t),
-      λ t. lt-of-not-le (λ (h : n ≤ k). not-le-of-lt (c .1 t) (cross n k (down e) (down d) (m * up e) (i * up d) p q h)),
-    )
+le-units m e (fin false i d) n k p N q = (
+  λ t. cross-back n k (down e) (down d) (m * up e) (i * up d) (down-pos e) (down-pos d) p q (le-out false (m * up e * down d) false (i * up d * down e) t),
+  λ t. lt-of-not-le (λ (h : n ≤ k). not-le-of-lt (le-out-no (m * up e * down d) (i * up d * down e) t) (cross n k (down e) (down d) (m * up e) (i * up d) p q h)),
+)
 
 pub lt-units : (x : Float) (m : ℕ) (e : ℤ) (n k : ℕ) → Units x n → Units (fin false m e) k → (T (lt x (fin false m e)) → n < k) × (T (not (lt x (fin false m e))) → k ≤ n)
 unfolding lt
@@ -299,9 +310,6 @@ lt-units (fin false i d) m e n k p q = (
 )
 
 -- ---- every value of the format that is finite and not negative is some number of units
-pub pow-le-back : (a l : ℕ) → 2 ^ a ≤ 2 ^ l → a ≤ l
-pow-le-back a l h = exponents a l h
-
 pub whole-units : (m : ℕ) (e : ℤ) → down e ≤ 2 ^ 1074 → (n : ℕ) × (m * up e * 2 ^ 1074 ≡ n * down e)
 whole-units m (pos k) h = (m * 2 ^ k * 2 ^ 1074, sym (mul-one (m * 2 ^ k * 2 ^ 1074)))
 whole-units m (negsuc k) h = (m * 2 ^ (1074 - suc k), ap (λ (x : ℕ). x * 2 ^ 1074) (mul-one m) ∙ ap (λ (x : ℕ). m * x) (ap (λ (x : ℕ). 2 ^ x) (sym (back 1074 (suc k) (pow-le-back (suc k) 1074 h))) ∙ pow-add 2 (1074 - suc k) (suc k)) ∙ sym (mul-assoc m (2 ^ (1074 - suc k)) (2 ^ suc k)))
@@ -313,10 +321,7 @@ units-of (inf true) F p h = absurd p
 units-of (inf false) F p h = absurd h
 units-of (fin false zero e) F p h = (0, ap (λ (x : ℕ). x * 2 ^ 1074) (zero-mul (up e)) ∙ sym (zero-mul (down e)))
 units-of (fin false (suc m) e) F p h = whole-units (suc m) e (leb→le (down e) (2 ^ 1074) (and-r (eqb (suc m % 2) 1 && ltb (suc m) (2 ^ 53)) (leb (down e) (2 ^ 1074)) (and-l (eqb (suc m % 2) 1 && ltb (suc m) (2 ^ 53) && leb (down e) (2 ^ 1074)) (ltb (suc m * up e) (2 ^ 1024 * down e)) F)))
-units-of (fin true m e) F p h = (0, (first m (up e) (up-pos e) (sym (mul-one (m * up e)) ∙ sym (eqb→eq (0 * 1 * down e) (m * up e * 1) (and-l (eqb (0 * 1 * down e) (m * up e * 1)) (eqb (0 * 1 * down e) 0) p)) ∙ zero-mul (down e)), refl))
-  where
-    first : (m u : ℕ) → 0 < u → m * u ≡ 0 → m ≡ 0
-    first m u U e = elim (eq-zero-or-pos m) [ inl z ↦ z | inr p ↦ absurd (lt-irrefl 0 (subst (λ (x : ℕ). 0 < x) e (mul-pos p U))) ]
+units-of (fin true m e) F p h = (0, (first-zero m (up e) (up-pos e) (sym (mul-one (m * up e)) ∙ sym (eqb→eq (0 * 1 * down e) (m * up e * 1) (and-l (eqb (0 * 1 * down e) (m * up e * 1)) (eqb (0 * 1 * down e) 0) p)) ∙ zero-mul (down e)), refl))
 
 pub lt-finite : (x : Float) (m : ℕ) (e : ℤ) → T (lt x (fin false m e)) → T (lt x (inf false))
 unfolding lt

@@ -1,18 +1,18 @@
 -- Signed values: `Val x s n` says that x is finite, has the sign s, and is n units of 2 ^ -1074 in size. Each operation is exact and then rounded by `G`, and comparison goes by sign and size. Assumes nothing.
 use mathlib.Core.Path.{_≡_, refl, sym, ap, _∙_, subst}
-use mathlib.Core.Logic.{_⊎_, inl, inr}
-use Prim.Native.Nat.{ℕ, zero, suc, _+_, _-_, _*_, _/_, _%_, _^_, _≤_, _<_, zero-le}
-use native.Mathlib.Nat.{le-trans, le-of-eq, lt-of-lt-of-le, lt-of-le-of-lt, lt-of-not-le, not-le-of-lt, eq-zero-or-pos, mul-one, zero-mul, mul-comm, mul-assoc, mul-right-comm, mul-mul-mul-comm, mul-le-mul-right, mul-pos, lt-irrefl, eq-of-mul-eq-mul-right}
+use mathlib.Core.Logic.{inl, inr}
+use Prim.Native.Nat.{ℕ, zero, suc, _+_, _-_, _*_, _%_, _^_, _≤_, _<_}
+use native.Mathlib.Nat.{le-of-lt, lt-of-not-le, not-le-of-lt, eq-zero-or-pos, zero-mul, mul-comm, mul-assoc, mul-right-comm, mul-mul-mul-comm, mul-pos, lt-irrefl, eq-of-mul-eq-mul-right}
 use native.Mathlib.Omega.{arith}
-use mathlib.Core.Bool.{Bool, true, false, not, _&&_, Bool·beq, cond, true≢false, false≢true}
-use lib.IntN.{ℤ, pos, negsuc}
-use lib.Dec.{T, leb, ltb, eqb, leb→le, ltb→lt, nltb→le, lt→ltb, eqb→eq}
+use mathlib.Core.Bool.{Bool, true, false, not, _&&_, cond, false≢true}
+use lib.IntN.{ℤ}
+use lib.Dec.{T, leb, ltb, eqb, leb→le, ltb→lt, lt→ltb, eqb→eq}
 use lib.Pow.{pow-pos}
-use lib.Ieee.{Float, nan, inf, fin, binary64, up, down, unlike, round, neg, sum, add, sub, mul, div, le, fits}
+use lib.Ieee.{Float, nan, inf, fin, binary64, up, down, unlike, round, neg, sum, add, mul, div, le, fits}
 use lib.Ieee.Fits.{up-pos, down-pos, and-l, and-r}
 use lib.Ieee.Exact.{HasValue}
 use lib.Ieee.Scale.{overflow, round-same, finite}
-use Rattle.rounding.proofs.Units.{G, Units, of-value, in-units, in-units-sub, cross, cross-back, whole-units}
+use Rattle.rounding.proofs.Units.{G, Units, of-value, in-units, in-units-sub, cross, cross-back, whole-units, first-zero, first-pos, no-less, same-sign, sum-less, opposite-r, opened, mul-opened}
 use Rattle.rounding.proofs.Order.{Le, le-fin, fin-le}
 use Rattle.rounding.proofs.More.{round-value}
 
@@ -22,6 +22,13 @@ Val x s n = HasValue x s n (2 ^ 1074)
 pub val-units : (x : Float) (n : ℕ) → Val x false n → Units x n
 val-units x n v = of-value x n v
 
+-- -0 is no units
+pub minus-zero : (x : Float) → Val x true 0 → Units x 0
+minus-zero nan v = v
+minus-zero (inf s) v = v
+minus-zero (fin false m e) v = absurd (false≢true (v .0))
+minus-zero (fin true m e) v = (first-zero m (up e) (up-pos e) (first-zero (m * up e) (2 ^ 1074) (pow-pos 1074) (v .1 ∙ zero-mul (down e))), refl)
+
 -- ---- negation
 pub neg-val : (x : Float) (s : Bool) (n : ℕ) → Val x s n → Val (neg x) (not s) n
 unfolding neg
@@ -30,11 +37,6 @@ neg-val (inf t) s n v = v
 neg-val (fin t m e) s n v = (ap not (v .0), v .1)
 
 -- ---- sums
-same-sign : (s : Bool) (a b c : ℕ) → sum binary64 s a s b c ≡ round binary64 s (a + b) c
-unfolding sum
-same-sign true a b c = refl
-same-sign false a b c = refl
-
 opposite : (s : Bool) (a b c : ℕ) → b < a → sum binary64 s a (not s) b c ≡ round binary64 s (a - b) c
 unfolding sum
 opposite true a b c h = go (ltb a b) (ltb→lt a b) (ltb b a) (lt→ltb b a h)
@@ -46,18 +48,7 @@ opposite true a b c h = go (ltb a b) (ltb→lt a b) (ltb b a) (lt→ltb b a h)
     go true k u w = absurd (clash a b (k tt) h)
     go false k true w = refl
     go false k false w = absurd w
-opposite false a b c h = go (ltb a b) (ltb→lt a b)
-  where
-    clash : (a b : ℕ) → a < b → b < a → ⊥
-    clash a b p q = omega arith
-
-    go : (t : Bool) → (T t → a < b) → cond t (round binary64 true (b - a) c) (round binary64 false (a - b) c) ≡ round binary64 false (a - b) c
-    go true k = absurd (clash a b (k tt) h)
-    go false k = refl
-
-opened : (s : Bool) (m : ℕ) (e : ℤ) (t : Bool) (n : ℕ) (d : ℤ) → add binary64 (fin s m e) (fin t n d) ≡ sum binary64 s (m * up e * down d) t (n * up d * down e) (down e * down d)
-unfolding add
-opened s m e t n d = refl
+opposite false a b c h = sum-less a b c (le-of-lt h)
 
 pub add-same : (x y : Float) (s : Bool) (n k : ℕ) → Val x s n → Val y s k → G (n + k) (2 ^ 1074) < overflow binary64 → Val (add binary64 x y) s (G (n + k) (2 ^ 1074))
 add-same nan y s n k p q h = absurd p
@@ -84,10 +75,6 @@ add-opposite (fin t m e) (fin r i d) s n k p q h l =
     (round-value s (n - k) (2 ^ 1074) l)
 
 -- ---- products and quotients
-mul-opened : (s : Bool) (m : ℕ) (e : ℤ) (t : Bool) (n : ℕ) (d : ℤ) → mul binary64 (fin s m e) (fin t n d) ≡ round binary64 (unlike s t) (m * up e * (n * up d)) (down e * down d)
-unfolding mul
-mul-opened s m e t n d = refl
-
 pub mul-val : (x y : Float) (s t : Bool) (n k : ℕ) → Val x s n → Val y t k → G (n * k) (2 ^ 1074 * 2 ^ 1074) < overflow binary64 → Val (mul binary64 x y) (unlike s t) (G (n * k) (2 ^ 1074 * 2 ^ 1074))
 mul-val nan y s t n k p q l = absurd p
 mul-val (inf u) y s t n k p q l = absurd p
@@ -104,11 +91,8 @@ div-opened : (s : Bool) (m : ℕ) (e : ℤ) (t : Bool) (n : ℕ) (d : ℤ) → 0
 unfolding div
 div-opened s m e t n d h = go (eqb n 0) (eqb→eq n 0)
   where
-    no : (n : ℕ) → 0 < n → n ≡ 0 → ⊥
-    no n h e = omega arith
-
     go : (b : Bool) → (T b → n ≡ 0) → cond b (cond (eqb m 0) nan (inf (unlike s t))) (round binary64 (unlike s t) (m * up e * down d) (n * up d * down e)) ≡ round binary64 (unlike s t) (m * up e * down d) (n * up d * down e)
-    go true z = absurd (no n h (z tt))
+    go true z = absurd (no-less n h (z tt))
     go false z = refl
 
 pub div-val : (x y : Float) (s t : Bool) (n k : ℕ) → Val x s n → Val y t k → 0 < k → G n k < overflow binary64 → Val (div binary64 x y) (unlike s t) (G n k)
@@ -117,16 +101,13 @@ div-val (inf u) y s t n k p q K l = absurd p
 div-val (fin u m e) nan s t n k p q K l = absurd q
 div-val (fin u m e) (inf v) s t n k p q K l = absurd q
 div-val (fin u m e) (fin v i d) s t n k p q K l =
-    let I : 0 < i = first-pos' i (up d) (first-pos' (i * up d) (2 ^ 1074) (subst (λ (x : ℕ). 0 < x) (sym (q .1)) (mul-pos K (down-pos d)))) in
+    let I : 0 < i = first-pos i (up d) (first-pos (i * up d) (2 ^ 1074) (subst (λ (x : ℕ). 0 < x) (sym (q .1)) (mul-pos K (down-pos d)))) in
     subst (λ (z : Float). Val z (unlike s t) (G n k))
     (sym (div-opened u m e v i d I ∙ ap (λ (b : Bool). round binary64 (unlike b v) (m * up e * down d) (i * up d * down e)) (p .0) ∙ ap (λ (b : Bool). round binary64 (unlike s b) (m * up e * down d) (i * up d * down e)) (q .0)
     ∙ round-same binary64 (unlike s t) (m * up e * down d) (i * up d * down e) n k (mul-pos (mul-pos I (up-pos d)) (down-pos e)) K
     (cancel (m * up e * down d * k) (n * (i * up d * down e)) (left ∙ sym right))))
     (round-value (unlike s t) n k l)
   where
-    first-pos' : (n u : ℕ) → 0 < n * u → 0 < n
-    first-pos' n u h = elim (eq-zero-or-pos n) [ inl z ↦ absurd (lt-irrefl 0 (subst (λ (x : ℕ). 0 < x) (ap (λ (x : ℕ). x * u) z ∙ zero-mul u) h)) | inr p ↦ p ]
-
     cancel : (a b : ℕ) → a * 2 ^ 1074 ≡ b * 2 ^ 1074 → a ≡ b
     cancel a b e = eq-of-mul-eq-mul-right (2 ^ 1074) (pow-pos 1074) a b e
 
@@ -137,19 +118,6 @@ div-val (fin u m e) (fin v i d) s t n k p q K l =
     right = mul-assoc n (i * up d * down e) (2 ^ 1074) ∙ ap (λ (x : ℕ). n * x) (mul-right-comm (i * up d) (down e) (2 ^ 1074) ∙ ap (λ (x : ℕ). x * down e) (q .1) ∙ mul-comm (k * down d) (down e)) ∙ sym (mul-assoc n (down e) (k * down d))
 
 -- the second one is the larger
-opposite-r : (s : Bool) (a b c : ℕ) → a < b → sum binary64 (not s) a s b c ≡ round binary64 s (b - a) c
-unfolding sum
-opposite-r true a b c h = go (ltb a b) (lt→ltb a b h)
-  where
-    go : (t : Bool) → T t → cond t (round binary64 true (b - a) c) (round binary64 false (a - b) c) ≡ round binary64 true (b - a) c
-    go true w = refl
-    go false w = absurd w
-opposite-r false a b c h = go (ltb a b) (lt→ltb a b h)
-  where
-    go : (t : Bool) → T t → cond t (round binary64 false (b - a) c) (round binary64 (true && ltb b a) (a - b) c) ≡ round binary64 false (b - a) c
-    go true w = refl
-    go false w = absurd w
-
 pub add-opposite-r : (x y : Float) (s : Bool) (k n : ℕ) → Val x (not s) k → Val y s n → k < n → G (n - k) (2 ^ 1074) < overflow binary64 → Val (add binary64 x y) s (G (n - k) (2 ^ 1074))
 add-opposite-r nan y s k n p q h l = absurd p
 add-opposite-r (inf t) y s k n p q h l = absurd p

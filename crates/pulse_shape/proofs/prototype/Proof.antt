@@ -2,7 +2,7 @@
 use borrow.Author.Needs.{needs}
 use Prim.Native.Nat.{_≤_, _-_}
 use mathlib.Core.Path.{_≡_}
-use lib.ListN.{length, replicate, length-set}
+use lib.ListN.{length, replicate, length-set, length-replicate}
 use lib.Ieee.{binary32, ofBits}
 use Rattle.pulse_shape.specs.Convolve.{convolveAt}
 use Rattle.pulse_shape.specs.Prototype.{prototypeOf}
@@ -47,7 +47,7 @@ returns c =
     let l = c .before .loop in
     let a = c .before .before .before .before .args in
     let f = convolveAt (a .pulse .now) (a .lowpass .now) in
-    fill-done f 1792 (l .out) (l .j) (ofBits binary32 0) (c .loop-test .left) (l .inv .2)
+    fill-done f 1792 (l .out) (l .j) (replicate 1792 (ofBits binary32 0)) (c .loop-test .left) (length-replicate 1792 (ofBits binary32 0)) (l .inv .2)
 
 pub prototype-spec : {M : Type 1} → statement M
 prototype-spec =
