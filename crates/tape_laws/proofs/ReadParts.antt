@@ -1,5 +1,5 @@
--- The values of a noise section, read in parts: parts of a whole number of values, 16,384 at most, that joined are the section's bytes, give its values (`parts-values`). Assumes nothing.
-use Prim.Native.Nat.{ℕ, zero, suc, _+_, _*_, _/_, _%_, _≤_, min}
+-- The values of a noise section, read in parts: parts of a whole number of values that joined are the section's bytes, give its values (`parts-values`). Assumes nothing.
+use Prim.Native.Nat.{ℕ, zero, suc, _+_, _*_, _/_, _%_, _≤_}
 use mathlib.Core.List.{List, [], _∷_, _++_, append-assoc}
 use mathlib.Core.Path.{_≡_, refl, sym, ap, _∙_}
 use native.Mathlib.Omega.{arith}
@@ -9,12 +9,11 @@ use lib.Ieee.{Float, binary32, ofBits}
 use Rattle.le_bytes.specs.LeBytes.{leOf, leAt}
 use Rattle.call_lists.specs.PlainBench.{join}
 use Rattle.tape_floats.specs.Floats.{floatsOf}
-use Rattle.tape_feed.specs.Feeding.{noiseOf}
 use Rattle.tape_laws.specs.Fed.{Chunk}
 use Rattle.tape_laws.specs.PlainTape.{noiseIn}
 use Rattle.tape_laws.specs.TapeText.{Parts}
 
--- the first values do not turn on what stands behind them
+-- the first values do not depend on what stands behind them
 floats-front : (m : ℕ) (a b : List ℕ) → 4 * m ≤ length a → floatsOf m (a ++ b) ≡ floatsOf m a
 unfolding floatsOf leAt
 floats-front zero a b h = refl
@@ -34,21 +33,16 @@ floats-more (suc m) n b =
 floats-join : (k n : ℕ) (b rest : List ℕ) → length b ≡ 4 * k → floatsOf (k + n) (b ++ rest) ≡ floatsOf k b ++ floatsOf n rest
 floats-join k n b rest h = floats-more k n (b ++ rest) ∙ (λ i. floats-front k b rest (omega (arith, h)) i ++ floatsOf n (drop-at b rest (4 * k) h i))
 
-part-values : (b : List ℕ) → length b % 4 ≡ 0 → length b ≤ 65536 → noiseOf b ≡ floatsOf (length b / 4) b
-unfolding noiseOf
-part-values b e h = ap (λ (n : ℕ). floatsOf n b) {x = min (length b / 4) 16384} {y = length b / 4} (omega arith)
-
 all-values : (bs : List (List ℕ)) (cs : List Chunk) → Parts bs cs → (length (join bs) % 4 ≡ 0) × (noiseIn cs ≡ floatsOf (length (join bs) / 4) (join bs))
 unfolding Parts noiseIn floatsOf
 all-values [] [] p = (omega arith, ap (λ (n : ℕ). floatsOf n []) {x = 0} {y = 0 / 4} (omega arith))
 all-values [] (c ∷ cs) p = absurd p
 all-values (b ∷ bs) [] p = absurd p
 all-values (b ∷ bs) (c ∷ cs) p =
-    let later = all-values bs cs (p .3) in
+    let later = all-values bs cs (p .2) in
     let whole = length-append b (join bs) in (
       omega (arith, p .1, later .0, whole),
       (λ i. p .0 i ++ later .1 i)
-          ∙ ap (λ (xs : List Float). xs ++ floatsOf (length (join bs) / 4) (join bs)) (part-values b (p .1) (p .2))
           ∙ sym (floats-join (length b / 4) (length (join bs) / 4) b (join bs) (omega (arith, p .1)))
           ∙ ap (λ (n : ℕ). floatsOf n (b ++ join bs)) {x = length b / 4 + length (join bs) / 4} {y = length (b ++ join bs) / 4} (omega (arith, p .1, later .0, whole)),
     )
