@@ -5,9 +5,9 @@ use mathlib.Core.Bool.{Bool, true, false, cond}
 use mathlib.Core.List.{List}
 use mathlib.Core.Path.{_≡_, refl, sym, ap, _∙_, subst}
 use native.Mathlib.Omega.{arith}
-use lib.ListN.{length, take, drop, length-drop, length-take, length-replicate, take-append-drop}
+use lib.ListN.{length, take, drop, length-drop, length-take, replicate, length-replicate, take-append-drop}
 use lib.Seq.{take-append-le, drop-append-le}
-use lib.Ieee.{Float}
+use lib.Ieee.{Float, binary32, ofBits}
 use borrow.Author.Tests.{ne-eqb}
 use Rattle.constants.specs.Rate.{four}
 use Rattle.due_samples.specs.Due.{zeros}
@@ -39,6 +39,19 @@ length-zeros n = length-replicate n _
 pub lent-fits : LentFits lentByProgram
 unfolding lentByProgram
 lent-fits = record { mode-s-is = length-zeros 1792; mode-ac-is = length-zeros 1792; memory-is = length-zeros 2252 }
+
+-- rows of 0.0, as code writes them
+abbrev rowOf : ℕ → List Float
+rowOf n = replicate n (ofBits binary32 0)
+
+row-is : (n : ℕ) → rowOf n ≡ zeros n
+unfolding ofBits
+row-is n = refl
+
+-- a head that is lent such rows is opened with what the program lends
+pub opened-with : (b : Begun) (tape : List ℕ) (modeS modeAC memory : List Float) → b ≡ headOf four tape (record { modeS = modeS; modeAC = modeAC; memory = memory }) → modeS ≡ rowOf 1792 → modeAC ≡ rowOf 1792 → memory ≡ rowOf 2252 → b ≡ headOf four tape lentByProgram
+unfolding lentByProgram
+opened-with b tape modeS modeAC memory e p q r = e ∙ (λ i. headOf four tape (record { modeS = (p ∙ row-is 1792) i; modeAC = (q ∙ row-is 1792) i; memory = (r ∙ row-is 2252) i }))
 
 -- ---- what is right to report
 pub reported-refused : (tape : List ℕ) (b : Begun) → b ≡ headOf four tape lentByProgram → (number : ℕ) → b .head ≡ Beginning.the-variants.Refused number → (before : List ℕ) → Reported (Outcome.the-variants.Refused number 0) before before
