@@ -1,8 +1,8 @@
--- `tape_feed::feed_bytes` meets its contract. Assumes nothing.
+-- `tape_feed::feed_noise` meets its contract. Assumes nothing.
 use borrow.Author.Needs.{needs}
 use Rattle.tape_feed.proofs.Parts.{stays, goes-on}
-use Rattle.tape_feed.proofs.feed_bytes.Statement.{statement}
-use Rattle.tape_feed.proofs.feed_bytes.Tie as tie
+use Rattle.tape_feed.proofs.feed_noise.Statement.{statement}
+use Rattle.tape_feed.proofs.feed_noise.Tie as tie
 
 enum-told : tie.Need-enum-told
 enum-told c = search needs
@@ -28,8 +28,8 @@ same-length-3 c = c .before .before .before .before .before .before .call .kept 
 returns-2 : tie.Need-returns-2
 returns-2 c = goes-on _ _ _ _ _ _ (c .before .before .before .before .before .before .before .before .before .before .enum-told2 .given .1) (c .before .before .before .before .before .before .call .ensures)
 
-pub feed-bytes-spec : {M : Type 1} → statement M
-feed-bytes-spec =
+pub feed-noise-spec : {M : Type 1} → statement M
+feed-noise-spec =
     tie.close
     (tie.spec
     enum-told
