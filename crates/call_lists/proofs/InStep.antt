@@ -8,13 +8,13 @@ use Prim.Native.Nat.{ℕ, zero, suc, _+_, _-_, _%_, _≤_, _<_}
 use native.Mathlib.Decide.{decLe}
 use native.Mathlib.Nat.{add-mod-right, mod-lt}
 use native.Mathlib.Omega.{arith}
-use lib.ListN.{length, length-append}
+use lib.ListN.{length}
 use Rattle.call_lists.specs.Generator.{Generator, Sample, NoisePair, silence, noisy}
 use Rattle.call_lists.specs.PlainRun.{Kind, ignored, ends, reply, timeOf, ended, replyOf, replies, addNth, hit, sumAt, plainSamples, plainRecords}
 use Rattle.call_lists.specs.PlainBench.{done, Lent, Step, halt, drain, due, taking, latest, Bench, Benched, bench0, benchStep, benchOn, benchSteps}
 use Rattle.call_lists.specs.Machine.{window, rd, wr, put, later, State, Ran, opened, stateStep, wrote, sample, took, withSample, noted, machineOn, machineSteps}
 use Rattle.call_lists.specs.Laws.{Laws}
-use Rattle.call_lists.proofs.PlainFacts.{hit-before, hit-at}
+use Rattle.call_lists.proofs.PlainFacts.{length-snoc, hit-before, hit-at}
 use Rattle.call_lists.proofs.Ring.{Fit, fit-blank, rd-blank, fit-wr, fit-put, rd-back, rd-here, put-ahead, put-at}
 use Rattle.call_lists.proofs.StepFacts.{Dues, Takes, Says, step-says, reply-fits}
 use Rattle.call_lists.proofs.Reached.{Reached, Left, samples-more, reached-drain, reached-due, left-drain, left-due, take-time, take-ended, take-sum, left-take, reached-take, take-samples, take-records, take-ahead, good-on, take-short, due-left}
@@ -47,9 +47,6 @@ module _ (G : Generator) (L : Laws G) (o : G .Value) where
     fit = fit-blank G o;
     holds = λ n le lt. rd-blank G o (n % w) (mod-lt n pos);
   }
-
-  length-snoc : (vs : List (NoisePair G)) (v : NoisePair G) → length (vs ++ (v ∷ [])) ≡ suc (length vs)
-  length-snoc vs v = rw (length-append vs (v ∷ [])) (omega arith)
 
   -- the sample that the machine writes
   sample-is : (b : Bench G) (z : State G o) (v : NoisePair G) → Matches b z → sample G o z v ≡ noisy G (sumAt G (replies G t0 (b .taken)) (length (b .used))) v

@@ -6,10 +6,13 @@ use mathlib.Core.Path.{_≡_, refl, ap, _∙_}
 use Prim.Native.Nat.{ℕ, zero, suc, _+_, _-_, _≤_, _<_}
 use native.Mathlib.Nat.{le-of-suc-le-suc, not-suc-le-zero}
 use native.Mathlib.Omega.{arith}
-use lib.ListN.{length}
+use lib.ListN.{length, length-append}
 use borrow.Author.Tests.{le-leb, lt-leb}
 use Rattle.call_lists.specs.Generator.{Generator, Sample, NoisePair, noisy}
 use Rattle.call_lists.specs.PlainRun.{Kind, ignored, ends, reply, Reply, kind, timeOf, endsBy, ended, replyOf, push, replies, addNth, hit, sumFrom, sumAt, samplesFrom}
+
+pub length-snoc : {X : Type 0} (xs : List X) (x : X) → length (xs ++ (x ∷ [])) ≡ suc (length xs)
+length-snoc xs x = rw (length-append xs (x ∷ [])) (omega arith)
 
 module _ (G : Generator) where
   open Generator G using (Draw, Time, after)

@@ -4,7 +4,7 @@ use mathlib.Core.Bool.{Bool, true, false, cond, true≢false}
 use mathlib.Core.List.{List, [], _∷_, _++_, map, map-append}
 use mathlib.Core.Option.{Option, none, some}
 use mathlib.Core.Path.{_≡_, refl, sym, ap, _∙_, subst}
-use Prim.Native.Nat.{ℕ, suc, _+_, _≤_, _<_}
+use Prim.Native.Nat.{ℕ, _+_, _≤_, _<_}
 use native.Mathlib.Omega.{arith}
 use lib.ListN.{length, length-append}
 use lib.Seq.{take-all}
@@ -12,7 +12,7 @@ use Rattle.call_lists.specs.Generator.{Generator, Sample, NoisePair, sil
 use Rattle.call_lists.specs.PlainRun.{Kind, ignored, ends, reply, Reply, kind, timeOf, endsBy, ended, replyOf, push, replies, hit, sumFrom, sumAt, samplesFrom, plainSamples, plainRecords}
 use Rattle.call_lists.specs.PlainBench.{Lent, jumpsBack, latest, Bench, bench0}
 use Rattle.call_lists.specs.Laws.{Laws, NotAfter, InRange, GapInRange, AllInRange, NoJump, Accepted}
-use Rattle.call_lists.proofs.PlainFacts.{time-append, ended-append, replies-still, replies-append, sum-append, hit-before, hit-behind, samplesFrom-append, samplesFrom-same}
+use Rattle.call_lists.proofs.PlainFacts.{length-snoc, time-append, ended-append, replies-still, replies-append, sum-append, hit-before, hit-behind, samplesFrom-append, samplesFrom-same}
 use Rattle.call_lists.proofs.StepFacts.{Drains, Dues, Takes, reply-fits}
 
 module _ (G : Generator) (L : Laws G) where
@@ -91,9 +91,6 @@ module _ (G : Generator) (L : Laws G) where
       rw (take-all total (b .used) (omega arith), take-all total (b .used ++ (v ∷ [])) (rw (length-append (b .used) (v ∷ [])) (omega arith)))
       (samplesFrom-append G (replies G t0 (b .taken)) 0 (b .used) (v ∷ [])
       ∙ ap (λ (n : ℕ). samplesFrom G (replies G t0 (b .taken)) 0 (b .used) ++ samplesFrom G (replies G t0 (b .taken)) n (v ∷ [])) (omega arith))
-
-  length-snoc : (vs : List (NoisePair G)) (v : NoisePair G) → length (vs ++ (v ∷ [])) ≡ suc (length vs)
-  length-snoc vs v = rw (length-append vs (v ∷ [])) (omega arith)
 
   pub reached-drain : (b : Bench G) (l l′ : Lent G) (v : NoisePair G) → Reached b → Drains G (ended G t0 (b .taken)) (length (b .used)) l v l′ → Reached (record { taken = b .taken; used = b .used ++ (v ∷ []); mark = b .mark })
   reached-drain b l l′ v h s = record {

@@ -4,17 +4,12 @@ ghost use Rattle.message.specs.Types.{typeNumbered};
 ghost use Rattle.message.specs.Making.{checked};
 ghost use Rattle.draw.specs.Fault.{typeFits, amplitudeFits, modeACLimit, clockFits, parameterFault, messageFault, drawFault};
 use draw::Draw;
+use le_bytes::wide;
 use message::Field;
 use message::ReplyKind;
 use message::TypeFound;
 use settings::Distributions;
 use settings::MessagesPerSecond;
-
-fn wide(x: u8) -> u64
-    ensures { λ r. ⌜ r ≡ x ⌝ }
-{
-    x as u64
-}
 
 fn type_fits(rates: MessagesPerSecond, kind: u8) -> bool
     ensures { λ r. ⌜ r ≡ typeFits rates kind ⌝ }

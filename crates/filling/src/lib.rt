@@ -1,16 +1,10 @@
 // Filling what opening is lent: two lists written over the prototypes, and working memory set to 0.0. Assumes nothing.
-ghost use Prim.Native.Nat.{min};
 ghost use mathlib.Core.Bool.{cond};
 ghost use mathlib.Core.Path.{_≡_};
 ghost use lib.ListN.{length};
 ghost use Rattle.due_samples.specs.Due.{zeros};
 ghost use Rattle.filling.specs.Over.{over};
-
-fn least(a: usize, b: usize) -> usize
-    ensures { λ r. ⌜ r ≡ min a b ⌝ }
-{
-    if a < b { a } else { b }
-}
+use constants::least;
 
 // Writes a list over the first values of another, as far as either goes.
 fn copy(from: &[f32], to: &mut [f32])

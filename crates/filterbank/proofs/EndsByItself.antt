@@ -1,10 +1,10 @@
 -- A reply's samples end by themselves, for every clock error within 0.1 and first phase from 0 to 2 samples, a reply's being at most 1.1: within 1,094 samples for 240 pulses, 596 for 128, 218 for 43 and 258 for 52 (`ends-240` and so on).
 -- So the fuel of `sampleCount` and `applyFilterbank` is idle, for any number of pulses: more of it changes nothing (`count-fuel-idle`, `values-fuel-idle`). Assumes nothing.
-use mathlib.Core.Path.{_≡_, refl, sym, ap, _∙_, subst}
-use Prim.Native.Nat.{ℕ, _+_, _*_, _≤_, zero-le}
+use mathlib.Core.Path.{_≡_}
+use Prim.Native.Nat.{ℕ, zero, suc, _+_, _*_, _≤_, zero-le}
 use native.Mathlib.Omega.{arith}
 use mathlib.Core.Bool.{Bool, false}
-use mathlib.Core.List.{List, [], _∷_}
+use mathlib.Core.List.{List}
 use lib.IntN.{pos}
 use lib.Dec.{T, lit≤}
 use lib.ListN.{length}
@@ -31,6 +31,11 @@ ends-within n most m p e r = from-zero (clockCount (fuelOf four (limitOf n)) (li
   where
     from-zero : (c m : ℕ) → 0 + c ≤ m → c ≤ m
     from-zero c m h = omega arith
+
+-- up to 240 pulses and 1,094 samples meet it
+pub most-pulses : (n : ℕ) → n ≤ 240 → 8192 * limitOf n ≤ 1843 * 1094
+most-pulses zero h = lit≤ tt
+most-pulses (suc n) h = omega arith
 
 pub ends-240 : (phase e : Float) → InRange phase e → sampleCount four 240 phase e ≤ replyLimit four
 ends-240 = ends-within 240 1094 (lit≤ tt)

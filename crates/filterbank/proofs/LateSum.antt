@@ -1,13 +1,11 @@
 -- The sum over pulses laid late is the pulse sum, for up to 240 pulses and at every index. Assumes nothing.
 use Prim.Native.Nat.{ℕ, zero, suc, _+_, _-_, _<_, _≤_}
-use native.Mathlib.Nat.{le-trans, le-of-lt}
 use mathlib.Core.Path.{_≡_, refl, sym, ap, _∙_}
 use mathlib.Core.Logic.{inl, inr}
-use mathlib.Core.Bool.{Bool, true, false, cond, _&&_}
+use mathlib.Core.Bool.{Bool, false, cond, _&&_}
 use mathlib.Core.List.{List, [], _∷_, _++_}
 use native.Mathlib.Omega.{arith}
 use borrow.Author.Tests.{lt-ltb, le-ltb, le-leb, lt-leb}
-use lib.Dec.{leb, ltb}
 use lib.ListN.{length, getD, replicate, List·getD-append, List·getD-eq-default}
 use lib.Seq.{getD-append-add}
 use lib.Ieee.{Float, binary32, ofBits, add}
@@ -47,18 +45,18 @@ met pulses i k h = elim (le-or-lt k i) [
     sooner : (i k : ℕ) → i < k → k ≤ 6 → i + 6 - k < 6
     sooner i k l h = omega arith
 
+inside : (k n : ℕ) → k + suc n ≤ 7 → k ≤ 6
+inside k n h = omega arith
+
+on : (k n : ℕ) → k + suc n ≤ 7 → k + 1 + n ≤ 7
+on k n h = omega arith
+
 alike : (f g : ℕ → Bool) (taps : List Float) (k : ℕ) (sum : Float) → k + length taps ≤ 7 → ((i : ℕ) → i ≤ 6 → f i ≡ g i) → sumWhere f taps k sum ≡ sumWhere g taps k sum
 unfolding sumWhere
 alike f g [] k sum l h = refl
 alike f g (t ∷ taps) k sum l h =
     ap (λ (b : Bool). sumWhere f taps (k + 1) (cond b (add binary32 sum t) sum)) (h k (inside k (length taps) l))
     ∙ alike f g taps (k + 1) (cond (g k) (add binary32 sum t) sum) (on k (length taps) l) h
-  where
-    inside : (k n : ℕ) → k + suc n ≤ 7 → k ≤ 6
-    inside k n h = omega arith
-
-    on : (k n : ℕ) → k + suc n ≤ 7 → k + 1 + n ≤ 7
-    on k n h = omega arith
 
 -- past the last index no tap meets a pulse
 none : (f : ℕ → Bool) (taps : List Float) (k : ℕ) (sum : Float) → k + length taps ≤ 7 → ((i : ℕ) → i ≤ 6 → f i ≡ false) → sumWhere f taps k sum ≡ sum
@@ -67,12 +65,6 @@ none f [] k sum l h = refl
 none f (t ∷ taps) k sum l h =
     ap (λ (b : Bool). sumWhere f taps (k + 1) (cond b (add binary32 sum t) sum)) (h k (inside k (length taps) l))
     ∙ none f taps (k + 1) sum (on k (length taps) l) h
-  where
-    inside : (k n : ℕ) → k + suc n ≤ 7 → k ≤ 6
-    inside k n h = omega arith
-
-    on : (k n : ℕ) → k + suc n ≤ 7 → k + 1 + n ≤ 7
-    on k n h = omega arith
 
 past : (pulses : List Bool) (i : ℕ) → length pulses ≤ 240 → 246 ≤ i → (k : ℕ) → k ≤ 6 → pulseBack pulses i k ≡ false
 unfolding pulseBack

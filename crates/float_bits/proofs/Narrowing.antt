@@ -29,6 +29,9 @@ narrow-val (fin t m e) s a c C v =
     ap (λ (b : Bool). round binary32 b (m * up e) (down e)) (v .0) ∙ round-same binary32 s (m * up e) (down e) a c (down-pos e) C (v .1)
 
 -- ---- powers of two
+most : (d : ℕ) → d < 4503599627370496 → 4503599627370496 + d < 9007199254740992
+most d h = omega arith
+
 shl2 : (q a b : ℕ) → q * 2 ^ a * 2 ^ b ≡ q * 2 ^ (a + b)
 shl2 q a b = mul-assoc q (2 ^ a) (2 ^ b) ∙ ap (λ (x : ℕ). q * x) (sym (pow-add 2 a b))
 
@@ -188,9 +191,6 @@ normal k d D =
     least : (d : ℕ) → 4503599627370496 ≤ 4503599627370496 + d
     least d = omega arith
 
-    most : (d : ℕ) → d < 4503599627370496 → 4503599627370496 + d < 9007199254740992
-    most d h = omega arith
-
 subnormal : (d : ℕ) → d < 4503599627370496 → narrow (odd 53 false d 0 1074) ≡ ofBits binary32 (magnitude 0 d)
 subnormal d D =
     from 53 d 0 (magnitude 0 d) (lower d 0 925 refl (zero-lt-suc 895) (more d D) ∙ closest-zero d (2 ^ 925) (pow-pos 925) (half d 925 (more d D) (le-by 925)) ∙ sym (mag-low 0 d (zero-lt-suc 871)))
@@ -274,9 +274,6 @@ mag-le f d D =
 
     lt : (f : ℕ) → f < 897 → 872 ≤ f → f - 1 < 896
     lt f h g = omega arith
-
-    most : (d : ℕ) → d < 4503599627370496 → 4503599627370496 + d < 9007199254740992
-    most d h = omega arith
 
 -- ---- what the code asks
 -- in the normal range, and at an infinity's pattern, m being n rounded as a whole

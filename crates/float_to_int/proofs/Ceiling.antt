@@ -2,6 +2,7 @@
 use mathlib.Core.Path.{_≡_, refl, sym, ap, _∙_, subst}
 use Prim.Native.Nat.{ℕ, zero, suc, _+_, _-_, _*_, _/_, _%_, _^_, _≤_, _<_, min}
 use native.Mathlib.Nat.{lt-of-not-le, le-trans, le-of-eq, le-of-lt, lt-of-lt-of-le, lt-of-le-of-lt, mul-one, zero-mul, mul-right-comm, lt-of-mul-lt-mul-right, le-div-iff-mul-le, div-lt-iff-lt-mul, div-eq-of-lt-le, div-eq-of-lt, suc-mul, div-mul-le-self, zero-div, zero-add, le-of-mul-le-mul-right, le-antisymm, lt-div-mul-add}
+use native.Mathlib.Numerals.{add-one}
 use native.Mathlib.Omega.{arith}
 use mathlib.Core.Bool.{Bool, true, false, not, _&&_, true≢false}
 use lib.IntN.{ℤ, pos, negsuc, negℤ}
@@ -10,7 +11,7 @@ use lib.Pow.{pow-pos}
 use lib.Ieee.{Float, nan, inf, fin, binary64, up, down, lt, le, ofInt, toSigned, toUnsigned, fits}
 use lib.Ieee.Fits.{down-pos, and-l, and-r}
 use lib.Ieee.Exact.{HasValue}
-use Rattle.rounding.proofs.Order.{le-fin, fin-le}
+use Rattle.rounding.proofs.Order.{le-fin, fin-le, minus-one-lt}
 use Rattle.float_bits.proofs.Exact.{whole-value}
 use Rattle.float_bits.specs.Ceil.{ceilSigned, upward}
 
@@ -25,6 +26,9 @@ up-zero d h = ap (λ (x : ℕ). x / d) (zero-add (d - 1)) ∙ div-eq-of-lt (less
     less d h = omega arith
 
 -- nothing over, and something over
+next : (w d : ℕ) → (w + 1) * d ≡ w * d + d
+next w d = ap (λ (x : ℕ). x * d) (add-one w) ∙ suc-mul w d
+
 up-even : (a d w : ℕ) → 0 < d → a ≡ w * d → upward a d ≡ w
 up-even a d w D e = div-eq-of-lt-le d (le-of (w * d) a (d - 1) e) (lt-of-lt-of-le (lt-of (w * d) a d D e) (le-of-eq (sym (next w d))))
   where
@@ -34,12 +38,6 @@ up-even a d w D e = div-eq-of-lt-le d (le-of (w * d) a (d - 1) e) (lt-of-lt-of-l
     lt-of : (W a d : ℕ) → 0 < d → a ≡ W → a + (d - 1) < W + d
     lt-of W a d D e = omega arith
 
-    next : (w d : ℕ) → (w + 1) * d ≡ w * d + d
-    next w d = ap (λ (x : ℕ). x * d) (one w) ∙ suc-mul w d
-      where
-        one : (w : ℕ) → w + 1 ≡ suc w
-        one w = omega arith
-
 up-over : (a d w : ℕ) → 0 < d → w * d < a → a < w * d + d → upward a d ≡ w + 1
 up-over a d w D lo hi = div-eq-of-lt-le d (le-trans (le-of-eq (next w d)) (le-of (w * d) a d D lo)) (lt-of-lt-of-le (lt-of (w * d) a d D hi) (le-of-eq (sym (next (w + 1) d ∙ ap (λ (x : ℕ). x + d) (next w d)))))
   where
@@ -48,12 +46,6 @@ up-over a d w D lo hi = div-eq-of-lt-le d (le-trans (le-of-eq (next w d)) (le-of
 
     lt-of : (W a d : ℕ) → 0 < d → a < W + d → a + (d - 1) < W + d + d
     lt-of W a d D e = omega arith
-
-    next : (w d : ℕ) → (w + 1) * d ≡ w * d + d
-    next w d = ap (λ (x : ℕ). x * d) (one w) ∙ suc-mul w d
-      where
-        one : (w : ℕ) → w + 1 ≡ suc w
-        one w = omega arith
 
 -- ---- what a passed test says of x
 pub pos-above-min : (x : Float) → T (lt z x) → T (le (fin true 1 (pos 63)) x)
@@ -69,10 +61,7 @@ pos-above-one nan t = absurd t
 pos-above-one (inf true) t = absurd t
 pos-above-one (inf false) t = tt
 pos-above-one (fin true m e) t = absurd t
-pos-above-one (fin false m e) t = lt→ltb 0 (1 * 1 * down e + m * up e * 1) (more (down e) (m * up e * 1) (down-pos e))
-  where
-    more : (d n : ℕ) → 0 < d → 0 < 1 * 1 * d + n
-    more d n h = omega arith
+pos-above-one (fin false m e) t = minus-one-lt m e
 
 zero-of : (m : ℕ) (e : ℤ) → T (le (fin false m e) z) → m * up e ≡ 0
 zero-of m e t = none (m * up e) (0 * 1 * down e) (zero-mul (down e)) (le-fin false m e false 0 (pos 0) t)

@@ -32,7 +32,8 @@ pub fn holds(len: usize, at: usize, n: usize) -> bool
     at <= len - n
 }
 
-fn wide(x: u8) -> u64
+// A byte as a u64.
+pub fn wide(x: u8) -> u64
     ensures { λ r. ⌜ (r ≡ x) × (r < 256) ⌝ }
 {
     x as u64

@@ -2,7 +2,7 @@
 -- The first sample lies less than one sample past the unrounded start, or one whole sample once rounded. Assumes nothing.
 use mathlib.Core.Path.{_≡_, refl, sym, ap, _∙_, subst}
 use mathlib.Core.Logic.{inl, inr}
-use Prim.Native.Nat.{ℕ, zero, suc, _+_, _-_, _*_, _^_, _≤_, _<_}
+use Prim.Native.Nat.{ℕ, _+_, _-_, _*_, _^_, _≤_, _<_}
 use native.Mathlib.Nat.{le-trans, le-of-eq, lt-of-le-of-lt, one-mul, zero-mul, mul-le-mul, mul-le-mul-right}
 use native.Mathlib.Omega.{arith}
 use mathlib.Core.Bool.{true, false}
@@ -24,9 +24,9 @@ use Rattle.message_config.specs.declared.Delays.{Delays}
 use Rattle.message_config.specs.declared.MessageConfig.{MessageConfig}
 use Rattle.message_config.specs.Timing.{one, delayOf, unroundedStart, startOf, filterClockError, clockPhase}
 use Rattle.message_config.specs.Config.{configStart, configClockError, configClockPhase}
-use Rattle.filterbank.specs.Apply.{limitOf, sampleCount}
+use Rattle.filterbank.specs.Apply.{sampleCount}
 use Rattle.filterbank.proofs.ClockAtFour.{tenth}
-use Rattle.filterbank.proofs.EndsByItself.{InRange, ends-within}
+use Rattle.filterbank.proofs.EndsByItself.{InRange, ends-within, most-pulses}
 use Rattle.message_config_laws.proofs.InRange.{TimeInRange, DelaysInRange, ErrorInRange, delay-of, tenthUnits, within-tenth, filter-fits}
 use Rattle.message_config_laws.proofs.Starts.{Counted, counted, finite-reply, one-plus, elevenTenths, clocked-delay, le-upward, upward-lt, reply-start, start-negative, held-few, without-half, later, sooner}
 
@@ -138,11 +138,4 @@ module _ (delays : Delays) (R : DelaysInRange four delays) where
 
   -- so a reply of at most 240 pulses has at most 1,094 samples
   pub count-at-most : (n : ℕ) → n ≤ longestPulses → (c : MessageConfig) (s : ℕ) → TimeInRange (c .time) → ErrorInRange (c .reply .kind) (c .error) → configStart delays c ≡ pos s → s < 2 ^ 52 → sampleCount four n (configClockPhase delays c) (configClockError c) ≤ replyLimit four
-  count-at-most n h c s A E e small = ends-within n 1094 (room n h) (configClockPhase delays c) (configClockError c) (first-clock-of c s A E e small)
-    where
-      room : (n : ℕ) → n ≤ 240 → 8192 * limitOf n ≤ 1843 * 1094
-      room zero h = lit≤ tt
-      room (suc n) h = at n h
-        where
-          at : (n : ℕ) → suc n ≤ 240 → 8192 * (suc n + 6) ≤ 1843 * 1094
-          at n h = omega arith
+  count-at-most n h c s A E e small = ends-within n 1094 (most-pulses n h) (configClockPhase delays c) (configClockError c) (first-clock-of c s A E e small)

@@ -1,7 +1,7 @@
 // The shape of a pulse, after pulse_shape.rs: trapezoids and prototypes.
 // Each function is equal to a definition of specs/ on every input. Assumes nothing.
 ghost use mathlib.Core.Path.{_≡_};
-ghost use Prim.Native.Nat.{_≤_, _<_, _+_, _-_, min};
+ghost use Prim.Native.Nat.{_≤_, _<_, _+_, _-_};
 ghost use lib.ListN.{length};
 ghost use lib.Ieee.{binary32, ofBits};
 ghost use Rattle.constants.specs.Rate.{four};
@@ -9,6 +9,7 @@ ghost use Rattle.pulse_shape.specs.Values.{values};
 ghost use Rattle.pulse_shape.specs.Trapezoid.{trapezoidAt, modeSTrapezoid, modeACTrapezoid};
 ghost use Rattle.pulse_shape.specs.Convolve.{productsFrom, firstTerm, convolveAt};
 ghost use Rattle.pulse_shape.specs.Prototype.{prototypeOf, modeSPrototype, modeACPrototype};
+use constants::least;
 
 // m / n, each taken as an f32.
 fn ratio(m: u32, n: u32) -> f32
@@ -72,12 +73,6 @@ fn products(a: &[f32], b: &[f32], j: usize, start: usize, end: usize) -> f32
         k = k + 1;
     }
     sum
-}
-
-fn least(a: usize, b: usize) -> usize
-    ensures { λ r. ⌜ r ≡ min a b ⌝ }
-{
-    if a < b { a } else { b }
 }
 
 fn first_term(l: usize, j: usize) -> usize

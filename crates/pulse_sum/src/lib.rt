@@ -1,16 +1,10 @@
 // Sums of taps over pulses: equal to their definitions, in specs/ of `filterbank`, on every input. Assumes nothing.
 ghost use mathlib.Core.Path.{_≡_};
 ghost use mathlib.Core.Bool.{cond};
-ghost use Prim.Native.Nat.{min};
 ghost use lib.ListN.{take};
 ghost use lib.Ieee.{binary32, add};
 ghost use Rattle.filterbank.specs.LaidPulses.{late, lateSum};
-
-fn least(a: usize, b: usize) -> usize
-    ensures { λ r. ⌜ r ≡ min a b ⌝ }
-{
-    if a < b { a } else { b }
-}
+use constants::least;
 
 // The first `len` pulses laid six places late, so that a sum over them needs no tests of their places.
 pub fn lay_late(on: [bool; 240], len: usize) -> [bool; 252]

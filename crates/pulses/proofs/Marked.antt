@@ -58,7 +58,7 @@ mark-at [] l k h = refl
 mark-at (p ∷ ps) l k h =
     mark-at ps (set l p true) k (simp length-set h) ∙ one-more (eqb p k) (pulseAt ps k) l p k h refl
 
-map-length : (ps : List ℕ) (k n : ℕ) → length (mapFrom ps k n) ≡ n
+pub map-length : (ps : List ℕ) (k n : ℕ) → length (mapFrom ps k n) ≡ n
 unfolding mapFrom
 map-length ps k zero = refl
 map-length ps k (suc n) = ap suc (map-length ps (suc k) n)

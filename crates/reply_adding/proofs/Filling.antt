@@ -1,5 +1,5 @@
 -- One turn of the loop that writes a wave's values, its beginning and its two ends. Assumes nothing.
-use Prim.Native.Nat.{ℕ, zero, suc, _+_, _-_, _*_, _^_, _<_, _≤_}
+use Prim.Native.Nat.{ℕ, zero, suc, _+_, _-_, _^_, _<_, _≤_}
 use native.Mathlib.Nat.{mod-eq-of-lt, sub-zero}
 use native.Mathlib.Numerals.{add-one}
 use native.Mathlib.Omega.{arith}
@@ -10,6 +10,7 @@ use borrow.Author.Tests.{lt-ltb, le-ltb}
 use lib.ListN.{length, set, take}
 use lib.Seq.{take-suc-set}
 use lib.Ieee.{Float, binary64, add, le}
+use Rattle.pulses.proofs.Marked.{left-suc}
 use Rattle.filterbank.specs.declared.Clock.{Clock}
 use Rattle.filterbank.specs.Clocked.{one, advance, settle, in64}
 use Rattle.filterbank.specs.Apply.{clockValues, limitOf}
@@ -37,9 +38,6 @@ in64-idle d s h = go (le one (add binary64 (s .phase) d))
     go false = ap (clockAt _) (mod-eq-of-lt (still (s .index) h))
 
 -- ---- the loop
-one-less : (e n : ℕ) → n < e → e - n ≡ suc (e - (n + 1))
-one-less e n h = omega arith
-
 none-left : (e n : ℕ) → e ≤ n → e - n ≡ 0
 none-left e n h = omega arith
 
@@ -68,7 +66,7 @@ module _ (value : Clock → Float) (limit : ℕ) (step : Float) where
       ∙ ap (λ (k : List Float). k ++ rest) (take-suc-set vs n v g)
       ∙ append-assoc (take n vs) (v ∷ []) rest
       ∙ ap (λ (x : Float). take n vs ++ (x ∷ rest)) ev
-      ∙ ap (λ (k : List Float). take n vs ++ k) (sym (one-value (e - (n + 1)) s i) ∙ ap (λ (f : ℕ). clockValues f limit step value s) (sym (one-less e n h)))
+      ∙ ap (λ (k : List Float). take n vs ++ k) (sym (one-value (e - (n + 1)) s i) ∙ ap (λ (f : ℕ). clockValues f limit step value s) (sym (left-suc e n h)))
       ∙ inv
 
   pub fill-stop : (fuel n : ℕ) (vs : List Float) (s : Clock) (whole : List Float) → limit ≤ s .index → take n vs ++ clockValues fuel limit step value s ≡ whole → take n vs ≡ whole

@@ -1,49 +1,31 @@
 -- The samples of a wave over pulses laid late are those of the reply. Assumes nothing.
 use Prim.Native.Nat.{ℕ, zero, suc, _≤_}
-use native.Mathlib.Nat.{le-of-eq}
 use mathlib.Core.Path.{_≡_, refl, sym, ap, _∙_}
-use mathlib.Core.Bool.{Bool, true, false, cond}
+use mathlib.Core.Bool.{Bool, cond}
 use mathlib.Core.List.{List, [], _∷_}
-use lib.Dec.{ltb, eqb}
-use lib.ListN.{length, replicate, length-replicate}
-use lib.Ieee.{Float, binary32, ofBits}
-use Rattle.constants.specs.Rate.{four, prototypeLength, tapsPerBranch}
+use lib.Dec.{ltb}
+use lib.ListN.{length}
+use lib.Ieee.{Float}
+use Rattle.constants.specs.Rate.{four}
 use Rattle.message.specs.declared.ReplyKind.{ReplyKind}
 use Rattle.message.specs.declared.ReplyKind.the-variants.{Short, Long, ModeAc}
 use Rattle.message_config.specs.declared.Delays.{Delays}
 use Rattle.message_config.specs.declared.MessageConfig.{MessageConfig}
 use Rattle.message_config.specs.Config.{configClockPhase, configClockError, configRate, configPhase}
-use Rattle.pulse_shape.proofs.Whole.{length-values}
 use Rattle.filterbank.specs.declared.Clock.{Clock}
-use Rattle.filterbank.specs.Taps.{filterTaps, between, branch, nextBranch, branchOf, tauOf}
 use Rattle.filterbank.specs.LaidPulses.{late}
 use Rattle.filterbank.specs.Clocked.{stepOf, startClock, advance}
 use Rattle.filterbank.specs.Apply.{clockValues, limitOf, fuelOf, valueAt, applyFilterbank}
-use Rattle.filterbank.proofs.LateSum.{late-sum}
+use Rattle.filterbank.proofs.ValueAt.{value-late}
 use Rattle.reply_pulses.specs.ReplyPulses.{pulsesOf, placesOf}
 use Rattle.reply_samples.specs.Samples.{turned, samplesBy, prototypeOf, replySamples}
 use Rattle.reply_adding.specs.Mirror.{isModeAC, lateValue, waveOf, waveSamples}
 use Rattle.reply_pulses.proofs.Places.{places-len, places-most}
 
--- ---- there are seven taps
-between-length : (tau : Float) (xs ys : List Float) → length (between tau xs ys) ≡ length xs
-unfolding between
-between-length tau [] ys = refl
-between-length tau (x ∷ xs) [] = ap suc (between-length tau xs [])
-between-length tau (x ∷ xs) (y ∷ ys) = ap suc (between-length tau xs ys)
-
-taps-seven : (prototype : List Float) (phase : Float) → length (filterTaps four prototype phase) ≡ 7
-unfolding filterTaps branch
-taps-seven prototype phase = go (eqb (length prototype) (prototypeLength four))
-  where
-    go : (t : Bool) → length (cond t (between (tauOf four phase) (branch four prototype (branchOf four phase)) (nextBranch four prototype (branchOf four phase))) (replicate tapsPerBranch (ofBits binary32 0))) ≡ 7
-    go true = between-length (tauOf four phase) (branch four prototype (branchOf four phase)) (nextBranch four prototype (branchOf four phase)) ∙ length-values _ 7 0
-    go false = length-replicate 7 (ofBits binary32 0)
-
 -- ---- the same value at every clock
 value-alike : (prototype : List Float) (pulses : List Bool) → length pulses ≤ 240 → (s : Clock) → lateValue prototype (late pulses) s ≡ valueAt four prototype pulses s
-unfolding lateValue valueAt
-value-alike prototype pulses h s = late-sum (filterTaps four prototype (s .phase)) pulses (s .index) (le-of-eq (taps-seven prototype (s .phase))) h
+unfolding lateValue
+value-alike prototype pulses h s = value-late four prototype pulses s h
 
 values-alike : (f g : Clock → Float) → ((s : Clock) → f s ≡ g s) → (fuel limit : ℕ) (d : Float) (s : Clock) → clockValues fuel limit d f s ≡ clockValues fuel limit d g s
 unfolding clockValues

@@ -1,6 +1,6 @@
 -- The places of a reply: as many as its length says, at most 240; 128 for a short message, 240 for a long one, 43 for Mode A/C and 52 with SPI. And each kind's pulses and samples, as the code meets them. Assumes nothing.
-use mathlib.Core.Path.{_≡_, refl, sym, ap, _∙_, subst}
-use Prim.Native.Nat.{ℕ, zero, suc, _+_, _*_, _%_, _≤_}
+use mathlib.Core.Path.{_≡_, sym, ap, _∙_, subst}
+use Prim.Native.Nat.{ℕ, _+_, _*_, _%_, _≤_}
 use native.Mathlib.Nat.{le-trans, le-of-eq}
 use mathlib.Core.Bool.{Bool, true, false}
 use mathlib.Core.List.{List}
@@ -10,7 +10,8 @@ use lib.Seq.{length-take-le}
 use Rattle.message.specs.declared.Reply.{Reply}
 use Rattle.message.specs.declared.ReplyKind.{ReplyKind}
 use Rattle.message.specs.declared.ReplyKind.the-variants.{Short, Long, ModeAc}
-use Rattle.pulses.specs.Map.{mapFrom, mapOf}
+use Rattle.pulses.specs.Map.{mapOf}
+use Rattle.pulses.proofs.Marked.{map-length}
 use Rattle.pulses.specs.ModeS.{modeSPulses, modeSLength, modeSBits}
 use Rattle.pulses.specs.ModeAC.{modeACPulses, modeACLength}
 use Rattle.pulse_length.specs.Length.{modeSNumSamples, modeACNumSamples}
@@ -46,11 +47,6 @@ unfolding numSamplesOf
 samples-mode-ac sps r s e q = ap (modeACNumSamples sps) q ∙ ap (λ (k : ReplyKind). numSamplesOfKind sps k (r .bytes)) (sym e)
 
 -- ---- the length of a reply
-map-length : (ps : List ℕ) (k n : ℕ) → length (mapFrom ps k n) ≡ n
-unfolding mapFrom
-map-length ps k zero = refl
-map-length ps k (suc n) = ap suc (map-length ps (suc k) n)
-
 kind-on : (k : ReplyKind) (b : List ℕ) → length (pulsesOfKind k b .on) ≡ 240
 unfolding modeSPulses modeACPulses mapOf
 kind-on Short b = map-length _ 0 240

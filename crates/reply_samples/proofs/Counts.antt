@@ -1,6 +1,5 @@
 -- A reply has as many samples as its count says, at any rate; and for a clock error of its filter within 0.1 and a first phase from 0 to 2 samples at most 1,094, a short message 596, Mode A/C 218 and with SPI 258. Assumes nothing.
-use Prim.Native.Nat.{ℕ, zero, suc, _*_, _≤_}
-use native.Mathlib.Omega.{arith}
+use Prim.Native.Nat.{ℕ, suc, _*_, _≤_}
 use mathlib.Core.Path.{_≡_, refl, sym, ap, _∙_, subst}
 use mathlib.Core.Bool.{true, false}
 use mathlib.Core.List.{List, [], _∷_}
@@ -15,7 +14,7 @@ use Rattle.message_config.specs.declared.MessageConfig.{MessageConfig}
 use Rattle.message_config.specs.Config.{configClockPhase, configClockError, configRate, configPhase}
 use Rattle.pulses.specs.ModeAC.{modeACLength}
 use Rattle.filterbank.specs.Apply.{limitOf, applyFilterbank}
-use Rattle.filterbank.proofs.EndsByItself.{InRange, ends-within, values-counted}
+use Rattle.filterbank.proofs.EndsByItself.{InRange, ends-within, values-counted, most-pulses}
 use Rattle.reply_pulses.specs.ReplyPulses.{spiOf, placesOf}
 use Rattle.reply_samples.specs.Samples.{turned, samplesBy, prototypeOf, replySamples, replyCount}
 use Rattle.reply_pulses.proofs.Places.{places-most, places-short, places-mode-ac}
@@ -39,12 +38,8 @@ count-within : (delays : Delays) (c : MessageConfig) (most : ℕ) → 8192 * lim
 unfolding replyCount
 count-within delays c most h r = ends-within (length (placesOf (c .reply))) most h (configClockPhase delays c) (configClockError c) r
 
-few : (n : ℕ) → n ≤ 240 → 8192 * limitOf n ≤ 1843 * 1094
-few zero h = lit≤ tt
-few (suc n) h = omega arith
-
 pub count-most : (delays : Delays) (c : MessageConfig) → ClockInRange delays c → replyCount four delays c ≤ replyLimit four
-count-most delays c = count-within delays c 1094 (few (length (placesOf (c .reply))) (places-most (c .reply)))
+count-most delays c = count-within delays c 1094 (most-pulses (length (placesOf (c .reply))) (places-most (c .reply)))
 
 count-at : (delays : Delays) (c : MessageConfig) (n most : ℕ) → length (placesOf (c .reply)) ≡ n → 8192 * limitOf n ≤ 1843 * most → ClockInRange delays c → replyCount four delays c ≤ most
 count-at delays c n most e h = count-within delays c most (subst (λ (k : ℕ). 8192 * limitOf k ≤ 1843 * most) (sym e) h)

@@ -19,7 +19,7 @@ use lib.Ieee.Scale.{overflow, round-same}
 use Rattle.rounding.proofs.Half.{closest-off}
 use Rattle.rounding.proofs.Units.{G, G-exact, Units, add-units, sub-units, mul-units, lt-units, in-units-sub, cross-back, less-opened, zero-round, G-zero, first-zero, mul-opened, opposite-r, one-value}
 use Rattle.rounding.proofs.Pattern.{pow-le-back}
-use Rattle.rounding.proofs.Order.{fin-le, zero-le-fin}
+use Rattle.rounding.proofs.Order.{fin-le, zero-le-fin, minus-one-lt}
 
 -- ---- tests from facts
 by-test : (b : Bool) → (T (not b) → ⊥) → T b
@@ -39,10 +39,7 @@ pub above-minus-one : (x : Float) (n : ℕ) → Units x n → T (lt (fin true 1 
 unfolding lt
 above-minus-one nan n p = absurd p
 above-minus-one (inf s) n p = absurd p
-above-minus-one (fin false m e) n p = lt→ltb 0 (1 * 1 * down e + m * up e * 1) (more (down e) (m * up e * 1) (down-pos e))
-  where
-    more : (d n : ℕ) → 0 < d → 0 < 1 * 1 * d + n
-    more d n h = omega arith
+above-minus-one (fin false m e) n p = minus-one-lt m e
 above-minus-one (fin true m e) n p = lt→ltb (m * up e * 1) (1 * 1 * down e) (more (down e) (m * up e * 1) (down-pos e) (mul-one (m * up e) ∙ ap (λ (x : ℕ). x * up e) (p .0) ∙ zero-mul (up e)))
   where
     more : (d n : ℕ) → 0 < d → n ≡ 0 → n < 1 * 1 * d

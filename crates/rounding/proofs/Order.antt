@@ -9,7 +9,7 @@ use lib.IntN.{ℤ, pos}
 use lib.Dec.{T, leb, ltb, eqb, ltb→lt, nltb→le, lt→ltb, le→leb, eqb→eq}
 use lib.Arith.{lt→nleb, lt-of-le-ne}
 use lib.Ieee.{Float, nan, inf, fin, Format, binary32, binary64, prec, emax, low, up, down, below, level, lt, eq, le, neg, odd, units, round, nearest, size, ofFields, ofBits, hid, ones, top}
-use lib.Ieee.Fits.{and-i, and-l, and-r, eq→eqb}
+use lib.Ieee.Fits.{down-pos, and-i, and-l, and-r, eq→eqb}
 use lib.Ieee.Bits.{is-true, is-false}
 
 -- ---- ±a ≤ ±b, the signs apart: -0 equals +0
@@ -80,6 +80,14 @@ fin-le s m e t n d h = le-in s (m * up e * down d) t (n * up d * down e) h
 -- 0 is at most every value without a sign
 pub zero-le-fin : (m : ℕ) (e : ℤ) → T (le (fin false 0 (pos 0)) (fin false m e))
 zero-le-fin m e = fin-le false 0 (pos 0) false m e (le-trans (le-of-eq (zero-mul (down e))) zero-le)
+
+-- and -1 is below it
+pub minus-one-lt : (m : ℕ) (e : ℤ) → T (lt (fin true 1 (pos 0)) (fin false m e))
+unfolding lt
+minus-one-lt m e = lt→ltb 0 (1 * 1 * down e + m * up e * 1) (more (down e) (m * up e * 1) (down-pos e))
+  where
+    more : (d n : ℕ) → 0 < d → 0 < 1 * 1 * d + n
+    more d n h = omega arith
 
 turned : (s : Bool) (a : ℕ) (t : Bool) (b : ℕ) → Le s a t b → Le (not t) b (not s) a
 turned false a false b h = h

@@ -5,12 +5,7 @@ ghost use Prim.Native.Nat.{_/_, min};
 ghost use lib.ListN.{length, take, drop};
 ghost use Rattle.le_bytes.specs.LeBytes.{laid};
 ghost use Rattle.tape_floats.specs.Floats.{floatsOf, floatBytes};
-
-fn least(a: usize, b: usize) -> usize
-    ensures { λ r. ⌜ r ≡ min a b ⌝ }
-{
-    if a < b { a } else { b }
-}
+use constants::least;
 
 // As many values as the bytes hold and there is room for; their number.
 pub fn floats(bytes: &[u8], out: &mut [f32]) -> usize

@@ -1,23 +1,13 @@
 // The text that the tape program prints, put into a lent buffer. Each public function is equal to a definition of specs/ on every input. Assumes nothing.
 ghost use mathlib.Core.Path.{_≡_};
-ghost use Prim.Native.Nat.{_+_, _*_, _/_, _≤_, _<_, min};
+ghost use Prim.Native.Nat.{_+_, _*_, _/_, _≤_, _<_};
 ghost use lib.ListN.{length, getD, take};
 ghost use mathlib.Core.List.{_∷_, []};
 ghost use Rattle.io.specs.Counts.{Counts};
 ghost use Rattle.le_bytes.specs.LeBytes.{laid};
 ghost use Rattle.tape_text.specs.Text.{number, hexDigit, hex, hexLine, messageOf, lineOf, linesOf, runText, refusedText, Put};
-
-fn wide(x: u8) -> u64
-    ensures { λ r. ⌜ r ≡ x ⌝ }
-{
-    x as u64
-}
-
-fn least(a: usize, b: usize) -> usize
-    ensures { λ r. ⌜ r ≡ min a b ⌝ }
-{
-    if a < b { a } else { b }
-}
+use constants::least;
+use le_bytes::wide;
 
 fn hex_digit(d: u8) -> u8
     requires { ⌜ d < 16 ⌝ }

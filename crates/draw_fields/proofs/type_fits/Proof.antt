@@ -12,7 +12,7 @@ rate-of-requires c κs = search needs
 
 returns : tie.Need-returns
 unfolding typeFits
-returns c = rw (c .rate-of .ensures, c .before .wide .ensures)
+returns c = rw (c .rate-of .ensures, c .before .wide .ensures .0)
 
 pub type-fits-spec : {M : Type 1} → statement M
 type-fits-spec = tie.close (tie.spec wide-requires rate-of-requires returns)

@@ -50,7 +50,7 @@ same-length-2 : tie.Need-same-length-2
 same-length-2 c = c .before .before .put-hex-line2 .kept .1 .1 .0
 
 returns-2 : tie.Need-returns-2
-returns-2 c = mode-s-put _ (c .before .before .before .before .before .before .before .before .before .before .before .before .pre .0) (c .before .before .before .before .before .before .before .before .if1 .left) (c .before .before .before .before .before .before .wide .ensures) (c .before .before .before .before .before .least .ensures) (c .before .before .put-hex-line2 .ensures)
+returns-2 c = mode-s-put _ (c .before .before .before .before .before .before .before .before .before .before .before .before .pre .0) (c .before .before .before .before .before .before .before .before .if1 .left) (c .before .before .before .before .before .before .wide .ensures .0) (c .before .before .before .before .before .least .ensures) (c .before .before .put-hex-line2 .ensures)
 
 pub put-message-spec : {M : Type 1} → statement M
 put-message-spec =
