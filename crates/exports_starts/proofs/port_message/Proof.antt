@@ -1,5 +1,5 @@
 -- `exports_starts::port_message` meets its contract. Assumes nothing.
-use mathlib.Core.Path.{_∙_}
+use mathlib.Core.Path.{refl, _∙_}
 use mir.Facts.{toZ-ofZ}
 use Rattle.message_config.specs.Config.{onsetOf}
 use Rattle.exports_starts.specs.Message.{delaysAt}
@@ -24,8 +24,8 @@ unfolding delaysAt onsetOf
 returns c =
     let m = c .before .before .message-at .ensures in
     let k = c .before .before .before .kind-of .ensures in (
-      toZ-ofZ (record { sfits = c .first-sample-index .ok }) ∙ c .first-sample-index .ensures ∙ rw (m, k),
-      rw (c .before .onset .ensures, m, k),
+      toZ-ofZ (record { sfits = c .first-sample-index .ok }) ∙ c .first-sample-index .ensures ∙ rw (m, k) refl,
+      rw (c .before .onset .ensures, m, k) refl,
     )
 
 pub port-message-spec : {M : Type 1} → statement M

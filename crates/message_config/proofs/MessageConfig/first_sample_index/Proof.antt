@@ -1,7 +1,8 @@
 -- `message_config::MessageConfig::first_sample_index` meets its contract. Assumes nothing.
 use borrow.Author.Needs.{needs}
-use mathlib.Core.Path.{_∙_}
+use mathlib.Core.Path.{_≡_, _∙_}
 use mir.Facts.{toZ-ofZ}
+use Rattle.message_config.specs.Timing.{startOf}
 use Rattle.message_config.proofs.Joined.{start-is}
 use Rattle.message_config.proofs.MessageConfig.first_sample_index.Statement.{statement}
 use Rattle.message_config.proofs.MessageConfig.first_sample_index.Tie as tie
