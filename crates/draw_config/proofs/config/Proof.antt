@@ -1,5 +1,4 @@
 -- `draw_config::config` meets its contract. Assumes nothing.
-use mathlib.Core.Path.{refl}
 use borrow.Author.Needs.{needs}
 use Rattle.draw.specs.Config.{errorDrawn, configOf}
 use Rattle.draw_config.proofs.config.Statement.{statement}
@@ -23,7 +22,7 @@ error-of-requires c κs = search needs
 returns : tie.Need-returns
 unfolding configOf errorDrawn
 returns c =
-    rw (c .error-of .ensures, c .before .phase-of .ensures, c .before .before .offset-of .ensures, c .before .before .before .before .make .ensures, c .before .before .before .before .before .type-drawn .ensures) refl
+    rw (c .error-of .ensures, c .before .phase-of .ensures, c .before .before .offset-of .ensures, c .before .before .before .before .make .ensures, c .before .before .before .before .before .type-drawn .ensures)
 
 pub config-spec : {M : Type 1} → statement M
 config-spec =

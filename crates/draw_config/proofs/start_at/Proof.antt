@@ -1,6 +1,6 @@
 -- `draw_config::start_at` meets its contract. Assumes nothing.
 use borrow.Author.Needs.{needs}
-use mathlib.Core.Path.{refl, _∙_}
+use mathlib.Core.Path.{_∙_}
 use mir.Facts.{toZ-ofZ}
 use Rattle.draw.specs.Draw.{drawAt}
 use Rattle.draw.specs.Config.{kindDrawn, errorDrawn, startAt}
@@ -31,7 +31,7 @@ start-requires c κs = search needs
 returns : tie.Need-returns
 unfolding drawAt kindDrawn errorDrawn startAt
 returns c = toZ-ofZ (record { sfits = c .start .ok }) ∙ c .start .ensures
-    ∙ rw (c .before .group-delay .ensures, c .before .before .error-of .ensures, c .before .before .before .f64-at .ensures, c .before .before .before .before .kind-of .ensures, c .before .before .before .before .before .type-drawn .ensures, c .before .before .before .before .before .before .byte-at .ensures) refl
+    ∙ rw (c .before .group-delay .ensures, c .before .before .error-of .ensures, c .before .before .before .f64-at .ensures, c .before .before .before .before .kind-of .ensures, c .before .before .before .before .before .type-drawn .ensures, c .before .before .before .before .before .before .byte-at .ensures)
 
 pub start-at-spec : {M : Type 1} → statement M
 start-at-spec =

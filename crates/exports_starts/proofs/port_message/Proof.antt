@@ -1,5 +1,5 @@
 -- `exports_starts::port_message` meets its contract. Assumes nothing.
-use mathlib.Core.Path.{refl, _∙_}
+use mathlib.Core.Path.{_∙_}
 use mir.Facts.{toZ-ofZ}
 use Rattle.exports_starts.specs.Message.{delaysAt}
 use borrow.Author.Needs.{needs}
@@ -32,8 +32,8 @@ unfolding delaysAt
 returns c =
     let m = c .before .before .before .before .before .message-at .ensures in
     let k = c .before .before .before .before .before .before .kind-of .ensures in (
-      toZ-ofZ (record { sfits = c .first-sample-index .ok }) ∙ c .first-sample-index .ensures ∙ rw (m, k) refl,
-      rw (c .before .first-phase .ensures, c .before .before .carrier-rate .ensures, c .before .before .before .clock-phase .ensures, c .before .before .before .before .clock-error-for-filterbank .ensures, m, k) refl,
+      toZ-ofZ (record { sfits = c .first-sample-index .ok }) ∙ c .first-sample-index .ensures ∙ rw (m, k),
+      rw (c .before .first-phase .ensures, c .before .before .carrier-rate .ensures, c .before .before .before .clock-phase .ensures, c .before .before .before .before .clock-error-for-filterbank .ensures, m, k),
     )
 
 pub port-message-spec : {M : Type 1} → statement M

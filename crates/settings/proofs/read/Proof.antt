@@ -1,7 +1,5 @@
 -- `settings::read` meets its contract. Assumes nothing.
-use mathlib.Core.Path.{_≡_, refl}
 use borrow.Author.Needs.{needs}
-use Rattle.le_bytes.specs.LeBytes.{numberAt}
 use Rattle.settings.specs.Settings.{settingsOf}
 use Rattle.settings.proofs.Inside.{number-there}
 use Rattle.settings.proofs.read.Statement.{statement}
@@ -29,8 +27,7 @@ returns : tie.Need-returns
 unfolding settingsOf
 returns c =
     let s = c .before .before .before .before .before .before .before .before .before .before .before .before .args .s .now in
-    let nanoseconds : c .u32-at .result ≡ numberAt 4 s 8 = c .u32-at .ensures in
-    rw (nanoseconds, c .before .before .u64-at .ensures, c .before .before .before .before .asked-at3 .ensures, c .before .before .before .before .before .before .asked-at2 .ensures, c .before .before .before .before .before .before .before .before .asked-at .ensures, c .before .before .before .before .before .before .before .before .before .before .rates-at .ensures, number-there 8 s 0 (search needs), number-there 4 s 8 (search needs)) refl
+    rw (c .u32-at .ensures, c .before .before .u64-at .ensures, c .before .before .before .before .asked-at3 .ensures, c .before .before .before .before .before .before .asked-at2 .ensures, c .before .before .before .before .before .before .before .before .asked-at .ensures, c .before .before .before .before .before .before .before .before .before .before .rates-at .ensures, number-there 8 s 0 (search needs), number-there 4 s 8 (search needs))
 
 pub read-spec : {M : Type 1} → statement M
 read-spec =

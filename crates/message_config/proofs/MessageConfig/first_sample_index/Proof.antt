@@ -1,8 +1,7 @@
 -- `message_config::MessageConfig::first_sample_index` meets its contract. Assumes nothing.
 use borrow.Author.Needs.{needs}
-use mathlib.Core.Path.{_≡_, _∙_}
+use mathlib.Core.Path.{_∙_}
 use mir.Facts.{toZ-ofZ}
-use Rattle.message_config.specs.Timing.{startOf}
 use Rattle.message_config.proofs.Joined.{start-is}
 use Rattle.message_config.proofs.MessageConfig.first_sample_index.Statement.{statement}
 use Rattle.message_config.proofs.MessageConfig.first_sample_index.Tie as tie
@@ -16,8 +15,7 @@ start-requires c κs = search needs
 returns : tie.Need-returns
 returns c =
     let a = c .before .before .before .args in
-    let begun : _ ≡ startOf (a .self .time) _ (a .self .error) = toZ-ofZ (record { sfits = c .start .ok }) ∙ c .start .ensures in
-    start-is (a .delays) (a .self) _ _ (c .before .group-delay .ensures) begun
+    start-is (a .delays) (a .self) _ _ (c .before .group-delay .ensures) (toZ-ofZ (record { sfits = c .start .ok }) ∙ c .start .ensures)
 
 pub first-sample-index-spec : {M : Type 1} → statement M
 first-sample-index-spec = tie.close (tie.spec group-delay-requires start-requires returns)
