@@ -1,5 +1,6 @@
 -- `message_num_samples` meets its contract. Assumes nothing.
 use borrow.Author.Needs.{needs}
+use mathlib.Core.Bool.{true, false}
 use mathlib.Core.Path.{_≡_, _∙_}
 use Rattle.constants.specs.Rate.{four}
 use Rattle.pulse_length.specs.Length.{modeSNumSamples}

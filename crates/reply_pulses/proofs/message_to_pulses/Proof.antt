@@ -1,5 +1,6 @@
 -- `message_to_pulses` meets its contract. Assumes nothing.
 use borrow.Author.Needs.{needs}
+use mathlib.Core.Bool.{false}
 use mathlib.Core.Path.{_≡_, _∙_}
 use Rattle.pulses.specs.ModeS.{modeSPulses}
 use Rattle.reply_pulses.proofs.Places.{of-short, of-long, of-mode-ac}

@@ -34,7 +34,7 @@ returns-6 c = rw (c .if6 .taken)
 
 returns-7 : tie.Need-returns-7
 unfolding rateOf ratesOf
-returns-7 c = let six : _ ≡ 6 = c .if7 .taken in rw six
+returns-7 c = let six : c .before .before .before .before .before .before .before .args .n ≡ 6 = c .if7 .taken in rw six
 
 -- a number from k on that is not k
 above : (k n : ℕ) → k ≤ n → (n ≡ k → ⊥) → suc k ≤ n
