@@ -1,8 +1,8 @@
 -- `exports_starts::port_message` meets its contract. Assumes nothing.
-use mathlib.Core.Path.{refl, _∙_}
+use mathlib.Core.Path.{_∙_}
 use mir.Facts.{toZ-ofZ}
-use Rattle.message_config.specs.Config.{onsetOf}
 use Rattle.exports_starts.specs.Message.{delaysAt}
+use Rattle.exports_starts.proofs.Crossed.{start-crosses, onset-crosses}
 use borrow.Author.Needs.{needs}
 use Rattle.exports_starts.proofs.port_message.Statement.{statement}
 use Rattle.exports_starts.proofs.port_message.Tie as tie
@@ -20,12 +20,13 @@ first-sample-index-requires : tie.Need-first-sample-index-requires
 first-sample-index-requires c κs = search needs
 
 returns : tie.Need-returns
-unfolding delaysAt onsetOf
+unfolding delaysAt
 returns c =
-    let m = c .before .before .message-at .ensures in
-    let k = c .before .before .before .kind-of .ensures in (
-      toZ-ofZ (record { sfits = c .first-sample-index .ok }) ∙ c .first-sample-index .ensures ∙ rw (m, k) refl,
-      rw (c .before .onset .ensures, m, k) refl,
+    let m = c .before .before in
+    let a = m .before .before .args in
+    let delays = delaysAt (a .delay-s) (a .delay-ac) in (
+      start-crosses delays (a .time) (a .offset) (a .phase) (a .error) _ _ _ (m .before .kind-of .ensures) (m .message-at .ensures) _ (toZ-ofZ (record { sfits = c .first-sample-index .ok }) ∙ c .first-sample-index .ensures),
+      onset-crosses delays (a .time) (a .offset) (a .phase) (a .error) _ _ _ (m .before .kind-of .ensures) (m .message-at .ensures) _ (c .before .onset .ensures),
     )
 
 pub port-message-spec : {M : Type 1} → statement M
