@@ -6,7 +6,7 @@
  * else; the same arguments give the same answer and the same bytes.
  *
  * What is said of each call here is proved of its source, for every input, refused ones too (crates/more1090_generator, and
- * its proofs/Demand3.antt for lists of calls). Asked of the caller, since no proof can see it: a pointer is aligned to its
+ * its specs/OpenedCalls.antt for lists of calls). Asked of the caller, since no proof can see it: a pointer is aligned to its
  * type and good for its length, and may be NULL only where that is 0; what a call writes overlaps with nothing else that is
  * lent to it. Calls that share no memory may run at the same time.
  *

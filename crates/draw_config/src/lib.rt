@@ -1,14 +1,15 @@
-// What a draw becomes at its time: its start, and its message. Each function is equal to a definition, in specs/ of `draw`, on every input. Assumes nothing.
+// What a draw becomes at its time: its message, without its reply's bytes and then with them. Each function is equal to a definition on every input. Assumes nothing.
 ghost use mathlib.Core.Path.{_≡_};
 ghost use Rattle.message.specs.Types.{typeNumbered};
 ghost use Rattle.message.specs.Making.{kindOf};
 ghost use Rattle.draw.specs.Draw.{drawAt};
-ghost use Rattle.draw.specs.Config.{typeDrawn, startAt, configOf};
-use draw::Draw;
+ghost use Rattle.draw.specs.Config.{typeDrawn, timeAfter};
+ghost use Rattle.draw_config.specs.Pending.{pendingOf, completedBy};
 use message::MessageType;
+use message::Picks;
+use message::Reply;
 use message::ReplyKind;
 use message::TypeFound;
-use message_config::Delays;
 use message_config::MessageConfig;
 use settings::Distributions;
 
@@ -35,32 +36,45 @@ fn kind_of(t: MessageType) -> ReplyKind
     }
 }
 
-// The start of the draw at the start of the bytes, at its time.
-pub fn start_at(all: Distributions, delays: Delays, time: f64, rest: &[u8]) -> i64
-    ensures { λ r. ⌜ r ≡ startAt all delays time (drawAt (now (rest .entry))) ⌝ }
-{
-    let clock = all.clock;
-    let kind = kind_of(type_drawn(draw::byte_at(rest, 8)));
-    let e = drawn_values::error_of(clock, le_floats::f64_at(rest, 37));
-    message_config::start(time, message_config::group_delay(delays, kind), e)
-}
-
-// The message of a draw at its time.
-pub fn config(all: Distributions, time: f64, d: Draw) -> MessageConfig
-    ensures { λ r. ⌜ r ≡ configOf all time d ⌝ }
+// The message of the draw at the start of the bytes, `last` being the time before it. A run call looks at a draw in several turns and adds it in one, so that its reply's bytes are 0 until they are made then (`completed`).
+pub fn pending(all: Distributions, last: f64, rest: &[u8]) -> MessageConfig
+    ensures { λ r. ⌜ r ≡ pendingOf all (timeAfter last (drawAt (now (rest .entry)))) (drawAt (now (rest .entry))) ⌝ }
 {
     let carrier = all.carrier;
     let phase = all.phase;
     let clock = all.clock;
-    let p = d.picks;
-    let m = message_making::make(type_drawn(d.kind), p);
-    let reply = m.reply;
+    let kind = kind_of(type_drawn(draw::byte_at(rest, 8)));
     MessageConfig {
-        time: time,
-        cn0: d.cn0,
-        offset: drawn_values::offset_of(carrier, d.carrier),
-        phase: drawn_values::phase_of(phase, d.phase),
-        error: drawn_values::error_of(clock, d.clock),
-        reply: reply,
+        time: draw::time_after(last, rest),
+        cn0: le_floats::f64_at(rest, 9),
+        offset: drawn_values::offset_of(carrier, le_floats::f64_at(rest, 21)),
+        phase: drawn_values::phase_of(phase, le_floats::f64_at(rest, 29)),
+        error: drawn_values::error_of(clock, le_floats::f64_at(rest, 37)),
+        reply: Reply {
+            kind: kind,
+            bytes: [0; 14],
+        },
+    }
+}
+
+// The message with its reply's bytes, made from its draw's type and picks.
+pub fn completed(c: MessageConfig, kind: u8, p: Picks) -> MessageConfig
+    ensures { λ r. ⌜ r ≡ completedBy c kind p ⌝ }
+{
+    let unmade = c.reply;
+    let sent = unmade.kind;
+    let m = message_making::make(type_drawn(kind), p);
+    let made = m.reply;
+    let bytes = made.bytes;
+    MessageConfig {
+        time: c.time,
+        cn0: c.cn0,
+        offset: c.offset,
+        phase: c.phase,
+        error: c.error,
+        reply: Reply {
+            kind: sent,
+            bytes: bytes,
+        },
     }
 }

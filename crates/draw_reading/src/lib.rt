@@ -26,7 +26,8 @@ fn message_bytes(s: &[u8]) -> [u8; 14]
     ]
 }
 
-fn picks(s: &[u8]) -> Picks
+// The picks of the draw at the start of the bytes.
+pub fn picks(s: &[u8]) -> Picks
     ensures { λ r. ⌜ r ≡ picksAt (now (s .entry)) ⌝ }
 {
     let b = message_bytes(s);

@@ -45,8 +45,9 @@ unchanged noise w k n l e = rw (sym e)
 half : (n : ℕ) → 2 * n / 2 ≡ n
 half n = omega arith
 
-pub changed : (noise : List Float) (w k n : ℕ) (memory output memory′ output′ : List Float) → true ≡ fitsOf (length memory) (length noise) (length output) k n
+pub changed : (noise : List Float) (w k n : ℕ) (memory output memory′ output′ : List Float)
     → output′ ≡ laid (2 * k) (samplesOf memory w (take (2 * n) (drop (2 * k) noise))) output → memory′ ≡ clearOf memory w (2 * n / 2)
+    → true ≡ fitsOf (length memory) (length noise) (length output) k n
     → record { memory = memory′; output = output′ } ≡ dueOf noise w k n (record { memory = memory; output = output })
 unfolding dueOf
-changed noise w k n memory output memory′ output′ e p q = rw (sym e) (λ i. record { memory = (q ∙ ap (clearOf memory w) (half n)) i; output = p i })
+changed noise w k n memory output memory′ output′ p q e = rw (sym e) (λ i. record { memory = (q ∙ ap (clearOf memory w) (half n)) i; output = p i })

@@ -59,12 +59,8 @@ pub extern "C" fn port_message(
         mode_s: delay_s,
         mode_ac: delay_ac,
     };
-    let all = [
-        c.clock_error_for_filterbank(),
-        c.clock_phase(delays),
-        c.carrier_rate(),
-        c.first_phase(delays),
-    ];
+    let o = c.onset(delays);
+    let all = [o.clock_error, o.clock_phase, o.carrier_rate, o.carrier_phase];
     *out = all;
     c.first_sample_index(delays)
 }

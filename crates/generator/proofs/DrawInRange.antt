@@ -1,6 +1,6 @@
 -- What the theory of calls takes from a draw in range: a gap that does not take a time back (`gap-of`), and a clock error and filter clock error within 0.1 in size, of the kind drawn (`error-of`) and of the message's (`message-error`). Assumes nothing.
 use Prim.Native.Nat.{ℕ}
-use mathlib.Core.Path.{_≡_, refl, sym, ap, _∙_, subst}
+use mathlib.Core.Path.{_≡_, refl, ap}
 use mathlib.Core.Logic.{_≢_}
 use mathlib.Core.Option.{none, some}
 use native.Mathlib.Omega.{arith}
@@ -10,19 +10,15 @@ use Rattle.distributions.specs.Drawn.{errorOf}
 use Rattle.distributions.specs.declared.ClockError as Clock
 use Rattle.message.specs.declared.Field.{Field}
 use Rattle.message.specs.declared.Field.the-variants.{Fine, Wrong}
-use Rattle.message.specs.declared.Reply.{Reply}
-use Rattle.message.specs.declared.ReplyKind.{ReplyKind}
-use Rattle.message.specs.Making.{replyOf}
 use Rattle.message_config_laws.proofs.InRange.{ErrorInRange}
 use Rattle.settings.specs.declared.Distributions.{Distributions}
 use Rattle.settings.specs.declared.MessagesPerSecond.{MessagesPerSecond}
 use Rattle.settings.proofs.InRange.{ClockInRange}
 use Rattle.draw.specs.declared.Draw.{Draw}
 use Rattle.draw.specs.Fault.{drawFault}
-use Rattle.draw.specs.Config.{kindDrawn, errorDrawn, configOf}
+use Rattle.draw.specs.Config.{kindDrawn, errorDrawn, configWith, configOf}
 use Rattle.draw.proofs.InRange.{InRange, gap-in-range}
 use Rattle.draw.proofs.NotNegative.{NotNegative, plus, minus-zero, not-negative}
-use Rattle.draw.proofs.Message.{kind-drawn, reply-drawn}
 use Rattle.draw.proofs.ClockLimit.{drawn-within, filter-within}
 use Rattle.draw_times.proofs.Times.{Gap}
 use Rattle.generator.specs.Real.{faultOf}
@@ -52,8 +48,6 @@ module _ (rates : MessagesPerSecond) (all : Distributions) (C : ClockInRange (al
   unfolding errorDrawn
   error-of = record { fit = error-held (all .clock) (d .clock) C H; small = drawn-within rates all d r C H; filter-small = filter-within rates all d r C H }
 
-  -- the reply that is made has the kind drawn
   pub message-error : (time : Float) → ErrorInRange (configOf all time d .reply .kind) (configOf all time d .error)
-  unfolding configOf replyOf
-  message-error time =
-      subst (λ (k : ReplyKind). ErrorInRange k (errorDrawn all d)) (kind-drawn rates all d r ∙ sym (ap (λ (x : Reply). x .kind) (reply-drawn rates all d r time))) error-of
+  unfolding configOf configWith
+  message-error time = error-of

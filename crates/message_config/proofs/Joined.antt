@@ -3,6 +3,7 @@ use mathlib.Core.Path.{_≡_, sym, ap, _∙_}
 use lib.IntN.{ℤ}
 use lib.Ieee.{Float, binary64, ofBits, ofInt, add, sub, mul, div}
 use Rattle.constants.specs.Rate.{four}
+use Rattle.float_bits.specs.Ceil.{ceilSigned}
 use Rattle.math.specs.Phase.{phaseWrap}
 use Rattle.math.proofs.Literals.{twoPi-is}
 use Rattle.message.specs.declared.ReplyKind.{ReplyKind}
@@ -11,7 +12,7 @@ use Rattle.message_config.specs.declared.Delays.{Delays}
 use Rattle.message_config.specs.declared.MessageConfig.{MessageConfig}
 use Rattle.message_config.specs.Timing.{delayOf, unroundedStart, startOf, filterClockError, clockPhase}
 use Rattle.message_config.specs.Carrier.{carrierRate, firstPhase}
-use Rattle.message_config.specs.Config.{configDelay, configStart, configClockError, configClockPhase, configRate, configPhase}
+use Rattle.message_config.specs.Config.{configDelay, configStart, configClockError, configClockPhase, configRate, configPhase, onsetOf}
 use Rattle.message_config.proofs.Literals.{one-is, modeACRatio-is, sampleRate-is}
 
 abbrev oneBits : Float
@@ -49,23 +50,38 @@ pub unrounded-is : (time delay e : Float) → sub binary64 time (div binary64 de
 unfolding unroundedStart
 unrounded-is time delay e = ap (λ (x : Float). sub binary64 time (div binary64 delay (add binary64 x e))) (sym one-is)
 
-pub start-is : (delays : Delays) (c : MessageConfig) (z : ℤ) (delay : Float) → delay ≡ configDelay delays c → z ≡ startOf (c .time) delay (c .error) → z ≡ configStart delays c
-unfolding configStart
-start-is delays c z delay ed ez = ez ∙ ap (λ (x : Float). startOf (c .time) x (c .error)) ed
+pub start-is : (delays : Delays) (c : MessageConfig) (z : ℤ) (delay unrounded : Float) → delay ≡ configDelay delays c → unrounded ≡ unroundedStart (c .time) delay (c .error) → z ≡ ceilSigned 63 unrounded → z ≡ configStart delays c
+unfolding configStart startOf
+start-is delays c z delay unrounded ed eu ez = ez ∙ ap (ceilSigned 63) (eu ∙ ap (λ (x : Float). unroundedStart (c .time) x (c .error)) ed)
 
 -- ---- the clock and the carrier
-pub clock-is : (delays : Delays) (c : MessageConfig) (z : ℤ) (delay unrounded first error : Float) → delay ≡ configDelay delays c → unrounded ≡ unroundedStart (c .time) delay (c .error) → z ≡ configStart delays c → first ≡ ofInt binary64 z → error ≡ configClockError c
-    → mul binary64 (sub binary64 first unrounded) (add binary64 oneBits error) ≡ configClockPhase delays c
-unfolding configClockPhase clockPhase configStart
-clock-is delays c z delay unrounded first error ed eu ez ef ee =
-    λ i. mul binary64 (sub binary64 ((ef ∙ ap (ofInt binary64) ez) i) ((eu ∙ ap (λ (x : Float). unroundedStart (c .time) x (c .error)) ed) i)) (add binary64 (sym one-is i) (ee i))
-
-pub rate-is : (c : MessageConfig) → div binary64 (mul binary64 (ofBits binary64 0x4019_21fb_5444_2d18) (c .offset)) (ofBits binary64 0x415e_8480_0000_0000) ≡ configRate four c
+rate-is : (c : MessageConfig) → div binary64 (mul binary64 (ofBits binary64 0x4019_21fb_5444_2d18) (c .offset)) (ofBits binary64 0x415e_8480_0000_0000) ≡ configRate four c
 unfolding configRate carrierRate
 rate-is c = λ i. div binary64 (mul binary64 (sym twoPi-is i) (c .offset)) (sym sampleRate-is i)
 
-pub phase-is : (delays : Delays) (c : MessageConfig) (z : ℤ) (first rate r : Float) → z ≡ configStart delays c → first ≡ ofInt binary64 z → rate ≡ configRate four c → r ≡ phaseWrap (sub binary64 (c .phase) (mul binary64 (sub binary64 (c .time) first) rate))
-    → r ≡ configPhase four delays c
-unfolding configPhase firstPhase
-phase-is delays c z first rate r ez ef er e =
-    e ∙ (λ i. phaseWrap (sub binary64 (c .phase) (mul binary64 (sub binary64 (c .time) ((ef ∙ ap (ofInt binary64) ez) i)) (er i))))
+module _ (delays : Delays) (c : MessageConfig) (delay unrounded : Float) (z : ℤ) (first error : Float) (ed : delay ≡ configDelay delays c) (eu : unrounded ≡ unroundedStart (c .time) delay (c .error)) (ez : z ≡ ceilSigned 63 unrounded)
+    (ef : first ≡ ofInt binary64 z) (ee : error ≡ filterClockError (c .reply .kind) (c .error)) where
+  first-is : first ≡ ofInt binary64 (configStart delays c)
+  first-is = ef ∙ ap (ofInt binary64) (start-is delays c z delay unrounded ed eu ez)
+
+  error-is : error ≡ configClockError c
+  unfolding configClockError
+  error-is = ee
+
+  clock-is : mul binary64 (sub binary64 first unrounded) (add binary64 oneBits error) ≡ configClockPhase delays c
+  unfolding configClockPhase clockPhase configStart
+  clock-is = λ i. mul binary64 (sub binary64 (first-is i) ((eu ∙ ap (λ (x : Float). unroundedStart (c .time) x (c .error)) ed) i)) (add binary64 (sym one-is i) (error-is i))
+
+  module _ (wrapped : Float) (ew : wrapped ≡ phaseWrap (sub binary64 (c .phase) (mul binary64 (sub binary64 (c .time) first) (div binary64 (mul binary64 (ofBits binary64 0x4019_21fb_5444_2d18) (c .offset)) (ofBits binary64 0x415e_8480_0000_0000))))) where
+    phase-is : wrapped ≡ configPhase four delays c
+    unfolding configPhase firstPhase
+    phase-is = ew ∙ (λ i. phaseWrap (sub binary64 (c .phase) (mul binary64 (sub binary64 (c .time) (first-is i)) (rate-is c i))))
+
+    pub onset-is : record {
+      «clock_error» = error;
+      «clock_phase» = mul binary64 (sub binary64 first unrounded) (add binary64 oneBits error);
+      «carrier_rate» = div binary64 (mul binary64 (ofBits binary64 0x4019_21fb_5444_2d18) (c .offset)) (ofBits binary64 0x415e_8480_0000_0000);
+      «carrier_phase» = wrapped;
+    } ≡ onsetOf four delays c
+    unfolding onsetOf
+    onset-is = λ i. record { «clock_error» = error-is i; «clock_phase» = clock-is i; «carrier_rate» = rate-is c i; «carrier_phase» = phase-is i }

@@ -4,6 +4,7 @@ use lib.IntN.{ℤ}
 use lib.Ieee.{Float}
 use Rattle.message_config.specs.declared.Delays.{Delays}
 use Rattle.message_config.specs.declared.MessageConfig.{MessageConfig}
+use Rattle.message_config.specs.declared.Onset.{Onset}
 use Rattle.message_config.specs.Timing.{delayOf, startOf, filterClockError, clockPhase}
 use Rattle.message_config.specs.Carrier.{carrierRate, firstPhase}
 
@@ -25,3 +26,12 @@ configRate sps c = carrierRate sps (c .offset)
 
 unfoldable pub configPhase : ℕ → Delays → MessageConfig → Float
 configPhase sps delays c = firstPhase (c .phase) (c .time) (configStart delays c) (configRate sps c)
+
+-- how its samples begin
+unfoldable pub onsetOf : ℕ → Delays → MessageConfig → Onset
+onsetOf sps delays c = record {
+  «clock_error» = configClockError c;
+  «clock_phase» = configClockPhase delays c;
+  «carrier_rate» = configRate sps c;
+  «carrier_phase» = configPhase sps delays c;
+}

@@ -2,8 +2,8 @@
 // Each function is equal to a definition of specs/ on every input. Assumes nothing.
 ghost use mathlib.Core.Path.{_≡_};
 ghost use Rattle.constants.specs.Rate.{four};
-ghost use Rattle.message_config.specs.Timing.{delayOf, unroundedStart, startOf, filterClockError};
-ghost use Rattle.message_config.specs.Config.{configStart, configClockPhase, configClockError, configRate, configPhase};
+ghost use Rattle.message_config.specs.Timing.{delayOf, unroundedStart, filterClockError};
+ghost use Rattle.message_config.specs.Config.{configStart, onsetOf};
 use message::Reply;
 use message::ReplyKind;
 
@@ -23,9 +23,17 @@ pub struct Delays {
     pub mode_ac: f64,
 }
 
+// How a message's samples begin: the clock error of its filter, the clock's phase at the first sample, in samples, what the carrier turns by in a sample, and its phase at the first sample.
+pub struct Onset {
+    pub clock_error: f64,
+    pub clock_phase: f64,
+    pub carrier_rate: f64,
+    pub carrier_phase: f64,
+}
+
 const MODE_AC_SAMP_RATE_RATIO: f64 = 1.0344827586206897;
 
-pub fn group_delay(delays: Delays, kind: ReplyKind) -> f64
+fn group_delay(delays: Delays, kind: ReplyKind) -> f64
     ensures { λ r. ⌜ r ≡ delayOf delays kind ⌝ }
 {
     match kind {
@@ -40,12 +48,6 @@ fn unrounded_start(time: f64, delay: f64, e: f64) -> f64
     ensures { λ r. ⌜ r ≡ unroundedStart time delay e ⌝ }
 {
     time - delay / (1.0 + e)
-}
-
-pub fn start(time: f64, delay: f64, e: f64) -> i64
-    ensures { λ r. ⌜ r ≡ startOf time delay e ⌝ }
-{
-    float_to_int::ceil_to_i64(unrounded_start(time, delay, e))
 }
 
 // The clock error of the filter.
@@ -66,41 +68,25 @@ impl MessageConfig {
     {
         let reply = self.reply;
         let kind = reply.kind;
-        start(self.time, group_delay(delays, kind), self.error)
+        let delay = group_delay(delays, kind);
+        float_to_int::ceil_to_i64(unrounded_start(self.time, delay, self.error))
     }
 
-    pub fn clock_error_for_filterbank(self) -> f64
-        ensures { λ r. ⌜ r ≡ configClockError self ⌝ }
-    {
-        let reply = self.reply;
-        let kind = reply.kind;
-        let e = self.error;
-        filter_clock_error(kind, e)
-    }
-
-    // The clock's phase at the first sample, in samples.
-    pub fn clock_phase(self, delays: Delays) -> f64
-        ensures { λ r. ⌜ r ≡ configClockPhase delays self ⌝ }
+    // How the samples begin.
+    pub fn onset(self, delays: Delays) -> Onset
+        ensures { λ r. ⌜ r ≡ onsetOf four delays self ⌝ }
     {
         let reply = self.reply;
         let kind = reply.kind;
         let unrounded = unrounded_start(self.time, group_delay(delays, kind), self.error);
-        let first = std::num::nearest_i64_to_f64(self.first_sample_index(delays));
-        (first - unrounded) * (1.0 + self.clock_error_for_filterbank())
-    }
-
-    // What the carrier turns by in a sample.
-    pub fn carrier_rate(self) -> f64
-        ensures { λ r. ⌜ r ≡ configRate four self ⌝ }
-    {
-        6.283185307179586 * self.offset / 8000000.0
-    }
-
-    // The carrier's phase at the first sample.
-    pub fn first_phase(self, delays: Delays) -> f64
-        ensures { λ r. ⌜ r ≡ configPhase four delays self ⌝ }
-    {
-        let first = std::num::nearest_i64_to_f64(self.first_sample_index(delays));
-        math::phase_wrap_f64(self.phase - (self.time - first) * self.carrier_rate())
+        let first = std::num::nearest_i64_to_f64(float_to_int::ceil_to_i64(unrounded));
+        let error = filter_clock_error(kind, self.error);
+        let rate = 6.283185307179586 * self.offset / 8000000.0;
+        Onset {
+            clock_error: error,
+            clock_phase: (first - unrounded) * (1.0 + error),
+            carrier_rate: rate,
+            carrier_phase: math::phase_wrap_f64(self.phase - (self.time - first) * rate),
+        }
     }
 }

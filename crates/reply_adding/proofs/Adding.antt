@@ -12,7 +12,8 @@ use Rattle.message.specs.declared.Reply.{Reply}
 use Rattle.message_config.specs.declared.Delays.{Delays}
 use Rattle.message_config.specs.declared.MessageConfig.{MessageConfig}
 use Rattle.pulses.specs.declared.Pulses.{Pulses}
-use Rattle.message_config.specs.Config.{configClockPhase, configClockError, configRate, configPhase}
+use Rattle.message_config.specs.declared.Onset.{Onset}
+use Rattle.message_config.specs.Config.{onsetOf}
 use Rattle.filterbank.specs.declared.Clock.{Clock}
 use Rattle.filterbank.specs.LaidPulses.{late}
 use Rattle.filterbank.specs.Clocked.{stepOf, startClock}
@@ -34,11 +35,11 @@ pulses-most r p e = subst (λ (x : Pulses). x .len ≤ 240) (sym e) (len-most r)
 abbrev waveAt : Clock → Float → Float → Float → Float → ℕ → Wave
 waveAt k s p r a n = record { clock = k; step = s; phase = p; rate = r; amplitude = a; limit = n }
 
-pub wave-is : (c : MessageConfig) (amplitude : Float) (delays : Delays) (len : ℕ) (p : Float) (k : Clock) (e s f r : Float) (n : ℕ) → p ≡ configClockPhase delays c → k ≡ startClock four p → e ≡ configClockError c → s ≡ stepOf four e
-    → f ≡ configPhase four delays c → r ≡ configRate four c → n ≡ limitOf len → waveAt k s f r amplitude n ≡ waveOf c amplitude delays len
-unfolding waveOf
-wave-is c amplitude delays len p k e s f r n ep ek ee es ef er en =
-    λ i. waveAt ((ek ∙ ap (startClock four) ep) i) ((es ∙ ap (stepOf four) ee) i) (ef i) (er i) amplitude (en i)
+pub wave-is : (c : MessageConfig) (amplitude : Float) (delays : Delays) (len : ℕ) (o : Onset) (k : Clock) (s : Float) (n : ℕ) → o ≡ onsetOf four delays c → k ≡ startClock four (o .«clock_phase») → s ≡ stepOf four (o .«clock_error»)
+    → n ≡ limitOf len → waveAt k s (o .«carrier_phase») (o .«carrier_rate») amplitude n ≡ waveOf c amplitude delays len
+unfolding waveOf onsetOf
+wave-is c amplitude delays len o k s n eo ek es en =
+    λ i. waveAt ((ek ∙ ap (λ (x : Onset). startClock four (x .«clock_phase»)) eo) i) ((es ∙ ap (λ (x : Onset). stepOf four (x .«clock_error»)) eo) i) (eo i .«carrier_phase») (eo i .«carrier_rate») amplitude (en i)
 
 pub by-wave : (prototype : List Float) (laid : List Bool) (w : Wave) (values m m′ : List Float) (place r : ℕ) → values ≡ lateValues prototype laid (w .limit) (w .step) (w .clock)
     → m′ ≡ addedReply four m place (turned (w .amplitude) (w .rate) (w .phase) values) → r ≡ addedCount four m place (length values) → Adds m place (waveSamples prototype laid w) m′ r

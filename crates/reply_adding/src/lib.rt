@@ -46,11 +46,12 @@ fn wave_of(c: MessageConfig, amplitude: f32, delays: Delays, len: usize) -> Wave
     requires { ⌜ len ≤ 240 ⌝ }
     ensures { λ r. ⌜ (r ≡ waveOf c amplitude delays len) × (r .limit ≤ 246) ⌝ }
 {
+    let o = c.onset(delays);
     Wave {
-        clock: filter_clock::start_clock(c.clock_phase(delays)),
-        step: filter_clock::clock_step(c.clock_error_for_filterbank()),
-        phase: c.first_phase(delays),
-        rate: c.carrier_rate(),
+        clock: filter_clock::start_clock(o.clock_phase),
+        step: filter_clock::clock_step(o.clock_error),
+        phase: o.carrier_phase,
+        rate: o.carrier_rate,
         amplitude: amplitude,
         limit: limit_of(len),
     }

@@ -1,21 +1,18 @@
 -- The plan, test by test, as the code meets it. Assumes nothing.
 use mathlib.Core.Path.{_≡_, refl, sym, ap, _∙_}
 use mathlib.Core.Bool.{Bool, true, false}
-use mathlib.Core.List.{List}
 use Prim.Native.Nat.{ℕ, _+_, _-_, _≤_, _<_}
 use native.Mathlib.Omega.{arith}
 use lib.IntN.{ℤ, pos, negsuc}
-use lib.ListN.{length}
 use lib.Ieee.{Float}
 use borrow.Author.Tests.{lt-ltb, le-ltb}
 use Rattle.call_lists.specs.Generator.{from, startFrom}
 use Rattle.call_lists.specs.PlainRun.{Kind, kindOf}
 use Rattle.call_lists.specs.Plans as Theory
 use Rattle.call_lists.proofs.Plans as Laws
-use Rattle.draw.specs.Draw.{drawAt}
-use Rattle.draw.specs.Config.{timeAfter, startAt}
 use Rattle.message_config.specs.declared.Delays.{Delays}
-use Rattle.settings.specs.declared.Distributions.{Distributions}
+use Rattle.message_config.specs.declared.MessageConfig.{MessageConfig}
+use Rattle.message_config.specs.Config.{configStart}
 use Rattle.run_plans.specs.declared.Stop as Stop
 use Rattle.run_plans.specs.declared.Plan as Plan
 use Rattle.run_plans.specs.Plans.{counted, stopRead, planRead, isNegative, chosen}
@@ -91,29 +88,26 @@ module _ (total written room noise n : ℕ) (more : written < total) (e : n ≡ 
   drain-many z = drains n (Theory.batch (total - written) room noise) room e z ∙ sym (Laws.ended-more (counted total) written room noise more)
 
 -- the choice
-module _ (written total : ℕ) (last : Float) (all : Distributions) (delays : Delays) (rest : List ℕ) (room noise bytes : ℕ) where
-  abbrev at : Bool → Float → ℤ → Theory.Plan Float
-  at b time start = Theory.plan (counted total) b written (length rest) time (kindOf (counted total) (startFrom start)) room noise bytes
+module _ (written total : ℕ) (delays : Delays) (next : MessageConfig) (rest room noise bytes : ℕ) where
+  abbrev at : Bool → ℤ → Theory.Plan Float
+  at b start = Theory.plan (counted total) b written rest (next .time) (kindOf (counted total) (startFrom start)) room noise bytes
 
   abbrev here : Bool → Theory.Plan Float
-  here b = at b (timeAfter last (drawAt rest)) (startAt all delays (timeAfter last (drawAt rest)) (drawAt rest))
+  here b = at b (configStart delays next)
 
   abbrev Chosen : Bool → Theory.Plan Float
-  Chosen ended = chosen ended written total last all delays rest room noise bytes
+  Chosen ended = chosen ended written total delays next rest room noise bytes
 
   pub chose-ended : (ended : Bool) → ended ≡ true → Theory.planEnded (counted total) written room noise ≡ Chosen ended
   unfolding chosen
   chose-ended ended e = sym (ap here e)
 
-  pub chose-none : (ended : Bool) → ended ≡ false → length rest < 65 → planRead (Plan.the-variants.Halt Stop.the-variants.WantsDraws) ≡ Chosen ended
+  pub chose-none : (ended : Bool) → ended ≡ false → rest < 65 → planRead (Plan.the-variants.Halt Stop.the-variants.WantsDraws) ≡ Chosen ended
   unfolding chosen planRead stopRead
-  chose-none ended e h =
-      sym (ap here e ∙ Laws.wants-draws (counted total) written (length rest) (timeAfter last (drawAt rest)) (kindOf (counted total) (startFrom (startAt all delays (timeAfter last (drawAt rest)) (drawAt rest)))) room noise bytes h)
+  chose-none ended e h = sym (ap here e ∙ Laws.wants-draws (counted total) written rest (next .time) (kindOf (counted total) (startFrom (configStart delays next))) room noise bytes h)
 
-  pub chose-draw : (ended : Bool) → ended ≡ false → 65 ≤ length rest → (time : Float) (start : ℤ) → time ≡ timeAfter last (drawAt rest) → start ≡ startAt all delays time (drawAt rest)
-      → Theory.planDraw (counted total) written time (kindOf (counted total) (startFrom start)) room noise bytes ≡ Chosen ended
+  pub chose-draw : (ended : Bool) → ended ≡ false → 65 ≤ rest → (start : ℤ) → start ≡ configStart delays next
+      → Theory.planDraw (counted total) written (next .time) (kindOf (counted total) (startFrom start)) room noise bytes ≡ Chosen ended
   unfolding chosen
-  chose-draw ended e h time start p q =
-      sym (Laws.has-draw (counted total) written (length rest) time (kindOf (counted total) (startFrom start)) room noise bytes h)
-      ∙ (λ i. at false (p i) ((q ∙ ap (λ (x : Float). startAt all delays x (drawAt rest)) p) i))
-      ∙ sym (ap here e)
+  chose-draw ended e h start q =
+      sym (Laws.has-draw (counted total) written rest (next .time) (kindOf (counted total) (startFrom start)) room noise bytes h) ∙ ap (at false) q ∙ sym (ap here e)

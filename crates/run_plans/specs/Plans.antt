@@ -1,9 +1,7 @@
 -- What comes next in a run call, read as the mirror of the code in `call_lists` has it. Definitions only.
 use Prim.Native.Nat.{ℕ}
 use mathlib.Core.Bool.{Bool, true, false}
-use mathlib.Core.List.{List}
 use lib.IntN.{ℤ, pos, negsuc}
-use lib.ListN.{length}
 use lib.Ieee.{Float}
 use Rattle.constants.specs.Rate.{four}
 use Rattle.call_lists.specs.Generator.{Generator, startFrom}
@@ -11,10 +9,9 @@ use Rattle.call_lists.specs.PlainRun.{kindOf}
 use Rattle.call_lists.specs.PlainBench as Bench
 use Rattle.call_lists.specs.Plans as Theory
 use Rattle.draw_times.specs.FloatGenerator.{noDraws, generator}
-use Rattle.draw.specs.Draw.{drawAt}
-use Rattle.draw.specs.Config.{timeAfter, startAt}
 use Rattle.message_config.specs.declared.Delays.{Delays}
-use Rattle.settings.specs.declared.Distributions.{Distributions}
+use Rattle.message_config.specs.declared.MessageConfig.{MessageConfig}
+use Rattle.message_config.specs.Config.{configStart}
 use Rattle.run_plans.specs.declared.Stop as Stop
 use Rattle.run_plans.specs.declared.Plan as Plan
 
@@ -42,8 +39,7 @@ planRead (Plan.the-variants.Skip time) = Theory.ignore time
 planRead (Plan.the-variants.End time) = Theory.endRun time
 planRead (Plan.the-variants.Add time first) = Theory.addReply time first
 
--- what comes next, from the draw at the start of the bytes that are left, and the numbers left in output and noise and the bytes left for records
-unfoldable pub chosen : Bool → ℕ → ℕ → Float → Distributions → Delays → List ℕ → ℕ → ℕ → ℕ → Theory.Plan Float
-chosen ended written total last all delays rest room noise bytes =
-    let time = timeAfter last (drawAt rest) in
-    Theory.plan (counted total) ended written (length rest) time (kindOf (counted total) (startFrom (startAt all delays time (drawAt rest)))) room noise bytes
+-- what comes next, from the message of the next draw, the draw bytes that are left, and the numbers left in output and noise and the bytes left for records
+unfoldable pub chosen : Bool → ℕ → ℕ → Delays → MessageConfig → ℕ → ℕ → ℕ → ℕ → Theory.Plan Float
+chosen ended written total delays next rest room noise bytes =
+    Theory.plan (counted total) ended written rest (next .time) (kindOf (counted total) (startFrom (configStart delays next))) room noise bytes

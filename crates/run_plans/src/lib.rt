@@ -1,4 +1,4 @@
-// What comes next in a run call, from counts and the next draw alone: a stop, samples that are due, or a draw. Assumes nothing.
+// What comes next in a run call, from counts and the next draw's message alone: a stop, samples that are due, or a draw. Assumes nothing.
 ghost use mathlib.Core.Bool.{false};
 ghost use mathlib.Core.Path.{_≡_};
 ghost use Prim.Native.Nat.{_-_, _<_, _^_, min};
@@ -8,7 +8,7 @@ ghost use Rattle.call_lists.specs.PlainRun.{kindOf};
 ghost use Rattle.call_lists.specs.Plans.{planEnded, planReply, planDraw, stopFor, someOr, dueMany};
 ghost use Rattle.run_plans.specs.Plans.{counted, stopRead, planRead, isNegative, chosen};
 use message_config::Delays;
-use settings::Distributions;
+use message_config::MessageConfig;
 
 pub enum Stop {
     Done,
@@ -151,28 +151,26 @@ fn place(
     reply(written, time, first, room, noise, bytes)
 }
 
-// What comes next, given how much is left of what is lent: the numbers of output and noise, and the bytes for records.
+// What comes next, given the message of the next draw and how much is left of what is lent: the draw bytes, the numbers of output and noise, and the bytes for records.
 pub fn choose(
     ended: bool,
     written: u64,
     total: u64,
-    last: f64,
-    all: Distributions,
     delays: Delays,
-    rest: &[u8],
+    next: MessageConfig,
+    rest: usize,
     room: usize,
     noise: usize,
     bytes: usize,
 ) -> Plan
-    ensures { λ r. ⌜ planRead r ≡ chosen ended written total last all delays (now (rest .entry)) room noise bytes ⌝ }
+    ensures { λ r. ⌜ planRead r ≡ chosen ended written total delays next rest room noise bytes ⌝ }
 {
     if ended {
         return drain(written, total, room, noise);
     }
-    if rest.len() < 65 {
+    if rest < 65 {
         return Plan::Halt(Stop::WantsDraws);
     }
-    let time = draw::time_after(last, rest);
-    let start = draw_config::start_at(all, delays, time, rest);
-    place(written, total, time, start, room, noise, bytes)
+    let start = next.first_sample_index(delays);
+    place(written, total, next.time, start, room, noise, bytes)
 }

@@ -13,23 +13,21 @@ use Rattle.constants.specs.Rate.{four}
 use Rattle.le_bytes.specs.LeBytes as LeBytes
 use Rattle.call_lists.specs.Machine.{put}
 use Rattle.call_lists.specs.Buffers.{laid}
-use Rattle.message.specs.Types.{typeNumbered}
 use Rattle.message_config.specs.declared.Delays.{Delays}
 use Rattle.message_config.specs.declared.MessageConfig.{MessageConfig}
 use Rattle.settings.specs.declared.Distributions.{Distributions}
-use Rattle.draw.specs.declared.Draw.{Draw}
 use Rattle.draw.specs.Draw.{drawAt}
-use Rattle.draw.specs.Config.{typeDrawn, configOf}
+use Rattle.draw.specs.Config.{configOf}
+use Rattle.draw_config.specs.Pending.{pendingOf, completedBy}
+use Rattle.draw_config.proofs.Message.{completed-is}
 use Rattle.record.specs.Record.{recordBytes, recordAt}
-use Rattle.record.proofs.RecordLength.{record-length}
 use Rattle.reply_samples.specs.declared.Sample.{Sample}
 use Rattle.reply_samples.specs.Samples.{replySamples, replyCount}
 use Rattle.reply_samples.specs.Added.{addedAt, addedFrom, isPlace, addedReply, addedCount}
 use Rattle.reply_samples.proofs.Ring.{next-ring}
 use Rattle.reply_samples.proofs.Counts.{samples-counted}
-use Rattle.recorded_replies.specs.Recorded.{memoryWith, recordsWith}
+use Rattle.recorded_replies.specs.Recorded.{messageAt, memoryWith, recordsWith}
 use Rattle.generator.specs.Real.{pairOf, Filters, real}
-use Rattle.generator.proofs.ReplyBytes.{made-bytes}
 
 module _ (f : Filters) (total : ℕ) where
   pub added-put : (zs : List Sample) (m : List Float) (s : ℕ) → addedFrom four m (s % 1126) zs ≡ put (real f total) nan m s (map pairOf zs)
@@ -43,14 +41,6 @@ module _ (f : Filters) (total : ℕ) where
   -- the number of samples that the theory counts
   pub counts : (amplitude : Float) (c : MessageConfig) → length (map pairOf (replySamples four (f .modeS) (f .modeAC) (f .delays) amplitude c)) ≡ replyCount four (f .delays) c
   counts amplitude c = length-map (replySamples four (f .modeS) (f .modeAC) (f .delays) amplitude c) pairOf ∙ samples-counted four (f .modeS) (f .modeAC) (f .delays) amplitude c
-
--- every record has 66 bytes
-config-bytes : (all : Distributions) (t : Float) (d : Draw) → length (configOf all t d .reply .bytes) ≡ 14
-unfolding configOf
-config-bytes all t d = made-bytes (typeDrawn (typeNumbered (d .kind))) (d .picks)
-
-pub line-length : (all : Distributions) (t : Float) (d : Draw) (s n : ℕ) → length (recordBytes (configOf all t d) s (d .kind) n) ≡ 66
-line-length all t d s n = record-length (configOf all t d) s (d .kind) n (config-bytes all t d)
 
 -- ---- what the two calls leave, at a place of working memory and where there is room for a record
 a-place : (m : List Float) (place : ℕ) → length m ≡ 2252 → place < 1126 → isPlace four m place ≡ true
@@ -71,18 +61,23 @@ record-is s s′ at line h p =
     p ∙ ap (λ (b : Bool). cond b (LeBytes.laid s at line) s) (le-leb (at + 66) (length s) h) ∙ append-assoc (take at s) line (drop (at + length line) s)
 
 -- what adding and recording a reply leaves, in working memory and where there is room for a record
-module _ (all : Distributions) (delays : Delays) (time : Float) (first : ℕ) (rest : List ℕ) (m : List Float) (l : length m ≡ 2252) where
+module _ (all : Distributions) (delays : Delays) (time : Float) (first : ℕ) (rest : List ℕ) (next : MessageConfig) (e : next ≡ pendingOf all time (drawAt rest)) (m : List Float) (l : length m ≡ 2252) where
+  message : messageAt next delays first rest ≡ configOf all time (drawAt rest)
+  message = ap (λ (c : MessageConfig). completedBy c (drawAt rest .kind) (drawAt rest .picks)) e ∙ completed-is all time (drawAt rest)
+
   in-ring : first % 1126 < 1126
   in-ring = mod-lt first (lit< tt)
 
-  pub added-by : (modeS modeAC m′ : List Float) → m′ ≡ memoryWith all delays time first rest modeS modeAC m
+  pub added-by : (modeS modeAC m′ : List Float) → m′ ≡ memoryWith next delays first rest modeS modeAC m
       → m′ ≡ addedFrom four m (first % 1126) (replySamples four modeS modeAC delays (drawAt rest .amplitude) (configOf all time (drawAt rest)))
   unfolding memoryWith
-  added-by modeS modeAC m′ p = memory-is m m′ (first % 1126) _ l in-ring p
+  added-by modeS modeAC m′ p =
+      memory-is m m′ (first % 1126) _ l in-ring (p ∙ ap (λ (c : MessageConfig). addedReply four m (first % 1126) (replySamples four modeS modeAC delays (drawAt rest .amplitude) c)) message)
 
-  pub recorded-by : (s s′ : List ℕ) (at : ℕ) → at + 66 ≤ length s → s′ ≡ recordsWith all delays time first rest m at s
+  pub recorded-by : (s s′ : List ℕ) (at : ℕ) → at + 66 ≤ length s → s′ ≡ recordsWith next delays first rest m at s
       → s′ ≡ laid at (recordBytes (configOf all time (drawAt rest)) first (drawAt rest .kind) (replyCount four delays (configOf all time (drawAt rest)))) s
   unfolding recordsWith
   recorded-by s s′ at h p =
       record-is s s′ at _ h p
-      ∙ ap (λ (n : ℕ). laid at (recordBytes (configOf all time (drawAt rest)) first (drawAt rest .kind) n) s) (count-is m (first % 1126) (replyCount four delays (configOf all time (drawAt rest))) _ l in-ring refl)
+      ∙ (λ i. laid at (recordBytes (message i) first (drawAt rest .kind) (count-is m (first % 1126) (replyCount four delays (messageAt next delays first rest)) _ l in-ring refl i)) s)
+      ∙ ap (λ (c : MessageConfig). laid at (recordBytes (configOf all time (drawAt rest)) first (drawAt rest .kind) (replyCount four delays c)) s) message

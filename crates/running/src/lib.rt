@@ -66,16 +66,16 @@ fn step(
 {
     let all = s.distributions;
     let delays = s.delays;
+    let next = draw_config::pending(all, t.time, rest);
     let used = 2 * t.samples;
     let lines = t.records;
     let p = run_plans::choose(
         t.ended,
         t.written,
         s.total,
-        t.time,
-        all,
         delays,
-        rest,
+        next,
+        rest.len(),
         output.len() - used,
         noise.len() - used,
         records.len() - 66 * lines,
@@ -87,10 +87,9 @@ fn step(
         Plan::Due(n, _) => due_samples::write_due(memory, noise, output, t.written, t.samples, n),
         Plan::Skip(_) => {}
         Plan::End(_) => {}
-        Plan::Add(time, first) => recorded_replies::add(
-            all,
+        Plan::Add(_, first) => recorded_replies::add(
+            next,
             delays,
-            time,
             first,
             mode_s,
             mode_ac,

@@ -1,5 +1,5 @@
 -- Every number of a sample that a list of run calls writes is finite and at most 2 ^ 53 in size, however many replies overlap and however long the run (`samples-sized`): from 2 ^ 53 on, what a reply or noise adds is less than half of a step of the format. Assumes nothing.
-use mathlib.Core.Path.{_≡_, refl, subst, _∙_}
+use mathlib.Core.Path.{_≡_, refl, subst}
 use Prim.Native.Nat.{ℕ, _+_, _*_, _^_, _≤_}
 use mathlib.Core.Bool.{Bool, true, false, not}
 use mathlib.Core.List.{List, [], _∷_, map}
@@ -31,7 +31,6 @@ use Rattle.draw_times.specs.FloatGenerator.{noiseScale}
 use Rattle.draw_times.proofs.FloatLaws.{laws}
 use Rattle.draw_times.proofs.Times.{GoodTime}
 use Rattle.draw.specs.Config.{configOf}
-use Rattle.draw.proofs.Message.{start-drawn}
 use Rattle.reply_samples.specs.declared.Sample.{Sample}
 use Rattle.reply_samples.specs.Samples.{replySamples}
 use Rattle.generator.specs.Real.{pairOf, loud, Filters, HeldDraw, draws, real}
@@ -94,7 +93,7 @@ module _ (f : Filters) (R : FiltersInRange f) (total : ℕ) (few : total ≤ 2 ^
       mapped (replySamples four (f .modeS) (f .modeAC) (f .delays) (d .draw .amplitude) c)
       (reply-sized (f .modeS) (f .modeAC) p q (f .delays) (d .draw .amplitude) c
       (up-to-sized (d .draw .amplitude) 1 (pos 20) (2 ^ 20) (lit≤ tt) (r .amplitude-from) (r .amplitude-to))
-      (first-clock-of (f .delays) (R .delays) c s (m .time) (m .error) (start-drawn (f .rates) (f .distributions) (d .draw) r (f .delays) t ∙ start) low)
+      (first-clock-of (f .delays) (R .delays) c s (m .time) (m .error) start low)
       (rate-within c (draw-finite f R t (time-in-range t g) d r .rate))
       (phase-within (f .delays) c (reply-finite f R t (time-in-range t g) d r s start low .first-phase)))
 

@@ -7,7 +7,7 @@ use lib.Ieee.Scale.{finite}
 use Rattle.constants.specs.Rate.{four}
 use Rattle.float_bits.specs.Range.{abs, within}
 use Rattle.math.specs.Phase.{phaseWrap}
-use Rattle.le_bytes.specs.LeBytes.{bytesOf, leOf, leAt}
+use Rattle.le_bytes.specs.LeBytes.{bytesOf, leOf, leAt, readAt}
 use Rattle.distributions.specs.Asked.{finiteNotNegative, upTo, offsetLimit, tenth, byKind, clampedNormal, carrierOffset, carrierPhase, clockError, offsetAnswer, phaseAnswer, clockAnswer}
 use Rattle.distributions.specs.declared.CarrierOffset.the-variants as Offset
 use Rattle.distributions.specs.declared.CarrierPhase.the-variants as Phase
@@ -68,5 +68,5 @@ pub worked : answers
     ∷ Refused (Refusal.Distribution 1)
     ∷ Refused (Refusal.Distribution 2)
     ∷ [])
-unfolding acceptedOf durationThen durationOf ratesThen totalThen firstBadRate finiteNotNegative totalFits totalOf sumFrom distributionsOf withOffset withPhase withClock offsetAnswer phaseAnswer clockAnswer carrierOffset carrierPhase clockError clampedNormal byKind upTo offsetLimit tenth within abs finite settingsOf ratesAt ratesOf askedAt f64At leAt leOf bytesOf ofBits ofInt add lt le eq
+unfolding acceptedOf durationThen durationOf ratesThen totalThen firstBadRate finiteNotNegative totalFits totalOf sumFrom distributionsOf withOffset withPhase withClock offsetAnswer phaseAnswer clockAnswer carrierOffset carrierPhase clockError clampedNormal byKind upTo offsetLimit tenth within abs finite settingsOf ratesAt ratesOf askedAt readAt leAt leOf bytesOf ofBits ofInt add lt le eq
 worked = refl

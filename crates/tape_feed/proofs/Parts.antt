@@ -1,4 +1,4 @@
--- The parts that a call is lent are the rest of the draws and of the room and the noise in the bytes, and what it leaves joins the records (`called`). Assumes nothing.
+-- The parts that a call is lent are the rest of the draws and of the room, and what it leaves joins the records (`called`). Assumes nothing.
 use Prim.Native.Nat.{ℕ, _+_, _-_, _*_, _/_, _%_, _^_, _≤_, _<_, min}
 use mathlib.Core.Path.{_≡_, refl, sym, ap, _∙_}
 use mathlib.Core.Bool.{Bool, true, false}
@@ -7,7 +7,7 @@ use native.Mathlib.Nat.{le-div-iff-mul-le, div-lt-iff-lt-mul, mul-comm}
 use native.Mathlib.Omega.{arith}
 use lib.Dec.{leb}
 use lib.ListN.{length, take, drop, length-append, length-take, length-drop}
-use lib.Seq.{take-all, take-at, drop-nil, drop-drop, drop-length}
+use lib.Seq.{take-all, drop-nil, drop-drop, drop-length}
 use lib.Ieee.{Float}
 use borrow.Author.Tests.{leb-true, leb-false}
 use Rattle.refusals.specs.declared.Refusal as Refusal
@@ -15,10 +15,8 @@ use Rattle.running.specs.declared.Ran.{Ran}
 use Rattle.run_plans.specs.declared.Stop as Stop
 use Rattle.running.specs.declared.Answer as Answer
 use Rattle.running.specs.Calls.{runLeft}
-use Rattle.tape_floats.specs.Floats.{floatsOf}
-use Rattle.tape_floats.proofs.Rows.{length-floats}
 use Rattle.tape_verdict.specs.declared.Feed.{Feed}
-use Rattle.tape_feed.specs.Feeding.{Fed, feedAfter, fedAfter, calledOf, fedThen, fedOf, noiseOf}
+use Rattle.tape_feed.specs.Feeding.{Fed, feedAfter, fedAfter, calledOf, fedThen, fedOf}
 
 -- ---- places
 pub inside-place : (k size len : ℕ) → 0 < size → k ≤ len / size → size * k ≤ len
@@ -29,9 +27,6 @@ past-place k size len h g = let p : len < k * size = div-lt-iff-lt-mul h .0 g in
 
 pub within : (n m : ℕ) {a : ℕ} → a ≡ min n m → a ≤ m
 within n m e = omega (arith, e)
-
-pub room-left : (k m l : ℕ) {n : ℕ} → n ≡ min k m → m ≡ 16384 → l ≡ 16384 → n ≤ l
-room-left k m l e p q = omega (arith, e)
 
 module _ {A : Type 0} where
   drop-past : (n : ℕ) (l : List A) → length l ≤ n → drop n l ≡ []
@@ -74,25 +69,16 @@ pub next-feed : (f : Feed) (r : Ran) {x y : ℕ} → x ≡ (f .taken + r .counts
 unfolding feedAfter
 next-feed f r p q = λ i. record { state = r .state; taken = p i; records = q i; answer = r .answer }
 
--- the noise read from bytes, as the call is lent it
-noise-read : (bytes : List ℕ) (row t : List Float) {n : ℕ} → length row ≡ 16384 → n ≡ min (length bytes / 4) (length row) → t ≡ floatsOf n bytes ++ drop n row → take n t ≡ noiseOf bytes
-unfolding noiseOf
-noise-read bytes row t {n} h e p =
-    ap (take n) p
-    ∙ take-at (floatsOf n bytes) (drop n row) n (length-floats n bytes)
-    ∙ ap (λ (k : ℕ). floatsOf k bytes) (e ∙ ap (min (length bytes / 4)) h)
-
-pub called : (f : Feed) (modeS modeAC memory : List Float) (draws bytes : List ℕ) (output : List Float) (records : List ℕ) (row t : List Float) {n a b : ℕ} {r : Ran} {m o : List Float} {ys : List ℕ} {q : Feed}
-    → length row ≡ 16384 → n ≡ min (length bytes / 4) (length row) → t ≡ floatsOf n bytes ++ drop n row
+pub called : (f : Feed) (modeS modeAC memory : List Float) (draws : List ℕ) (noise output : List Float) (records : List ℕ) {a b : ℕ} {r : Ran} {m o : List Float} {ys : List ℕ} {q : Feed}
     → a ≡ min (65 * f .taken) (length draws) → b ≡ min (66 * f .records) (length records)
-    → record { ran = r; memory = m; output = o; records = ys } ≡ runLeft (f .state) modeS modeAC memory (take (length draws - a) (drop a draws)) (take n t) output (take (length records - b) (drop b records)) → q ≡ feedAfter f r
+    → record { ran = r; memory = m; output = o; records = ys } ≡ runLeft (f .state) modeS modeAC memory (take (length draws - a) (drop a draws)) noise output (take (length records - b) (drop b records)) → q ≡ feedAfter f r
     → record { feed = q; memory = m; output = o; records = take b records ++ (ys ++ drop (length records - b) (drop b records)) }
-    ≡ calledOf modeS modeAC draws (noiseOf bytes) (record { feed = f; memory = memory; output = output; records = records })
+    ≡ calledOf modeS modeAC draws noise (record { feed = f; memory = memory; output = output; records = records })
 unfolding calledOf fedAfter
-called f modeS modeAC memory draws bytes output records row t {n} {a} {b} {r} {m} {o} {ys} {q} h hn ht ha hb e z =
+called f modeS modeAC memory draws noise output records {a} {b} {r} {m} {o} {ys} {q} ha hb e z =
     (λ i. record { feed = z i; memory = m; output = o; records = part-back (66 * f .records) b records ys hb i })
     ∙ ap (fedAfter f records)
-    (e ∙ (λ i. runLeft (f .state) modeS modeAC memory (part-from (65 * f .taken) a draws ha i) (noise-read bytes row t h hn ht i) output (part-from (66 * f .records) b records hb i)))
+    (e ∙ (λ i. runLeft (f .state) modeS modeAC memory (part-from (65 * f .taken) a draws ha i) noise output (part-from (66 * f .records) b records hb i)))
 
 -- ---- a chunk
 module _ (modeS modeAC : List Float) (draws : List ℕ) (noise : List Float) (d : Fed) where

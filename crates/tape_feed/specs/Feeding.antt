@@ -1,13 +1,12 @@
 -- A run that is fed its noise chunk by chunk, as the code does it: each chunk is a run call, lent the draws that are not taken and the room behind the records written. Definitions only.
-use Prim.Native.Nat.{ℕ, _+_, _*_, _/_, _%_, _^_, min}
+use Prim.Native.Nat.{ℕ, _+_, _*_, _%_, _^_}
 use mathlib.Core.List.{List, _++_}
-use lib.ListN.{length, take, drop}
+use lib.ListN.{take, drop}
 use lib.Ieee.{Float}
 use Rattle.running.specs.declared.Answer as Answer
 use Rattle.running.specs.declared.Ran.{Ran}
 use Rattle.running.specs.Ended.{Left}
 use Rattle.running.specs.Calls.{runLeft}
-use Rattle.tape_floats.specs.Floats.{floatsOf}
 use Rattle.tape_verdict.specs.declared.Feed.{Feed}
 
 -- a run so far, and what is lent to it for writing
@@ -43,7 +42,3 @@ module _ (modeS modeAC : List Float) (draws : List ℕ) (noise : List Float) whe
   -- the run after a chunk of noise
   unfoldable pub fedOf : Fed → Fed
   fedOf d = fedThen d (d .feed .answer)
-
--- the noise values in a chunk's bytes, 16,384 at most
-unfoldable pub noiseOf : List ℕ → List Float
-noiseOf bytes = floatsOf (min (length bytes / 4) 16384) bytes

@@ -1,7 +1,7 @@
 // A run that is fed a chunk of its noise. The public function is equal to a definition of specs/ on every input. Assumes nothing.
 ghost use mathlib.Core.Path.{_≡_};
 ghost use Prim.Native.Nat.{_*_, _≤_, _<_, min};
-ghost use Rattle.tape_feed.specs.Feeding.{feedAfter, calledOf, fedOf, noiseOf};
+ghost use Rattle.tape_feed.specs.Feeding.{feedAfter, calledOf, fedOf};
 use running::Answer;
 use running::Ran;
 use tape_verdict::Feed;
@@ -32,26 +32,19 @@ fn after(f: Feed, r: Ran) -> Feed
     }
 }
 
-// Room for a chunk's noise; a function of its own, so that a caller's proof does not compute with 16,384 values.
-fn zeros() -> [f32; 16384] {
-    [0.0f32; 16384]
-}
-
-// One run call on the noise in bytes, 16,384 values at most, lent the draws that are not taken and the room behind the records.
+// One run call on a chunk of noise, lent the draws that are not taken and the room behind the records.
 fn call(
     f: Feed,
     mode_s: &[f32],
     mode_ac: &[f32],
     memory: &mut [f32],
     draws: &[u8],
-    bytes: &[u8],
+    noise: &[f32],
     output: &mut [f32],
     records: &mut [u8],
 ) -> Feed
-    ensures { λ r. ⌜ record { feed = r; memory = now (memory .exit); output = now (output .exit); records = now (records .exit) } ≡ calledOf (now («mode_s» .entry)) (now («mode_ac» .entry)) (now (draws .entry)) (noiseOf (now (bytes .entry))) (record { feed = f; memory = now (memory .entry); output = now (output .entry); records = now (records .entry) }) ⌝ }
+    ensures { λ r. ⌜ record { feed = r; memory = now (memory .exit); output = now (output .exit); records = now (records .exit) } ≡ calledOf (now («mode_s» .entry)) (now («mode_ac» .entry)) (now (draws .entry)) (now (noise .entry)) (record { feed = f; memory = now (memory .entry); output = now (output .entry); records = now (records .entry) }) ⌝ }
 {
-    let mut row = zeros();
-    let n = tape_floats::floats(bytes, &mut row);
     let a = place(f.taken, 65, draws.len());
     let b = place(f.records, 66, records.len());
     let s = f.state;
@@ -61,29 +54,29 @@ fn call(
         mode_ac,
         memory,
         &draws[a..],
-        &row[..n],
+        noise,
         output,
         &mut records[b..],
     );
     after(f, r)
 }
 
-// The run after a chunk of noise, as bytes; once refused, it stays as it is.
-pub fn feed_bytes(
+// The run after a chunk of noise; once refused, it stays as it is.
+pub fn feed_noise(
     f: Feed,
     mode_s: &[f32],
     mode_ac: &[f32],
     memory: &mut [f32],
     draws: &[u8],
-    bytes: &[u8],
+    noise: &[f32],
     output: &mut [f32],
     records: &mut [u8],
 ) -> Feed
-    ensures { λ r. ⌜ record { feed = r; memory = now (memory .exit); output = now (output .exit); records = now (records .exit) } ≡ fedOf (now («mode_s» .entry)) (now («mode_ac» .entry)) (now (draws .entry)) (noiseOf (now (bytes .entry))) (record { feed = f; memory = now (memory .entry); output = now (output .entry); records = now (records .entry) }) ⌝ }
+    ensures { λ r. ⌜ record { feed = r; memory = now (memory .exit); output = now (output .exit); records = now (records .exit) } ≡ fedOf (now («mode_s» .entry)) (now («mode_ac» .entry)) (now (draws .entry)) (now (noise .entry)) (record { feed = f; memory = now (memory .entry); output = now (output .entry); records = now (records .entry) }) ⌝ }
 {
     let answer = f.answer;
     match answer {
         Answer::Refused(_) => f,
-        Answer::Stopped(_) => call(f, mode_s, mode_ac, memory, draws, bytes, output, records),
+        Answer::Stopped(_) => call(f, mode_s, mode_ac, memory, draws, noise, output, records),
     }
 }

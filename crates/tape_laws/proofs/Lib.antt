@@ -9,4 +9,4 @@ pub mod PlainTape
 pub mod ReadParts
 pub mod TapeText
 pub mod Section
-pub mod Told
+pub mod Reported

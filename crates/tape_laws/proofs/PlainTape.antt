@@ -1,5 +1,5 @@
--- `plain-tape`: what is claimed of a tape holds of each tape whose head begins a run: fed its noise in any cut, it prints and gives what the plain run on all its draws and noise does (`PlainTape` of specs/).
--- `text-alike`, `samples-alike`: so two ways of cutting print and give the same. `section-text`: so what `tape_stream::feed_section` leaves prints the plain run's text. Assumes nothing.
+-- `plain-tape`: what is claimed of a tape holds of each tape whose head begins a run: fed its noise in any cut, it ends, prints and gives what the plain run on all its draws and noise does (`PlainTape` of specs/).
+-- `text-alike`, `samples-alike`: so two ways of cutting print and give the same. `section-ends`: so what `tape_stream::feed_section` leaves ends as the plain run does. Assumes nothing.
 use Prim.Native.Nat.{ℕ, _+_, _*_, _/_, _≤_}
 use mathlib.Core.Bool.{Bool, true, false, cond}
 use mathlib.Core.List.{List, [], _∷_}
@@ -39,9 +39,9 @@ use Rattle.tape_head.specs.Head.{tapeFault, noiseThen, faultThen, drawsThen, op
 use Rattle.tape_head.proofs.Within.{head-within}
 use Rattle.tape_verdict.specs.Verdict.{startOf}
 use Rattle.tape_laws.specs.Fed.{Held, Chunk, begun, fedAll, samplesFed}
-use Rattle.tape_laws.specs.PlainTape.{plainText, fedText, Cut, noiseIn, FedCut, PlainTape}
+use Rattle.tape_laws.specs.PlainTape.{plainEnding, plainText, fedEnding, fedText, Cut, noiseIn, FedCut, PlainTape}
 use Rattle.tape_laws.proofs.FedCall.{Tape, standing}
-use Rattle.tape_laws.proofs.FedPlain.{fed-text}
+use Rattle.tape_laws.proofs.FedPlain.{fed-ending, fed-text}
 use Rattle.tape_laws.proofs.FedSamples.{fed-samples}
 
 module _ (tape : List ℕ) (lent : Opening.Lent) where
@@ -140,6 +140,8 @@ module _ (tape : List ℕ) (lent : Opening.Lent) where
 
     pub plain-tape : PlainTape s modeS modeAC (headOf four tape lent .left .memory) (drawBytes n)
     plain-tape = record {
+      ending = λ records room c cs cut left.
+          ap (λ (f : Held). fedEnding left (fedAll modeS modeAC (drawBytes n) f (c ∷ cs))) (start records room) ∙ fed-ending (lentTape records room) clean c cs cut left;
       text = λ records room c cs cut left.
           ap (λ (f : Held). fedText left (fedAll modeS modeAC (drawBytes n) f (c ∷ cs))) (start records room) ∙ fed-text (lentTape records room) clean c cs cut left;
       samples = λ records room c cs cut.
@@ -172,9 +174,17 @@ module _ (s : State) (modeS modeAC memory : List Float) (draws : List ℕ) (plai
       ∙ ap (λ (noise : List Float). plainOutput (genOf s modeS modeAC) (Bench.drawsOf (genOf s modeS modeAC) draws) (Bench.pairs noise)) same
       ∙ sym (plain .all-samples records′ room′ c′ cs′ cut′ done′)
 
--- ---- and a run that was fed a whole section, as the contract of `tape_stream::feed_section` has it, prints the text of the plain run on so many noise values
+-- ---- and a run that was fed a whole section, as the contract of `tape_stream::feed_section` has it, ends as the plain run on that many noise values does, and prints its text
 module _ (s : State) (modeS modeAC memory : List Float) (draws : List ℕ) (plain : PlainTape s modeS modeAC memory draws) (records : List ℕ) (room : 66 * (length draws / 65) ≤ length records) (count : ℕ) (f : Held) where
-  pub section-text : FedCut modeS modeAC draws count (begun s memory records) false f
-      → (noise : List Float) × (length noise ≡ count) × ((left : Bool) → fedText left f ≡ plainText s modeS modeAC left (Bench.drawsOf (genOf s modeS modeAC) draws) noise)
+  abbrev G′ : Generator
+  G′ = genOf s modeS modeAC
+
+  pub section-ends : FedCut modeS modeAC draws count (begun s memory records) false f
+      → (noise : List Float) × (length noise ≡ count)
+      × ((left : Bool) → (fedEnding left f ≡ plainEnding s modeS modeAC left (Bench.drawsOf G′ draws) noise records) × (fedText left f ≡ plainText s modeS modeAC left (Bench.drawsOf G′ draws) noise))
   unfolding FedCut
-  section-text h = (noiseIn (h .0 ∷ h .1), h .4 refl, λ left. ap (fedText left) (h .3) ∙ plain .text records room (h .0) (h .1) (h .2) left)
+  section-ends h = (
+    noiseIn (h .0 ∷ h .1),
+    h .4 refl,
+    λ left. (ap (fedEnding left) (h .3) ∙ plain .ending records room (h .0) (h .1) (h .2) left, ap (fedText left) (h .3) ∙ plain .text records room (h .0) (h .1) (h .2) left),
+  )

@@ -1,20 +1,20 @@
--- The values of a noise section, read in parts: parts of a whole number of values, 16,384 at most, that joined are the section's bytes, give its values (`parts-values`). Assumes nothing.
-use Prim.Native.Nat.{ℕ, zero, suc, _+_, _*_, _/_, _%_, _≤_, min}
+-- The values of a noise section, read in parts: parts of a whole number of values that joined are the section's bytes, give its values (`parts-values`). Assumes nothing.
+use Prim.Native.Nat.{ℕ, zero, suc, _+_, _*_, _/_, _%_, _≤_}
 use mathlib.Core.List.{List, [], _∷_, _++_, append-assoc}
 use mathlib.Core.Path.{_≡_, refl, sym, ap, _∙_}
 use native.Mathlib.Omega.{arith}
 use lib.ListN.{length, take, drop, length-append, length-drop, take-append-drop}
-use lib.Seq.{drop-at, drop-drop, take-append-le, drop-append-le, length-take-le}
+use lib.Seq.{drop-at, take-append-le, drop-append-le, length-take-le}
 use lib.Ieee.{Float, binary32, ofBits}
 use Rattle.le_bytes.specs.LeBytes.{leOf, leAt}
 use Rattle.call_lists.specs.PlainBench.{join}
 use Rattle.tape_floats.specs.Floats.{floatsOf}
-use Rattle.tape_feed.specs.Feeding.{noiseOf}
+use Rattle.tape_floats.proofs.Rows.{floats-add}
 use Rattle.tape_laws.specs.Fed.{Chunk}
 use Rattle.tape_laws.specs.PlainTape.{noiseIn}
 use Rattle.tape_laws.specs.TapeText.{Parts}
 
--- the first values do not turn on what stands behind them
+-- the first values do not depend on what stands behind them
 floats-front : (m : ℕ) (a b : List ℕ) → 4 * m ≤ length a → floatsOf m (a ++ b) ≡ floatsOf m a
 unfolding floatsOf leAt
 floats-front zero a b h = refl
@@ -22,21 +22,9 @@ floats-front (suc m) a b h =
     (λ i. ofBits binary32 (leOf (take-append-le 4 a b (omega arith) i)) ∷ floatsOf m (drop-append-le 4 a b (omega arith) i))
     ∙ ap (λ (xs : List Float). ofBits binary32 (leOf (take 4 a)) ∷ xs) (floats-front m (drop 4 a) b (omega (arith, length-drop 4 a)))
 
-floats-more : (m n : ℕ) (b : List ℕ) → floatsOf (m + n) b ≡ floatsOf m b ++ floatsOf n (drop (4 * m) b)
-unfolding floatsOf
-floats-more zero n b = ap (λ (k : ℕ). floatsOf k b) {x = zero + n} {y = n} (omega arith)
-floats-more (suc m) n b =
-    ap (λ (k : ℕ). floatsOf k b) {x = suc m + n} {y = suc (m + n)} (omega arith)
-    ∙ ap (λ (xs : List Float). ofBits binary32 (leAt 4 b 0) ∷ xs) (floats-more m n (drop 4 b))
-    ∙ ap (λ (l : List ℕ). ofBits binary32 (leAt 4 b 0) ∷ (floatsOf m (drop 4 b) ++ floatsOf n l)) (drop-drop (4 * m) 4 b ∙ ap (λ (k : ℕ). drop k b) {x = 4 + 4 * m} {y = 4 * suc m} (omega arith))
-
 -- of one part and what follows it
 floats-join : (k n : ℕ) (b rest : List ℕ) → length b ≡ 4 * k → floatsOf (k + n) (b ++ rest) ≡ floatsOf k b ++ floatsOf n rest
-floats-join k n b rest h = floats-more k n (b ++ rest) ∙ (λ i. floats-front k b rest (omega (arith, h)) i ++ floatsOf n (drop-at b rest (4 * k) h i))
-
-part-values : (b : List ℕ) → length b % 4 ≡ 0 → length b ≤ 65536 → noiseOf b ≡ floatsOf (length b / 4) b
-unfolding noiseOf
-part-values b e h = ap (λ (n : ℕ). floatsOf n b) {x = min (length b / 4) 16384} {y = length b / 4} (omega arith)
+floats-join k n b rest h = floats-add k n (b ++ rest) ∙ (λ i. floats-front k b rest (omega (arith, h)) i ++ floatsOf n (drop-at b rest (4 * k) h i))
 
 all-values : (bs : List (List ℕ)) (cs : List Chunk) → Parts bs cs → (length (join bs) % 4 ≡ 0) × (noiseIn cs ≡ floatsOf (length (join bs) / 4) (join bs))
 unfolding Parts noiseIn floatsOf
@@ -44,11 +32,10 @@ all-values [] [] p = (omega arith, ap (λ (n : ℕ). floatsOf n []) {x = 0} {y =
 all-values [] (c ∷ cs) p = absurd p
 all-values (b ∷ bs) [] p = absurd p
 all-values (b ∷ bs) (c ∷ cs) p =
-    let later = all-values bs cs (p .3) in
+    let later = all-values bs cs (p .2) in
     let whole = length-append b (join bs) in (
       omega (arith, p .1, later .0, whole),
       (λ i. p .0 i ++ later .1 i)
-          ∙ ap (λ (xs : List Float). xs ++ floatsOf (length (join bs) / 4) (join bs)) (part-values b (p .1) (p .2))
           ∙ sym (floats-join (length b / 4) (length (join bs) / 4) b (join bs) (omega (arith, p .1)))
           ∙ ap (λ (n : ℕ). floatsOf n (b ++ join bs)) {x = length b / 4 + length (join bs) / 4} {y = length (b ++ join bs) / 4} (omega (arith, p .1, later .0, whole)),
     )

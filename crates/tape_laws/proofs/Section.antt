@@ -3,16 +3,15 @@ use Prim.Native.Nat.{ℕ, _+_, _-_, _*_, _/_, _%_, _≤_, _<_, min}
 use mathlib.Core.Bool.{Bool, true, false, cond, true≢false}
 use mathlib.Core.Logic.{_⊎_, inl, inr}
 use mathlib.Core.List.{List, [], _∷_, _++_}
-use mathlib.Core.Path.{_≡_, refl, sym, ap, _∙_, subst}
+use mathlib.Core.Path.{_≡_, refl, sym, ap, _∙_}
 use native.Mathlib.Omega.{arith}
 use lib.Dec.{ltb}
 use lib.ListN.{length, take, length-append}
 use lib.Seq.{length-take-le}
 use lib.Ieee.{Float}
 use borrow.Author.Tests.{ltb-false}
-use Rattle.tape_floats.proofs.Rows.{length-floats}
 use Rattle.tape_verdict.specs.declared.Feed.{Feed}
-use Rattle.tape_feed.specs.Feeding.{fedOf, noiseOf}
+use Rattle.tape_feed.specs.Feeding.{fedOf}
 use Rattle.tape_laws.specs.Fed.{Held, Chunk, lend, keep, fedAll}
 use Rattle.tape_laws.specs.PlainTape.{Roomy, Cut, noiseIn, FedCut}
 
@@ -45,7 +44,7 @@ module _ (modeS modeAC : List Float) (draws : List ℕ) (d : Held) where
   fed-more [] c g = refl
   fed-more (b ∷ cs) c g = fed-more cs c (keep (fedOf modeS modeAC draws (b .noise) (lend b g)))
 
-  -- a run fed so far, with so many turns to come and so many values left of a section, unless that is cut short
+  -- a run fed so far, with this many turns to come and values left of a section, unless that is cut short
   pub record Going (count turns left : ℕ) (short : Bool) (f : Held) : Type 0 where
     chunks : List Chunk
     fed : f ≡ fedAll modeS modeAC draws d chunks
@@ -75,7 +74,7 @@ module _ (modeS modeAC : List Float) (draws : List ℕ) (d : Held) where
       go [] e h k = absurd h
       go (c ∷ cs) e h k = (c, cs, h, e, k)
 
--- ---- as a program reads a section: so many values are wanted at a time, 16,384 at most, and a turn more only where the section was not short and some are left
+-- ---- as a program reads a section: want values at a time, 16,384 at most, and a turn more only where the section was not short and some are left
 pub no-more : {a b : ℕ} → a ≡ b → a ≤ b
 no-more e = omega arith
 
@@ -84,53 +83,43 @@ pub fewer-left : (left want turns next want′ turns′ : ℕ) (short : Bool) �
 fewer-left left want turns next want′ turns′ true h m e t = omega (arith, e, t)
 fewer-left left want turns next want′ turns′ false h m e t = omega (arith, e, t)
 
-pub as-read : {X : Type 0} (n : ℕ) (bytes : List X) → n ≤ length bytes → (n ≡ 0) ⊎ (n ≡ 65536) → (length (take n bytes) ≡ 0) ⊎ (length (take n bytes) ≡ 65536)
-as-read n bytes h d = subst (λ (k : ℕ). (k ≡ 0) ⊎ (k ≡ 65536)) (sym (length-take-le n bytes h)) d
-
--- what a turn comes to, by what was read, whether the samples were taken, and what is then left: behind a chunk that is not the last, none or 65,536 bytes of it were read;
+-- a turn, by the values read, whether the samples were taken, and what is then left: a chunk that is not the last has an even number of values;
 -- where the section is not cut short, as many values as were wanted; a section that goes on is not cut short; and where there is no turn more, nothing is left
-pub record Turned (whole want left left′ turns′ : ℕ) (short′ : Bool) : Type 0 where
-  pub even : 0 < turns′ → (whole ≡ 0) ⊎ (whole ≡ 65536)
-  pub read : short′ ≡ false → (whole ≡ 4 * want) × (want + left′ ≡ left)
+pub record Turned (n want left left′ turns′ : ℕ) (short′ : Bool) : Type 0 where
+  pub even : 0 < turns′ → n % 2 ≡ 0
+  pub read : short′ ≡ false → (n ≡ want) × (want + left′ ≡ left)
   pub goes-on : 0 < turns′ → short′ ≡ false
   pub over : turns′ ≡ 0 → left′ ≡ 0
 
-pub turned : (whole want left left′ want′ turns′ : ℕ) (gone short′ : Bool) → whole ≤ 4 * want → (whole < 4 * want → whole ≡ 0) → (want ≡ 0) ⊎ (want ≡ min left 16384) → want ≤ left
-    → short′ ≡ cond (ltb whole (4 * want)) true gone → left′ ≡ cond short′ 0 (left - want) → want′ ≡ min left′ 16384 → turns′ ≡ min want′ 1 → Turned whole want left left′ turns′ short′
-turned whole want left left′ want′ turns′ gone true within none w h s l n t = record {
-  even = λ more. absurd (omega (arith, l, n, t));
+pub turned : (n want left left′ want′ turns′ : ℕ) (untaken short′ : Bool) → n ≤ want → (want ≡ 0) ⊎ (want ≡ min left 16384) → want ≤ left
+    → short′ ≡ cond (ltb n want) true untaken → left′ ≡ cond short′ 0 (left - want) → want′ ≡ min left′ 16384 → turns′ ≡ min want′ 1 → Turned n want left left′ turns′ short′
+turned n want left left′ want′ turns′ untaken true within w h s l m t = record {
+  even = λ more. absurd (omega (arith, l, m, t));
   read = λ e. absurd (true≢false e);
-  goes-on = λ more. absurd (omega (arith, l, n, t));
+  goes-on = λ more. absurd (omega (arith, l, m, t));
   over = λ e. l;
 }
-turned whole want left left′ want′ turns′ gone false within none w h s l n t = record { even = λ more. by w more; read = λ e. (all, omega (arith, l)); goes-on = λ more. refl; over = λ e. omega (arith, n, t) }
+turned n want left left′ want′ turns′ untaken false within w h s l m t = record { even = λ more. by w more; read = λ e. (all, omega (arith, l)); goes-on = λ more. refl; over = λ e. omega (arith, m, t) }
   where
-    not-early : (early : Bool) → ltb whole (4 * want) ≡ early → false ≡ cond early true gone → early ≡ false
+    not-early : (early : Bool) → ltb n want ≡ early → false ≡ cond early true untaken → early ≡ false
     not-early true e q = absurd (true≢false (sym q))
     not-early false e q = refl
 
-    all : whole ≡ 4 * want
-    all = omega (arith, ltb-false whole (4 * want) (not-early (ltb whole (4 * want)) refl s))
+    all : n ≡ want
+    all = omega (arith, ltb-false n want (not-early (ltb n want) refl s))
 
-    by : (want ≡ 0) ⊎ (want ≡ min left 16384) → 0 < turns′ → (whole ≡ 0) ⊎ (whole ≡ 65536)
-    by (inl e) more = inl (omega (arith, all))
-    by (inr e) more = inr (omega (arith, all, l, n, t))
-
-length-noise : (bytes : List ℕ) → length (noiseOf bytes) ≡ min (length bytes / 4) 16384
-unfolding noiseOf
-length-noise bytes = length-floats (min (length bytes / 4) 16384) bytes
-
-even-noise : (bytes : List ℕ) → (length bytes ≡ 0) ⊎ (length bytes ≡ 65536) → length (noiseOf bytes) % 2 ≡ 0
-even-noise bytes (inl h) = omega (arith, length-noise bytes)
-even-noise bytes (inr h) = omega (arith, length-noise bytes)
+    by : (want ≡ 0) ⊎ (want ≡ min left 16384) → 0 < turns′ → n % 2 ≡ 0
+    by (inl e) more = omega (arith, all)
+    by (inr e) more = omega (arith, all, l, m, t)
 
 module _ (modeS modeAC : List Float) (draws : List ℕ) (d : Held) where
-  pub next-turn : (count turns turns′ left left′ want : ℕ) (short short′ : Bool) (f f′ : Feed) (memory memory′ : List Float) (records records′ bytes : List ℕ) (output output′ : List Float)
-      → Going modeS modeAC draws d count turns left short (record { feed = f; memory = memory; records = records }) → 0 < turns → length output ≡ 16386 → (0 < turns′ → (length bytes ≡ 0) ⊎ (length bytes ≡ 65536))
-      → want ≤ 16384 → short ≡ false → (short′ ≡ false → (length bytes ≡ 4 * want) × (want + left′ ≡ left))
-      → record { feed = f′; memory = memory′; output = output′; records = records′ } ≡ fedOf modeS modeAC draws (noiseOf bytes) (record { feed = f; memory = memory; output = output; records = records })
+  pub next-turn : (count turns turns′ left left′ want n : ℕ) (short short′ : Bool) (f f′ : Feed) (memory memory′ : List Float) (records records′ : List ℕ) (row output output′ : List Float)
+      → Going modeS modeAC draws d count turns left short (record { feed = f; memory = memory; records = records }) → 0 < turns → length output ≡ 16386 → n ≤ length row → n ≤ want → want ≤ 16384 → short ≡ false
+      → Turned n want left left′ turns′ short′
+      → record { feed = f′; memory = memory′; output = output′; records = records′ } ≡ fedOf modeS modeAC draws (take n row) (record { feed = f; memory = memory; output = output; records = records })
       → Going modeS modeAC draws d count turns′ left′ short′ (record { feed = f′; memory = memory′; records = records′ })
   unfolding keep lend
-  next-turn count turns turns′ left left′ want short short′ f f′ memory memory′ records records′ bytes output output′ g more long even few so-far read e =
-      going-on modeS modeAC draws d count turns turns′ left left′ short short′ (record { feed = f; memory = memory; records = records }) (record { feed = f′; memory = memory′; records = records′ }) (record { noise = noiseOf bytes; output = output }) g more
-      (omega (arith, long), omega (arith, long, length-noise bytes)) (λ h. even-noise bytes (even h)) (λ h. (so-far, omega (arith, length-noise bytes, read h .0, read h .1))) (ap keep e)
+  next-turn count turns turns′ left left′ want n short short′ f f′ memory memory′ records records′ row output output′ g more long inside few most so-far t e =
+      let l : length (take n row) ≡ n = length-take-le n row inside in
+      going-on modeS modeAC draws d count turns turns′ left left′ short short′ (record { feed = f; memory = memory; records = records }) (record { feed = f′; memory = memory′; records = records′ }) (record { noise = take n row; output = output }) g more
+      (omega (arith, long), omega (arith, long, l)) (λ h. omega (arith, t .even h, l)) (λ h. (so-far, omega (arith, l, t .read h .0, t .read h .1))) (ap keep e)

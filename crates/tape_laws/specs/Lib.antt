@@ -1,4 +1,4 @@
 pub mod Fed
 pub mod PlainTape
 pub mod TapeText
-pub mod Told
+pub mod Reported

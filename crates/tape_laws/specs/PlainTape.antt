@@ -1,4 +1,4 @@
--- What the tape program says of a tape whose head is accepted: by the plain run on the tape's draws and all its noise, which knows no chunks (`plainText`); of a run that was fed its noise in chunks (`fedText`, as the program's last lines have it); and the claim that they are the same (`PlainTape`). Definitions only.
+-- How a tape ends whose head is accepted, and its text: by the plain run on the tape's draws and all its noise, which knows no chunks (`plainEnding`, `plainText`); of a run that was fed its noise in chunks (`fedEnding`, `fedText`); and the claim that they are the same (`PlainTape`). Definitions only.
 use Prim.Native.Nat.{ℕ, zero, suc, _*_, _/_, _%_, _≤_, _<_}
 use mathlib.Core.Bool.{Bool, true, false, cond, _&&_, _||_}
 use mathlib.Core.Path.{_≡_}
@@ -8,7 +8,7 @@ use lib.ListN.{length}
 use lib.Ieee.{Float}
 use Rattle.call_lists.specs.Generator.{Generator}
 use Rattle.call_lists.specs.PlainRun.{ended, plainRecords}
-use Rattle.call_lists.specs.PlainBench.{pairs, drawsOf}
+use Rattle.call_lists.specs.PlainBench.{pairs, over, drawsOf}
 use Rattle.call_lists.specs.Demand3.{Prefix, plainOutput, plainLines}
 use Rattle.run_plans.specs.declared.Stop as Stop
 use Rattle.running.specs.declared.State.{State}
@@ -18,10 +18,20 @@ use Rattle.tape_text.specs.Text.{runText, refusedText}
 use Rattle.tape_verdict.specs.Verdict.{verdictOf}
 use Rattle.tape_laws.specs.Fed.{Held, Chunk, begun, fedAll, samplesFed}
 
--- the text by a verdict: 0 is no refusal
-unfoldable pub textBy : ℕ → List ℕ → ℕ → ℕ → List ℕ
-textBy zero records count samples = runText records count samples
-textBy (suc n) records count samples = refusedText (suc n)
+-- how a tape ends: with its run done, record bytes, and its numbers of records and samples; or refused by a number
+pub data Ending : Type 0 where
+  done : (bytes : List ℕ) (records samples : ℕ) → Ending
+  refused : (number : ℕ) → Ending
+
+-- the ending by a verdict: 0 is no refusal
+unfoldable pub endingBy : ℕ → List ℕ → ℕ → ℕ → Ending
+endingBy zero bytes records samples = done bytes records samples
+endingBy (suc n) bytes records samples = refused (suc n)
+
+-- the text of an ending
+unfoldable pub endingText : Ending → List ℕ
+endingText (done bytes records samples) = runText bytes records samples
+endingText (refused number) = refusedText number
 
 module _ (G : Generator) where
   open Generator G using (Value, Draw, t0, loud, total)
@@ -37,16 +47,24 @@ module _ (G : Generator) where
 
   -- "noise value by value to the last, used or not; then a run not Done, then bytes left over": 8, 11, or 0 for no refusal
   unfoldable pub plainVerdict : Bool → List Draw → List Value → ℕ
-  plainVerdict over ds noise = cond (loudIn noise) 8 (cond (plainDone ds noise) (cond over 11 0) 11)
+  plainVerdict left ds noise = cond (loudIn noise) 8 (cond (plainDone ds noise) (cond left 11 0) 11)
 
--- of a run with this state and these prototypes: the text on all draws and noise of its tape, with or without bytes left over behind them
+-- of a run with this state and these prototypes, on all draws and noise of its tape, with or without bytes left over behind them
 module _ (s : State) (modeS modeAC : List Float) where
-  unfoldable pub plainText : Bool → List (genOf s modeS modeAC .Draw) → List Float → List ℕ
-  plainText over ds noise = textBy (plainVerdict (genOf s modeS modeAC) over ds noise) (plainLines (genOf s modeS modeAC) ds) (length (plainRecords (genOf s modeS modeAC) ds)) (s .total)
+  -- its ending: the records stand at the start of the bytes lent for them
+  unfoldable pub plainEnding : Bool → List (genOf s modeS modeAC .Draw) → List Float → List ℕ → Ending
+  plainEnding left ds noise room = endingBy (plainVerdict (genOf s modeS modeAC) left ds noise) (over (plainLines (genOf s modeS modeAC) ds) room) (length (plainRecords (genOf s modeS modeAC) ds)) (s .total)
 
--- the text of a run that was fed all its noise, by its verdict
+  -- its text
+  unfoldable pub plainText : Bool → List (genOf s modeS modeAC .Draw) → List Float → List ℕ
+  plainText left ds noise = endingText (endingBy (plainVerdict (genOf s modeS modeAC) left ds noise) (plainLines (genOf s modeS modeAC) ds) (length (plainRecords (genOf s modeS modeAC) ds)) (s .total))
+
+-- of a run that was fed all its noise, by its verdict
+unfoldable pub fedEnding : Bool → Held → Ending
+fedEnding left f = endingBy (verdictOf false (f .feed .answer) left) (f .records) (f .feed .records) (f .feed .state .written)
+
 unfoldable pub fedText : Bool → Held → List ℕ
-fedText over f = textBy (verdictOf false (f .feed .answer) over) (f .records) (f .feed .records) (f .feed .state .written)
+fedText left f = endingText (fedEnding left f)
 
 -- noise cut as the tape program cuts it: each chunk but the last has an even number of values, and each is lent an even output of more values than it has
 abbrev pub Roomy : Chunk → Type 0
@@ -62,14 +80,16 @@ unfoldable pub noiseIn : List Chunk → List Float
 noiseIn [] = []
 noiseIn (c ∷ cs) = c .noise ++ noiseIn cs
 
--- a run that was fed noise, so cut: all of a section of so many values, but where that is cut short
+-- a run that was fed noise, so cut: all of a section of count values, unless that is cut short
 unfoldable pub FedCut : List Float → List Float → List ℕ → ℕ → Held → Bool → Held → Type 0
 FedCut modeS modeAC draws count d short f =
     (c : Chunk) × (cs : List Chunk) × Cut (c ∷ cs) × (f ≡ fedAll modeS modeAC draws d (c ∷ cs)) × (short ≡ false → length (noiseIn (c ∷ cs)) ≡ count)
 
 -- The claim on a run with this state, these prototypes and this working memory, and on the bytes of its tape's draws: lent record bytes with room for each draw, and fed its noise in any chunks so cut,
--- it prints the plain run's text, with or without bytes left over; and the samples that the chunks give are a first part of the plain run's on all draws and noise, and all of them where the run is Done.
+-- it ends as the plain run does and prints its text, with or without bytes left over; and the samples that the chunks give are a first part of the plain run's on all draws and noise, and all of them where the run is Done.
 pub record PlainTape (s : State) (modeS modeAC memory : List Float) (draws : List ℕ) : Type 0 where
+  pub ending : (records : List ℕ) → 66 * (length draws / 65) ≤ length records → (c : Chunk) (cs : List Chunk) → Cut (c ∷ cs)
+      → (left : Bool) → fedEnding left (fedAll modeS modeAC draws (begun s memory records) (c ∷ cs)) ≡ plainEnding s modeS modeAC left (drawsOf (genOf s modeS modeAC) draws) (noiseIn (c ∷ cs)) records
   pub text : (records : List ℕ) → 66 * (length draws / 65) ≤ length records → (c : Chunk) (cs : List Chunk) → Cut (c ∷ cs)
       → (left : Bool) → fedText left (fedAll modeS modeAC draws (begun s memory records) (c ∷ cs)) ≡ plainText s modeS modeAC left (drawsOf (genOf s modeS modeAC) draws) (noiseIn (c ∷ cs))
   pub samples : (records : List ℕ) → 66 * (length draws / 65) ≤ length records → (c : Chunk) (cs : List Chunk) → Cut (c ∷ cs)

@@ -1,5 +1,5 @@
 -- Document 01's tape program as a function of the tape's bytes: the text that it prints. Definitions only.
-use Prim.Native.Nat.{ℕ, _+_, _*_, _%_, _≤_}
+use Prim.Native.Nat.{ℕ, _+_, _*_, _/_, _%_}
 use mathlib.Core.Bool.{cond}
 use mathlib.Core.Path.{_≡_}
 use mathlib.Core.List.{List, [], _∷_}
@@ -17,7 +17,6 @@ use Rattle.tape_sections.specs.Sections.{drawsPlace, noisePlace}
 use Rattle.tape_text.specs.Text.{refusedText}
 use Rattle.tape_head.specs.declared.Beginning as Beginning
 use Rattle.tape_head.specs.Head.{tapsS, tapsAC, headOf}
-use Rattle.tape_feed.specs.Feeding.{noiseOf}
 use Rattle.tape_laws.specs.Fed.{Chunk}
 use Rattle.tape_laws.specs.PlainTape.{plainText}
 
@@ -25,12 +24,12 @@ use Rattle.tape_laws.specs.PlainTape.{plainText}
 unfoldable pub lentByProgram : Lent
 lentByProgram = record { modeS = zeros (prototypeLength four); modeAC = zeros (prototypeLength four); memory = zeros (workingMemory four) }
 
--- chunks of the noise in parts of bytes: each a whole number of values, 16,384 at most
+-- chunks of the noise in parts of bytes: each a whole number of values
 unfoldable pub Parts : List (List ℕ) → List Chunk → Type 0
 Parts [] [] = Unit {0}
 Parts [] (c ∷ cs) = ⊥
 Parts (b ∷ bs) [] = ⊥
-Parts (b ∷ bs) (c ∷ cs) = (c .noise ≡ noiseOf b) × (length b % 4 ≡ 0) × (length b ≤ 65536) × Parts bs cs
+Parts (b ∷ bs) (c ∷ cs) = (c .noise ≡ floatsOf (length b / 4) b) × (length b % 4 ≡ 0) × Parts bs cs
 
 module _ (tape : List ℕ) where
   -- the bytes of n draws, and those behind the noise's count

@@ -1,4 +1,4 @@
-// Bytes of a tape from standard input: the part before its noise, and a part of known length. What is read is not stated, since it is not known; how much is counted is. Assumes nothing but the kit's io and libc.
+// A tape from standard input: its bytes before the noise, and values of its noise. What is read is not stated, since it is not known; how much is counted is. Assumes nothing but the kit's io and libc.
 ghost use mathlib.Core.Path.{_≡_};
 ghost use Prim.Native.Nat.{_≤_, _<_};
 ghost use lib.ListN.{length};
@@ -12,8 +12,8 @@ fn all_or_none(size: usize, got: usize) -> usize
     if got < size { 0 } else { size }
 }
 
-// So many bytes read; none are counted where there were fewer, or where there is no room for them.
-pub fn read_whole(size: usize, bytes: &mut [u8]) -> usize
+// A part of known length; no byte is counted where there were fewer, or where there is no room for them.
+fn read_whole(size: usize, bytes: &mut [u8]) -> usize
     ensures { λ r. ⌜ (r ≤ length (now (bytes .exit))) × (r ≤ size) × (r < size → r ≡ 0) ⌝ }
 {
     if size <= bytes.len() {
@@ -23,7 +23,22 @@ pub fn read_whole(size: usize, bytes: &mut [u8]) -> usize
     0
 }
 
-// The bytes of a tape up to its noise, 38,139 at most; how many there are. None are read where there is no room for so many.
+// Noise values, all that are wanted or none: none where there were fewer, where there is no room for them, and where more than 16,384 are wanted at once.
+pub fn read_values(want: usize, row: &mut [f32]) -> usize
+    ensures { λ r. ⌜ (r ≤ length (now (row .exit))) × (r ≤ want) × (r < want → r ≡ 0) ⌝ }
+{
+    if row.len() < want {
+        return 0;
+    }
+    if 16384 < want {
+        return 0;
+    }
+    let mut bytes = [0u8; 65536];
+    let size = read_whole(4 * want, &mut bytes);
+    tape_floats::floats(&bytes[..size], row)
+}
+
+// The bytes of a tape up to its noise, 38,139 at most; how many there are. None are read where there is no room for 38,139.
 pub fn read_head(bytes: &mut [u8]) -> usize
     ensures { λ r. ⌜ Counts r (now (bytes .exit)) ⌝ }
 {

@@ -1,33 +1,31 @@
-// A tape on standard input, run to its end: the verdict on it, its records, and how many samples were written, on standard output where they are asked for.
-// What is read is not stated, since it is not known; that what is told is right for some tape, is. Assumes nothing but the kit's io and libc.
+// A tape on standard input, run to its end: what is reported of it, its records where its run is done, and its samples, on standard output where they are asked for.
+// What is read is not stated, since it is not known; that what is reported is right for some tape, is. Assumes nothing but the kit's io and libc.
 ghost use mathlib.Core.Path.{_≡_};
-ghost use Rattle.tape_verdict.specs.Verdict.{verdictOf};
-ghost use Rattle.tape_laws.specs.Told.{Told};
+ghost use mathlib.Core.Bool.{cond};
+ghost use lib.ListN.{length};
+ghost use Rattle.tape_laws.specs.Reported.{Reported, recordsLent};
 use tape_head::Beginning;
-use tape_stream::Section;
+use tape_verdict::Outcome;
 
-// The verdict on a tape, 0 for no refusal; the records at the start of the bytes lent for them; the samples written.
-pub struct Outcome {
-    pub verdict: u64,
-    pub records: usize,
-    pub samples: u64,
+// A copy of the bytes lent for records: a run that is not done leaves those as they were.
+fn copied(bytes: [u8; 26400]) -> [u8; 26400]
+    ensures { λ r. ⌜ (r ≡ bytes) × (recordsLent ≡ length r) ⌝ }
+{
+    bytes
 }
 
-fn of_section(s: Section) -> Outcome
-    ensures { λ r. ⌜ r ≡ record { verdict = verdictOf (s .short) (s .feed .answer) (s .over); records = s .feed .records; samples = s .feed .state .written } ⌝ }
+// Writes the bytes where they are wanted.
+fn keep(wanted: bool, bytes: [u8; 26400], records: &mut [u8; 26400])
+    ensures { λ _. ⌜ now (records .exit) ≡ cond wanted bytes (now (records .entry)) ⌝ }
 {
-    let f = s.feed;
-    let answer = f.answer;
-    Outcome {
-        verdict: tape_verdict::verdict(s.short, answer, s.over),
-        records: f.records,
-        samples: f.state.written,
+    if wanted {
+        *records = bytes;
     }
 }
 
-// Runs the tape; a tape of 400 draws has 26,400 bytes of records at most.
-pub fn run_tape(samples: bool, records: &mut [u8]) -> Outcome
-    ensures { λ r. ⌜ Told (r .verdict) (r .records) (r .samples) (now (records .entry)) (now (records .exit)) ⌝ }
+// Runs the tape. Of a run that is done the records stand at the start of the bytes lent for them; on a refusal, and where the samples are not taken, those bytes are as they were.
+pub fn run_tape(samples: bool, records: &mut [u8; 26400]) -> Outcome
+    ensures { λ r. ⌜ Reported r (now (records .entry)) (now (records .exit)) ⌝ }
 {
     let mut bytes = [0u8; 38139];
     let got = tape_reading::read_head(&mut bytes);
@@ -35,15 +33,12 @@ pub fn run_tape(samples: bool, records: &mut [u8]) -> Outcome
     let mut mode_ac = [0.0f32; 1792];
     let mut memory = [0.0f32; 2252];
     match tape_head::head(&bytes[..got], &mut mode_s, &mut mode_ac, &mut memory) {
-        Beginning::Refused(number) => Outcome {
-            verdict: number,
-            records: 0,
-            samples: 0,
-        },
+        Beginning::Refused(number) => Outcome::Refused(number, 0),
         Beginning::Run(state, n, count) => {
             let end = 12135 + 65 * n as usize;
             let f = tape_verdict::start(state);
-            of_section(tape_stream::feed_section(
+            let mut own = copied(*records);
+            let s = tape_stream::feed_section(
                 f,
                 count,
                 samples,
@@ -51,8 +46,12 @@ pub fn run_tape(samples: bool, records: &mut [u8]) -> Outcome
                 &mode_s,
                 &mode_ac,
                 &mut memory,
-                records,
-            ))
+                &mut own,
+            );
+            let feed = s.feed;
+            let outcome = tape_verdict::reported(s.untaken, s.short, s.over, feed);
+            keep(tape_verdict::is_done(outcome), own, records);
+            outcome
         }
     }
 }

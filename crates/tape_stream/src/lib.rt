@@ -36,13 +36,16 @@ fn progress(before: u64, after: u64) {
     }
 }
 
-// Bytes are left over.
-fn left_over() -> bool {
+// Whether bytes are left over behind a section; none are looked for where it is cut short.
+fn left_over(short: bool) -> bool {
+    if short {
+        return false;
+    }
     let mut b = [0u8; 1];
     0 < io::read_full(STDIN_FILENO, &mut b)
 }
 
-// The samples that a call wrote, from one number of samples to the next; true where nobody takes them.
+// The samples that a call wrote, from one number of samples to the next; true where standard output does not take them.
 fn write_samples(before: u64, after: u64, output: &[f32]) -> bool {
     let k = least(difference(after, before), 8193);
     let n = least(2 * k, output.len() as u64) as usize;
@@ -50,12 +53,14 @@ fn write_samples(before: u64, after: u64, output: &[f32]) -> bool {
     tape_floats::float_bytes(&output[..n], &mut out);
     let size = 4 * n;
     let all: &[u8] = &out;
-    let taken = io::write_all(STDOUT_FILENO, &all[..size]);
-    progress(before, after);
-    !taken
+    if io::write_all(STDOUT_FILENO, &all[..size]) {
+        progress(before, after);
+        return false;
+    }
+    true
 }
 
-// Where samples are asked for, they are written; true where nobody takes them.
+// Where samples are asked for, they are written; true where standard output does not take them.
 fn put_samples(asked: bool, before: u64, after: u64, output: &[f32]) -> bool {
     if asked {
         return write_samples(before, after, output);
@@ -72,7 +77,7 @@ fn either(a: bool, b: bool) -> bool
     b
 }
 
-// The values left after so many; none once the section is cut short.
+// The values left after those wanted; none once the section is cut short.
 fn left_after(left: u64, want: u64, short: bool) -> u64
     ensures { λ r. ⌜ r ≡ cond short 0 (left - want) ⌝ }
 {
@@ -82,14 +87,15 @@ fn left_after(left: u64, want: u64, short: bool) -> u64
     difference(left, want)
 }
 
-// A run after its noise section; whether that was cut short, since there were fewer values or nobody takes the samples; and whether bytes are left over behind it.
+// A run after its noise section; whether standard output does not take its samples; whether the section was cut short, by that or since there were fewer values; and whether bytes are left over behind it.
 pub struct Section {
     pub feed: Feed,
+    pub untaken: bool,
     pub short: bool,
     pub over: bool,
 }
 
-// A noise section of so many values, in chunks of up to 16,384; first none, so that a run of no samples is done. Of a
+// A noise section of count values, in chunks of up to 16,384; first none, so that a run of no samples is done. Of a
 // chunk that is not whole nothing is fed, and once the section is cut short no more is read.
 pub fn feed_section(
     first: Feed,
@@ -104,35 +110,36 @@ pub fn feed_section(
     ensures { λ r. ⌜ FedCut (now («mode_s» .entry)) (now («mode_ac» .entry)) (now (draws .entry)) count (record { feed = first; memory = now (memory .entry); records = now (records .entry) }) (r .short) (record { feed = r .feed; memory = now (memory .exit); records = now (records .exit) }) ⌝ }
 {
     let mut f = first;
+    let mut untaken = false;
     let mut short = false;
     let mut left = count;
     let mut want: u64 = 0;
     let mut turns: u64 = 1;
     while 0 < turns {
-        let size = 4 * want as usize;
-        let mut bytes = [0u8; 65536];
+        let mut row = [0.0f32; 16384];
         let mut output = [0.0f32; 16386];
-        let whole = tape_reading::read_whole(size, &mut bytes);
+        let n = tape_reading::read_values(want as usize, &mut row);
         let before = f.state.written;
-        f = tape_feed::feed_bytes(
+        f = tape_feed::feed_noise(
             f,
             mode_s,
             mode_ac,
             memory,
             draws,
-            &bytes[..whole],
+            &row[..n],
             &mut output,
             records,
         );
-        let gone = put_samples(samples, before, f.state.written, &output);
-        short = either(whole < size, gone);
+        untaken = put_samples(samples, before, f.state.written, &output);
+        short = either((n as u64) < want, untaken);
         left = left_after(left, want, short);
         want = least(left, 16384);
         turns = least(want, 1);
     }
     Section {
         feed: f,
+        untaken: untaken,
         short: short,
-        over: left_over(),
+        over: left_over(short),
     }
 }

@@ -1,4 +1,4 @@
--- A number in decimal with the fewest digits is what the definition gives, however many it allows (`fewest-digits`). Assumes nothing.
+-- The decimal of a number has no bound on its digits (`decimal-is`), and is the number's fewest digits (`decimal-fewest`). Assumes nothing.
 use Prim.Native.Nat.{ℕ, zero, suc, _+_, _-_, _*_, _/_, _%_, _^_, _≤_, _<_}
 use mathlib.Core.Path.{_≡_, refl, sym, ap, _∙_, subst}
 use mathlib.Core.Bool.{Bool, true, false, cond}
@@ -7,18 +7,13 @@ use native.Mathlib.Omega.{arith}
 use native.Mathlib.Nat.{pow-succ', mod-lt, mod-eq-of-lt, pow-le-pow-right}
 use lib.Dec.{ltb, leb}
 use lib.ListN.{length, length-append}
-use borrow.Author.Tests.{lt-ltb, le-ltb, leb-true, leb-false}
+use borrow.Author.Tests.{lt-ltb, le-ltb, ltb-false, leb-true, leb-false}
 use Rattle.io.specs.Digits.{digits, glyph, Fewest}
-use Rattle.tape_text.specs.Text.{digitsOf}
+use Rattle.tape_text.specs.Text.{digitsOf, decimal}
 
-pub length-digits : (k n : ℕ) → length (digitsOf k n) ≤ k
-unfolding digitsOf
-length-digits zero n = omega arith
-length-digits (suc k) n = go (ltb n 10) (length-digits k (n / 10))
-  where
-    go : (b : Bool) → length (digitsOf k (n / 10)) ≤ k → length (cond b ((48 + n) ∷ []) (digitsOf k (n / 10) ++ ((48 + n % 10) ∷ []))) ≤ suc k
-    go true h = omega arith
-    go false h = simp length-append (omega arith)
+pub length-digits : (k n : ℕ) → length (digits 10 k n) ≡ k
+length-digits zero n = refl
+length-digits (suc k) n = length-append (digits 10 k (n / 10)) (glyph (n % 10) ∷ []) ∙ omega (arith, length-digits k (n / 10))
 
 glyph-digit : (d : ℕ) → d < 10 → glyph d ≡ 48 + d
 glyph-digit d h = ap (λ (b : Bool). cond b (48 + d) (87 + d)) (lt-ltb d 10 h)
@@ -45,7 +40,7 @@ ap-le i n h = let e : suc (suc i) - 1 ≡ suc i = omega arith in subst (λ (k : 
 fewer : (i n : ℕ) → 10 ^ suc i ≤ n → 1 < suc i → 10 ^ (suc i - 1) ≤ n / 10
 fewer i n h g = let e : suc i - 1 ≡ i = omega arith in subst (λ (k : ℕ). 10 ^ k ≤ n / 10) (sym e) (omega (arith, pow-succ' 10 i))
 
-pub fewest-digits : (m k n : ℕ) → k ≤ m → Fewest 10 1 n k → digits 10 k n ≡ digitsOf m n
+fewest-digits : (m k n : ℕ) → k ≤ m → Fewest 10 1 n k → digits 10 k n ≡ digitsOf m n
 fewest-digits zero k n h f = absurd (omega (arith, f .0))
 fewest-digits (suc m) zero n h f = absurd (omega (arith, f .0))
 fewest-digits (suc m) (suc zero) n h f = one-digit m n (omega (arith, f .1, pow-succ' 10 0))
@@ -54,6 +49,43 @@ fewest-digits (suc m) (suc (suc i)) n h f =
     more-digits m n _ (omega (arith, low, pow-succ' 10 i, power i))
     (fewest-digits m (suc i) (n / 10) (omega arith)
     (omega arith, omega (arith, f .1, pow-succ' 10 (suc i)), λ g. fewer i n low g))
+
+-- ---- the number of digits that the definition allows is idle: with any two that are above the number, the digits are the same
+enough : (k m n : ℕ) → n < k → n < m → digitsOf k n ≡ digitsOf m n
+unfolding digitsOf
+enough zero m n h g = absurd (omega arith)
+enough (suc k) zero n h g = absurd (omega arith)
+enough (suc k) (suc m) n h g = go (ltb n 10) refl (enough k m (n / 10))
+  where
+    go : (b : Bool) → ltb n 10 ≡ b → (n / 10 < k → n / 10 < m → digitsOf k (n / 10) ≡ digitsOf m (n / 10))
+        → cond b ((48 + n) ∷ []) (digitsOf k (n / 10) ++ ((48 + n % 10) ∷ [])) ≡ cond b ((48 + n) ∷ []) (digitsOf m (n / 10) ++ ((48 + n % 10) ∷ []))
+    go true t same = refl
+    go false t same =
+        let large : 10 ≤ n = ltb-false n 10 t in
+        ap (λ (front : List ℕ). front ++ ((48 + n % 10) ∷ [])) (same (omega arith) (omega arith))
+
+pub decimal-is : (n : ℕ) → decimal n ≡ cond (ltb n 10) ((48 + n) ∷ []) (decimal (n / 10) ++ ((48 + n % 10) ∷ []))
+unfolding decimal digitsOf
+decimal-is n = go (ltb n 10) refl
+  where
+    go : (b : Bool) → ltb n 10 ≡ b → cond b ((48 + n) ∷ []) (digitsOf n (n / 10) ++ ((48 + n % 10) ∷ [])) ≡ cond b ((48 + n) ∷ []) (digitsOf (suc (n / 10)) (n / 10) ++ ((48 + n % 10) ∷ []))
+    go true t = refl
+    go false t =
+        let large : 10 ≤ n = ltb-false n 10 t in
+        ap (λ (front : List ℕ). front ++ ((48 + n % 10) ∷ [])) (enough n (suc (n / 10)) (n / 10) (omega arith) (omega arith))
+
+below-power : (i : ℕ) → i < 10 ^ i
+below-power zero = omega arith
+below-power (suc i) = omega (arith, pow-succ' 10 i, below-power i)
+
+within-decimal : (k n : ℕ) → Fewest 10 1 n k → k ≤ suc n
+within-decimal zero n f = omega arith
+within-decimal (suc zero) n f = omega arith
+within-decimal (suc (suc i)) n f = omega (arith, ap-le i n (f .2 (omega arith)), below-power (suc i))
+
+pub decimal-fewest : (k n : ℕ) → Fewest 10 1 n k → digits 10 k n ≡ decimal n
+unfolding decimal
+decimal-fewest k n f = fewest-digits (suc n) k n (within-decimal k n f) f
 
 -- a u64 has at most 20 digits
 pub few-digits : (n k : ℕ) → n < 2 ^ 64 → Fewest 10 1 n k → k ≤ 20

@@ -14,9 +14,9 @@ use Rattle.io.specs.Digits.{digits, Fewest}
 use Rattle.le_bytes.specs.LeBytes.{leAt, numberAt, laid}
 use Rattle.settings.proofs.Inside.{number-there}
 use Rattle.record.proofs.Laid.{none-laid}
-use Rattle.tape_text.specs.Text.{digitsOf, number, hex, hexLine, messageOf, lineOf, linesOf, header, samplesWord, refusedWord, runText, refusedText, Put}
+use Rattle.tape_text.specs.Text.{decimal, number, hex, hexLine, messageOf, lineOf, linesOf, header, samplesWord, refusedWord, runText, refusedText, Put}
 use Rattle.tape_text.proofs.Puts.{then-put, put-length, length-hex}
-use Rattle.tape_text.proofs.Decimal.{length-digits, fewest-digits, few-digits}
+use Rattle.tape_text.proofs.Decimal.{length-digits, decimal-fewest, few-digits}
 
 -- one byte behind
 byte-put : {xs s d e : List ℕ} {at a b : ℕ} (x : ℕ) → at + length xs ≤ length s → Put xs s at d a → e ≡ laid d a (x ∷ []) → b ≡ a + 1 → Put (xs ++ (x ∷ [])) s at e b
@@ -27,9 +27,9 @@ pub number-put : (n after k : ℕ) (ds : List ℕ) {s d e : List ℕ} {at a b : 
     → Put (number n after) s at e b × (b ≤ at + 21)
 unfolding number
 number-put n after k ds {s} {d} {e} {at} {a} {b} h f q r p t z =
-    let g = q ∙ fewest-digits 20 k n (few-digits n k h f) f in
-    let p′ : Put (digitsOf 20 n) s at d a = subst (λ (l : List ℕ). Put l s at d a) g p in
-    let l = length-digits 20 n in
+    let g = q ∙ decimal-fewest k n f in
+    let p′ : Put (decimal n) s at d a = subst (λ (l : List ℕ). Put l s at d a) g p in
+    let l : length (decimal n) ≤ 20 = omega (arith, ap length (decimal-fewest k n f), length-digits k n, few-digits n k h f) in
     (byte-put after (omega arith) p′ t z, omega (arith, p′ .ends))
 
 pub hex-line-put : (b : List ℕ) (n : ℕ) {s d e : List ℕ} {at r : ℕ} → n ≤ length b → at + 2 * n < length s → d ≡ laid s at (hex (take n b)) → e ≡ laid d (at + 2 * n) (10 ∷ []) → r ≡ at + 2 * n + 1 → Put (hexLine (take n b)) s at e r

@@ -12,9 +12,13 @@ unfoldable pub digitsOf : ℕ → ℕ → List ℕ
 digitsOf zero n = []
 digitsOf (suc k) n = cond (ltb n 10) ((48 + n) ∷ []) (digitsOf k (n / 10) ++ ((48 + n % 10) ∷ []))
 
--- a u64 in decimal, and a character after it
+-- a number in decimal: one digit below 10, else the decimal of its tenth and then its last digit (`decimal-is` of proofs/Decimal: n + 1 digits are always enough)
+unfoldable pub decimal : ℕ → List ℕ
+decimal n = digitsOf (suc n) n
+
+-- a number in decimal, and a character after it
 unfoldable pub number : ℕ → ℕ → List ℕ
-number n after = digitsOf 20 n ++ (after ∷ [])
+number n after = decimal n ++ (after ∷ [])
 
 -- a digit below 16: 0 to 9, then a to f
 unfoldable pub hexDigit : ℕ → ℕ

@@ -1,11 +1,13 @@
--- The run of a tape before its noise, and the verdict on it once its noise is read. Definitions only.
+-- The run of a tape before its noise, the verdict on it once its noise is read, and what is reported of it. Definitions only.
 use Prim.Native.Nat.{ℕ}
-use mathlib.Core.Bool.{Bool, cond}
+use mathlib.Core.Bool.{Bool, true, false, cond}
+use lib.Dec.{eqb}
 use Rattle.refusals.specs.Number.{numberOf}
 use Rattle.running.specs.declared.State.{State}
 use Rattle.run_plans.specs.declared.Stop as Stop
 use Rattle.running.specs.declared.Answer as Answer
 use Rattle.tape_verdict.specs.declared.Feed.{Feed}
+use Rattle.tape_verdict.specs.declared.Outcome as Outcome
 
 -- a run that nothing has been fed: no draw taken, no record written
 unfoldable pub startOf : State → Feed
@@ -25,3 +27,17 @@ answerThen over (Answer.the-variants.Refused q) = numberOf q
 
 unfoldable pub verdictOf : Bool → Answer.Answer → Bool → ℕ
 verdictOf short answer over = cond short 11 (answerThen over answer)
+
+-- what is reported of a run by its verdict: at 0 its records and samples, else the refusal's number and the samples written before it
+unfoldable pub judgedOf : ℕ → Feed → Outcome.Outcome
+judgedOf number f = cond (eqb number 0) (Outcome.the-variants.Done (f .records) (f .state .written)) (Outcome.the-variants.Refused number (f .state .written))
+
+-- what is reported of a tape: where its samples are not taken that alone, and no refusal's number
+unfoldable pub outcomeOf : Bool → Bool → Bool → Feed → Outcome.Outcome
+outcomeOf untaken short over f = cond untaken Outcome.the-variants.Untaken (judgedOf (verdictOf short (f .answer) over) f)
+
+-- whether a run is done, and its records are handed out
+unfoldable pub outcomeDone : Outcome.Outcome → Bool
+outcomeDone (Outcome.the-variants.Done records samples) = true
+outcomeDone (Outcome.the-variants.Refused number samples) = false
+outcomeDone Outcome.the-variants.Untaken = false

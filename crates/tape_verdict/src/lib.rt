@@ -1,7 +1,7 @@
-// The run of a tape, fed its noise chunk by chunk: how it begins, and the verdict on it. Each public function is equal to a definition of specs/ on every input. Assumes nothing.
+// The run of a tape, fed its noise chunk by chunk: how it begins, the verdict on it, and what is reported of it. Each public function is equal to a definition of specs/ on every input. Assumes nothing.
 ghost use mathlib.Core.Path.{_≡_};
 ghost use mathlib.Core.Bool.{cond};
-ghost use Rattle.tape_verdict.specs.Verdict.{startOf, stopThen, verdictOf};
+ghost use Rattle.tape_verdict.specs.Verdict.{startOf, stopThen, verdictOf, judgedOf, outcomeOf, outcomeDone};
 use run_plans::Stop;
 use running::Answer;
 use running::State;
@@ -12,6 +12,13 @@ pub struct Feed {
     pub taken: usize,
     pub records: usize,
     pub answer: Answer,
+}
+
+// What is reported of a tape: that its run is done, with its records and its samples; the number of its refusal, with the samples written before it; or that standard output does not take the samples.
+pub enum Outcome {
+    Done(usize, u64),
+    Refused(u64, u64),
+    Untaken,
 }
 
 // A run that nothing has been fed.
@@ -49,7 +56,7 @@ fn of_stop(w: Stop, over: bool) -> u64
 }
 
 // The refusal of a tape whose noise is read, 0 for none: a short section, a noise value at fault, a run not Done, bytes left over.
-pub fn verdict(short: bool, answer: Answer, over: bool) -> u64
+fn verdict(short: bool, answer: Answer, over: bool) -> u64
     ensures { λ r. ⌜ r ≡ verdictOf short answer over ⌝ }
 {
     if short {
@@ -58,5 +65,38 @@ pub fn verdict(short: bool, answer: Answer, over: bool) -> u64
     match answer {
         Answer::Refused(q) => refusals::number(q),
         Answer::Stopped(w) => of_stop(w, over),
+    }
+}
+
+// What is reported by a verdict.
+fn judged(number: u64, f: Feed) -> Outcome
+    ensures { λ r. ⌜ r ≡ judgedOf number f ⌝ }
+{
+    let written = f.state.written;
+    if number == 0 {
+        return Outcome::Done(f.records, written);
+    }
+    Outcome::Refused(number, written)
+}
+
+// What is reported of a tape whose noise is read, or whose samples are not taken.
+pub fn reported(untaken: bool, short: bool, over: bool, f: Feed) -> Outcome
+    ensures { λ r. ⌜ r ≡ outcomeOf untaken short over f ⌝ }
+{
+    if untaken {
+        return Outcome::Untaken;
+    }
+    let answer = f.answer;
+    judged(verdict(short, answer, over), f)
+}
+
+// Whether a run is done: the records of any other are not handed out.
+pub fn is_done(o: Outcome) -> bool
+    ensures { λ r. ⌜ r ≡ outcomeDone o ⌝ }
+{
+    match o {
+        Outcome::Done(_, _) => true,
+        Outcome::Refused(_, _) => false,
+        Outcome::Untaken => false,
     }
 }

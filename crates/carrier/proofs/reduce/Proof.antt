@@ -1,4 +1,5 @@
 -- `carrier::reduce` meets its contract. Assumes nothing.
+use mathlib.Core.Path.{refl}
 use Rattle.math.specs.Carrier.{reduced}
 use Rattle.math.proofs.Literals.{pi-is, halfPi-is, outerLimit-is, innerLimit-is}
 use Rattle.carrier.proofs.reduce.Statement.{statement}
@@ -14,7 +15,7 @@ returns-2 c = simp (pi-is, halfPi-is, outerLimit-is, innerLimit-is, c .before .i
 
 returns-3 : tie.Need-returns-3
 unfolding reduced
-returns-3 c = simp (pi-is, halfPi-is, outerLimit-is, innerLimit-is, c .before .before .if1 .left, c .before .if2 .left, c .if3 .taken)
+returns-3 c = simp (pi-is, halfPi-is, outerLimit-is, innerLimit-is, c .before .before .if1 .left, c .before .if2 .left, c .if3 .taken) refl
 
 returns-4 : tie.Need-returns-4
 unfolding reduced

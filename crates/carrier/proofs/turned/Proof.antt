@@ -21,7 +21,7 @@ returns c = rw (c .match .keys1, quadrant)
 
 returns-2 : tie.Need-returns-2
 unfolding quadrant
-returns-2 c = rw (c .match .keys2, quadrant)
+returns-2 c = rw (c .match .keys2, quadrant) refl
 
 returns-3 : tie.Need-returns-3
 unfolding quadrant

@@ -1,9 +1,12 @@
 -- `distributions::carrier_offset` meets its contract. Assumes nothing.
 use borrow.Author.Needs.{needs}
-use Rattle.distributions.specs.Asked.{carrierOffset}
+use Rattle.distributions.specs.Asked.{clampedNormal, carrierOffset}
 use Rattle.distributions.proofs.ByKind.{kind-0, kind-1, kind-other}
 use Rattle.distributions.proofs.Literals.{offsetLimit-is}
-use mathlib.Core.Path.{refl}
+use mathlib.Core.Path.{_≡_, refl}
+use lib.Ieee.{binary64, ofBits}
+use Rattle.constants.specs.Rate.{four}
+use Rattle.float_bits.specs.Range.{within}
 use Rattle.distributions.proofs.carrier_offset.Statement.{statement}
 use Rattle.distributions.proofs.carrier_offset.Tie as tie
 
@@ -12,7 +15,9 @@ within-requires c κs = search needs
 
 returns : tie.Need-returns
 unfolding carrierOffset
-returns c = kind-0 _ _ _ _ _ (c .before .before .if1 .taken) (simp (offsetLimit-is, ← c .before .within .ensures, c .if2 .taken))
+returns c =
+    let inside : c .before .within .result ≡ within _ (ofBits binary64 0x414e_8480_0000_0000) = c .before .within .ensures in
+    kind-0 _ _ _ _ _ (c .before .before .if1 .taken) (simp (offsetLimit-is, ← inside, c .if2 .taken))
 
 returns-2 : tie.Need-returns-2
 unfolding carrierOffset
@@ -23,7 +28,10 @@ clamped-normal-requires c κs = search needs
 
 returns-3 : tie.Need-returns-3
 unfolding carrierOffset
-returns-3 c = kind-1 _ _ _ _ _ (c .before .if3 .taken) (c .clamped-normal .ensures)
+returns-3 c =
+    let d = c .before .before .before .args .d in
+    let normal : c .clamped-normal .result ≡ clampedNormal four (d .first) (d .second) = c .clamped-normal .ensures in
+    kind-1 _ _ _ _ _ (c .before .if3 .taken) normal
 
 returns-4 : tie.Need-returns-4
 unfolding carrierOffset

@@ -2,7 +2,8 @@
 use borrow.Author.Needs.{needs}
 use Rattle.distributions.specs.Asked.{carrierPhase}
 use Rattle.distributions.proofs.ByKind.{kind-0, kind-1, kind-other}
-use mathlib.Core.Path.{refl}
+use mathlib.Core.Path.{_≡_, refl}
+use lib.Ieee.Scale.{finite}
 use Rattle.distributions.proofs.carrier_phase.Statement.{statement}
 use Rattle.distributions.proofs.carrier_phase.Tie as tie
 
@@ -14,7 +15,10 @@ phase-wrap-f64-requires c κs = search needs
 
 returns : tie.Need-returns
 unfolding carrierPhase
-returns c = kind-0 _ _ _ _ _ (c .before .before .before .if1 .taken) (simp (← c .before .before .finite .ensures, c .before .if2 .taken, ← c .phase-wrap-f64 .ensures))
+returns c =
+    let d = c .before .before .before .before .args .d in
+    let known : c .before .before .finite .result ≡ finite (d .first) = c .before .before .finite .ensures in
+    kind-0 _ _ _ _ _ (c .before .before .before .if1 .taken) (simp (← known, c .before .if2 .taken, c .phase-wrap-f64 .ensures) refl)
 
 returns-2 : tie.Need-returns-2
 unfolding carrierPhase

@@ -1,6 +1,8 @@
 -- `distributions::clamped_normal` meets its contract. Assumes nothing.
+use mathlib.Core.Path.{_≡_}
+use lib.Ieee.{binary64, ofBits}
 use borrow.Author.Needs.{needs}
-use Rattle.distributions.specs.Asked.{clampedNormal}
+use Rattle.distributions.specs.Asked.{upTo, clampedNormal}
 use Rattle.distributions.proofs.Literals.{offsetLimit-is}
 use Rattle.distributions.proofs.clamped_normal.Statement.{statement}
 use Rattle.distributions.proofs.clamped_normal.Tie as tie
@@ -13,7 +15,9 @@ up-to-requires c κs = search needs
 
 returns : tie.Need-returns
 unfolding clampedNormal
-returns c = simp (offsetLimit-is, ← c .before .before .before .finite-not-negative .ensures, c .before .before .if1 .taken, ← c .before .up-to .ensures, c .if2 .taken)
+returns c =
+    let most : c .before .up-to .result ≡ upTo _ (ofBits binary64 0x414e_8480_0000_0000) = c .before .up-to .ensures in
+    simp (offsetLimit-is, ← c .before .before .before .finite-not-negative .ensures, c .before .before .if1 .taken, ← most, c .if2 .taken)
 
 returns-2 : tie.Need-returns-2
 unfolding clampedNormal

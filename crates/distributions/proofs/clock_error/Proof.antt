@@ -3,7 +3,9 @@ use borrow.Author.Needs.{needs}
 use Rattle.distributions.specs.Asked.{clockError}
 use Rattle.distributions.proofs.ByKind.{kind-0, kind-1, kind-other}
 use Rattle.distributions.proofs.Literals.{tenth-is}
-use mathlib.Core.Path.{refl}
+use mathlib.Core.Path.{_≡_, refl}
+use lib.Ieee.{binary64, ofBits}
+use Rattle.float_bits.specs.Range.{within}
 use Rattle.distributions.proofs.clock_error.Statement.{statement}
 use Rattle.distributions.proofs.clock_error.Tie as tie
 
@@ -12,7 +14,9 @@ within-requires c κs = search needs
 
 returns : tie.Need-returns
 unfolding clockError
-returns c = kind-0 _ _ _ _ _ (c .before .before .if1 .taken) (simp (tenth-is, ← c .before .within .ensures, c .if2 .taken))
+returns c =
+    let inside : c .before .within .result ≡ within _ (ofBits binary64 0x3fb9_9999_9999_999a) = c .before .within .ensures in
+    kind-0 _ _ _ _ _ (c .before .before .if1 .taken) (simp (tenth-is, ← inside, c .if2 .taken))
 
 returns-2 : tie.Need-returns-2
 unfolding clockError
@@ -23,7 +27,7 @@ up-to-requires c κs = search needs
 
 returns-3 : tie.Need-returns-3
 unfolding clockError
-returns-3 c = kind-1 _ _ _ _ _ (c .before .before .if3 .taken) (simp (tenth-is, ← c .before .up-to .ensures, c .if4 .taken))
+returns-3 c = kind-1 _ _ _ _ _ (c .before .before .if3 .taken) (simp (tenth-is, ← c .before .up-to .ensures, c .if4 .taken) refl)
 
 returns-4 : tie.Need-returns-4
 unfolding clockError

@@ -1,4 +1,7 @@
 -- `distributions::finite_not_negative` meets its contract. Assumes nothing.
+use mathlib.Core.Bool.{Bool, _&&_}
+use mathlib.Core.Path.{_≡_, sym, ap, _∙_}
+use lib.Ieee.Scale.{finite}
 use borrow.Author.Needs.{needs}
 use Rattle.distributions.specs.Asked.{finiteNotNegative}
 use Rattle.distributions.proofs.finite_not_negative.Statement.{statement}
@@ -9,7 +12,10 @@ finite-requires c κs = search needs
 
 returns : tie.Need-returns
 unfolding finiteNotNegative
-returns c = simp (c .before .if1 .taken, ← c .finite .ensures)
+returns c =
+    let x = c .before .before .args .x in
+    let known : c .finite .result ≡ finite x = c .finite .ensures in
+    known ∙ sym (ap (λ (t : Bool). t && finite x) (c .before .if1 .taken))
 
 returns-2 : tie.Need-returns-2
 unfolding finiteNotNegative

@@ -1,4 +1,5 @@
 -- `draw_fields::type_fits` meets its contract. Assumes nothing.
+use mathlib.Core.Path.{refl}
 use borrow.Author.Needs.{needs}
 use Rattle.draw.specs.Fault.{typeFits}
 use Rattle.draw_fields.proofs.type_fits.Statement.{statement}
@@ -12,7 +13,7 @@ rate-of-requires c κs = search needs
 
 returns : tie.Need-returns
 unfolding typeFits
-returns c = rw (c .rate-of .ensures, c .before .wide .ensures .0)
+returns c = rw (c .rate-of .ensures, c .before .wide .ensures .0) refl
 
 pub type-fits-spec : {M : Type 1} → statement M
 type-fits-spec = tie.close (tie.spec wide-requires rate-of-requires returns)

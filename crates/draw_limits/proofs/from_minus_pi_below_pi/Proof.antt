@@ -1,4 +1,5 @@
 -- `draw_limits::from_minus_pi_below_pi` meets its contract. Assumes nothing.
+use mathlib.Core.Path.{refl}
 use Rattle.distributions.specs.Drawn.{fromMinusPiBelowPi}
 use Rattle.math.proofs.Literals.{pi-is}
 use Rattle.draw_limits.proofs.from_minus_pi_below_pi.Statement.{statement}
@@ -6,7 +7,7 @@ use Rattle.draw_limits.proofs.from_minus_pi_below_pi.Tie as tie
 
 returns : tie.Need-returns
 unfolding fromMinusPiBelowPi
-returns c = simp (pi-is, c .if1 .taken)
+returns c = simp (pi-is, c .if1 .taken) refl
 
 returns-2 : tie.Need-returns-2
 unfolding fromMinusPiBelowPi

@@ -1,5 +1,7 @@
 -- `draw_limits::phase_draw_fits` meets its contract. Assumes nothing.
+use mathlib.Core.Path.{sym, ap}
 use borrow.Author.Needs.{needs}
+use Rattle.distributions.specs.declared.CarrierPhase.{CarrierPhase}
 use Rattle.distributions.specs.Drawn.{phaseDrawFits}
 use Rattle.draw_limits.proofs.phase_draw_fits.Statement.{statement}
 use Rattle.draw_limits.proofs.phase_draw_fits.Tie as tie
@@ -15,7 +17,7 @@ from-minus-pi-below-pi-requires c κs = search needs
 
 returns : tie.Need-returns
 unfolding phaseDrawFits
-returns c = search needs
+returns c = sym (ap (λ (d : CarrierPhase). phaseDrawFits d (c .before .before .args .draw)) (c .enum-told .given .1))
 
 returns-2 : tie.Need-returns-2
 unfolding phaseDrawFits

@@ -1,5 +1,7 @@
 -- `drawn_values::error_of` meets its contract. Assumes nothing.
+use mathlib.Core.Path.{sym, ap}
 use borrow.Author.Needs.{needs}
+use Rattle.distributions.specs.declared.ClockError.{ClockError}
 use Rattle.distributions.specs.Drawn.{errorOf}
 use Rattle.drawn_values.proofs.error_of.Statement.{statement}
 use Rattle.drawn_values.proofs.error_of.Tie as tie
@@ -12,11 +14,11 @@ enum-told c = search needs
 
 returns : tie.Need-returns
 unfolding errorOf
-returns c = search needs
+returns c = sym (ap (λ (d : ClockError). errorOf d (c .before .before .before .args .draw)) (c .before .d .given .1))
 
 returns-2 : tie.Need-returns-2
 unfolding errorOf
-returns-2 c = search needs
+returns-2 c = sym (ap (λ (d : ClockError). errorOf d (c .before .before .args .draw)) (c .enum-told .given .1))
 
 pub error-of-spec : {M : Type 1} → statement M
 error-of-spec = tie.close (tie.spec enum-known-d enum-told returns returns-2)

@@ -40,10 +40,8 @@ same-length-2 c = search needs
 
 returns-2 : tie.Need-returns-2
 returns-2 c =
-    let z = c .before .before .before .before in
     let e = c .before .before .before .before .before .before .before in
-    let a = e .before .before .before .before .before .args in
-    changed (a .noise .now) (a .written) (a .samples) (a .n) (a .memory .now) (a .output .now) _ _ (sym (not-false _ (e .if1 .left)) ∙ e .before .fits2 .ensures) (z .write-all .ensures .0) (z .write-all .ensures .1)
+    changed _ _ _ _ _ _ _ _ (search needs) (search needs) (sym (not-false _ (e .if1 .left)) ∙ e .before .fits2 .ensures)
 
 pub write-due-spec : {M : Type 1} → statement M
 write-due-spec = tie.close (tie.spec fits-requires returns mul-at mul-write-all write-all-requires same-length same-length-2 returns-2)

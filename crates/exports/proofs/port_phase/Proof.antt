@@ -1,4 +1,5 @@
 -- `exports::port_phase` meets its contract. Assumes nothing.
+use mathlib.Core.Path.{refl}
 use borrow.Author.Needs.{needs}
 use Rattle.exports.proofs.port_phase.Statement.{statement}
 use Rattle.exports.proofs.port_phase.Tie as tie
@@ -13,7 +14,7 @@ phase-wrap-once-f64-requires : tie.Need-phase-wrap-once-f64-requires
 phase-wrap-once-f64-requires c κs = search needs
 
 returns : tie.Need-returns
-returns c = rw (c .phase-wrap-once-f64 .ensures, c .before .phase-wrap-f64 .ensures, c .before .before .sin-cos .ensures)
+returns c = rw (c .phase-wrap-once-f64 .ensures, c .before .phase-wrap-f64 .ensures, c .before .before .sin-cos .ensures) refl
 
 pub port-phase-spec : {M : Type 1} → statement M
 port-phase-spec =

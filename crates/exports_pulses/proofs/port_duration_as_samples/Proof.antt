@@ -1,4 +1,5 @@
 -- `exports_pulses::port_duration_as_samples` meets its contract. Assumes nothing.
+use mathlib.Core.Path.{refl}
 use borrow.Author.Needs.{needs}
 use Rattle.exports_pulses.proofs.port_duration_as_samples.Statement.{statement}
 use Rattle.exports_pulses.proofs.port_duration_as_samples.Tie as tie
@@ -10,7 +11,7 @@ samples-number-requires : tie.Need-samples-number-requires
 samples-number-requires c κs = search needs
 
 returns : tie.Need-returns
-returns c = cc
+returns c = rw (c .samples-number .ensures, c .before .duration-as-samples .ensures) refl
 
 pub port-duration-as-samples-spec : {M : Type 1} → statement M
 port-duration-as-samples-spec =

@@ -1,4 +1,5 @@
 -- `exports_pulses::port_mode_ac_pulses` meets its contract. Assumes nothing.
+use mathlib.Core.Path.{refl}
 use borrow.Author.Needs.{needs}
 use Rattle.exports_pulses.proofs.port_mode_ac_pulses.Statement.{statement}
 use Rattle.exports_pulses.proofs.port_mode_ac_pulses.Tie as tie
@@ -10,7 +11,7 @@ mode-ac-num-samples-requires : tie.Need-mode-ac-num-samples-requires
 mode-ac-num-samples-requires c κs = search needs
 
 returns : tie.Need-returns
-returns c = let e = c .before .before .mode-ac-pulses .ensures in (rw e, (rw e, rw (c .mode-ac-num-samples .ensures)))
+returns c = let e = c .before .before .mode-ac-pulses .ensures in (rw e refl, (rw e refl, c .mode-ac-num-samples .ensures))
 
 pub port-mode-ac-pulses-spec : {M : Type 1} → statement M
 port-mode-ac-pulses-spec =

@@ -1,4 +1,5 @@
 -- `exports_pulses::port_mode_s_pulses` meets its contract. Assumes nothing.
+use mathlib.Core.Path.{refl}
 use borrow.Author.Needs.{needs}
 use Rattle.exports_pulses.proofs.port_mode_s_pulses.Statement.{statement}
 use Rattle.exports_pulses.proofs.port_mode_s_pulses.Tie as tie
@@ -10,7 +11,7 @@ mode-s-num-samples-requires : tie.Need-mode-s-num-samples-requires
 mode-s-num-samples-requires c κs = search needs
 
 returns : tie.Need-returns
-returns c = let e = c .before .before .mode-s-pulses .ensures in (rw e, (rw e, rw (c .mode-s-num-samples .ensures)))
+returns c = let e = c .before .before .mode-s-pulses .ensures in (rw e refl, (rw e refl, c .mode-s-num-samples .ensures))
 
 pub port-mode-s-pulses-spec : {M : Type 1} → statement M
 port-mode-s-pulses-spec =

@@ -20,7 +20,7 @@ returns c = rw (c .match .keys1, kindNumbered)
 
 returns-2 : tie.Need-returns-2
 unfolding kindNumbered
-returns-2 c = rw (c .match .keys2, kindNumbered)
+returns-2 c = rw (c .match .keys2, kindNumbered) refl
 
 returns-3 : tie.Need-returns-3
 returns-3 c = last (c .before .args .n) (c .match .rest .0 .1) (c .match .rest .1)

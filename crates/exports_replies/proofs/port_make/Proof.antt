@@ -1,4 +1,6 @@
 -- `exports_replies::port_make` meets its contract. Assumes nothing.
+use mathlib.Core.Path.{refl, ap}
+use Rattle.message.specs.declared.Made.{Made}
 use Rattle.exports_replies.specs.Crossing.{picksOf}
 use borrow.Author.Needs.{needs}
 use Rattle.exports_replies.proofs.port_make.Statement.{statement}
@@ -17,7 +19,7 @@ returns : tie.Need-returns
 unfolding picksOf
 returns c =
     let e = c .before .before .before .before .make .ensures in
-    record { fault = rw (c .field-number .ensures, e); kind = rw (c .before .kind-number .ensures, e); bytes = rw e }
+    record { fault = rw (c .field-number .ensures, e) refl; kind = rw (c .before .kind-number .ensures, e) refl; bytes = ap (λ (m : Made). m .reply .bytes) e }
 
 pub port-make-spec : {M : Type 1} → statement M
 port-make-spec =

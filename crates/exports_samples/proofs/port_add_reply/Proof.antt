@@ -1,6 +1,6 @@
 -- `exports_samples::port_add_reply` meets its contract: it hands on what it calls. Assumes nothing.
 use borrow.Author.Needs.{needs}
-use mathlib.Core.Path.{_∙_}
+use mathlib.Core.Path.{refl, _∙_}
 use Rattle.exports_samples.proofs.port_add_reply.Statement.{statement}
 use Rattle.exports_samples.proofs.port_add_reply.Tie as tie
 
@@ -21,7 +21,7 @@ returns c =
     let e = c .before .before .add-reply .ensures in
     let p = c .before .before .before .before .config-at .ensures in
     let q = c .before .before .before .before .before .kind-numbered .ensures in
-    (e .0 ∙ simp (p, q), e .1 ∙ simp (p, q))
+    (e .0 ∙ simp (p, q) refl, e .1 ∙ simp (p, q) refl)
 
 pub port-add-reply-spec : {M : Type 1} → statement M
 port-add-reply-spec =

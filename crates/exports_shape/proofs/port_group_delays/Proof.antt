@@ -1,4 +1,5 @@
 -- `exports_shape::port_group_delays` meets its contract. Assumes nothing.
+use mathlib.Core.Path.{refl}
 use borrow.Author.Needs.{needs}
 use Rattle.exports_shape.proofs.port_group_delays.Statement.{statement}
 use Rattle.exports_shape.proofs.port_group_delays.Tie as tie
@@ -17,7 +18,7 @@ delay-number-requires-2 c κs = search needs
 
 returns : tie.Need-returns
 returns c =
-    rw (c .delay-number2 .ensures, c .before .mode-ac-group-delay .ensures, c .before .before .delay-number .ensures, c .before .before .before .group-delay .ensures)
+    rw (c .delay-number2 .ensures, c .before .mode-ac-group-delay .ensures, c .before .before .delay-number .ensures, c .before .before .before .group-delay .ensures) refl
 
 pub port-group-delays-spec : {M : Type 1} → statement M
 port-group-delays-spec =

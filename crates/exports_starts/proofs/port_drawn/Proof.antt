@@ -1,5 +1,6 @@
 -- `exports_starts::port_drawn` meets its contract. Assumes nothing.
 use Rattle.exports_starts.specs.Drawn.{askedOf}
+use mathlib.Core.Path.{refl}
 use borrow.Author.Needs.{needs}
 use Rattle.exports_starts.proofs.port_drawn.Statement.{statement}
 use Rattle.exports_starts.proofs.port_drawn.Tie as tie
@@ -25,7 +26,7 @@ error-drawn-requires c κs = search needs
 returns : tie.Need-returns
 unfolding askedOf
 returns c =
-    rw (c .error-drawn .ensures, c .before .clock-error .ensures, c .before .before .phase-drawn .ensures, c .before .before .before .carrier-phase .ensures, c .before .before .before .before .offset-drawn .ensures, c .before .before .before .before .before .carrier-offset .ensures)
+    rw (c .error-drawn .ensures, c .before .clock-error .ensures, c .before .before .phase-drawn .ensures, c .before .before .before .carrier-phase .ensures, c .before .before .before .before .offset-drawn .ensures, c .before .before .before .before .before .carrier-offset .ensures) refl
 
 pub port-drawn-spec : {M : Type 1} → statement M
 port-drawn-spec =

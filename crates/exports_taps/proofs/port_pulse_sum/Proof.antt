@@ -1,4 +1,7 @@
 -- `exports_taps::port_pulse_sum` meets its contract. Assumes nothing.
+use mathlib.Core.Path.{_≡_, refl}
+use lib.ListN.{take}
+use Rattle.filterbank.specs.LaidPulses.{late}
 use borrow.Author.Needs.{needs}
 use Rattle.exports_taps.proofs.port_pulse_sum.Statement.{statement}
 use Rattle.exports_taps.proofs.port_pulse_sum.Tie as tie
@@ -10,7 +13,10 @@ pulse-sum-requires : tie.Need-pulse-sum-requires
 pulse-sum-requires c κs = search needs
 
 returns : tie.Need-returns
-returns c = rw (c .pulse-sum .ensures, c .before .before .lay-late .ensures)
+returns c =
+    let a = c .before .before .before .before .before .args in
+    let laid : c .before .before .lay-late .result ≡ late (take (a .len) (a .on .now)) = c .before .before .lay-late .ensures in
+    rw (c .pulse-sum .ensures, laid) refl
 
 pub port-pulse-sum-spec : {M : Type 1} → statement M
 port-pulse-sum-spec = tie.close (tie.spec lay-late-requires pulse-sum-requires returns)

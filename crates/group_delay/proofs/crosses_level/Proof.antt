@@ -1,11 +1,14 @@
 -- `crosses_level` meets its contract. Assumes nothing.
+use mathlib.Core.Bool.{Bool, _&&_}
+use mathlib.Core.Path.{sym, ap}
+use lib.Ieee.{lt}
 use Rattle.pulse_shape.specs.GroupDelay.{crosses}
 use Rattle.group_delay.proofs.crosses_level.Statement.{statement}
 use Rattle.group_delay.proofs.crosses_level.Tie as tie
 
 returns : tie.Need-returns
 unfolding crosses
-returns c = simp (c .if1 .taken)
+returns c = sym (ap (λ (t : Bool). t && lt (c .before .args .level) (c .before .args .b)) (c .if1 .taken))
 
 returns-2 : tie.Need-returns-2
 unfolding crosses

@@ -1,6 +1,5 @@
 -- `f32_at` meets its contract: the float of the number at the place. Assumes nothing.
-use mathlib.Core.Path.{ap, _∙_}
-use lib.Ieee.{binary32, ofBits}
+use mathlib.Core.Path.{refl}
 use borrow.Author.Needs.{needs}
 use Rattle.le_floats.proofs.f32_at.Statement.{statement}
 use Rattle.le_floats.proofs.f32_at.Tie as tie
@@ -12,7 +11,7 @@ f32-of-requires : tie.Need-f32-of-requires
 f32-of-requires c κs = search needs
 
 returns : tie.Need-returns
-returns c = c .f32-of .ensures ∙ ap (ofBits binary32) (c .before .u32-at .ensures)
+returns c = rw (c .f32-of .ensures, c .before .u32-at .ensures) refl
 
 pub f32-at-spec : {M : Type 1} → statement M
 f32-at-spec = tie.close (tie.spec u32-at-requires f32-of-requires returns)

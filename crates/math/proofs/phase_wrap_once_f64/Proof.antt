@@ -1,4 +1,5 @@
 -- `math::phase_wrap_once_f64` meets its contract. Assumes nothing.
+use mathlib.Core.Path.{refl}
 use Rattle.math.specs.Phase.{phaseWrapOnce}
 use Rattle.math.proofs.Literals.{pi-is, twoPi-is}
 use Rattle.math.proofs.phase_wrap_once_f64.Statement.{statement}
@@ -6,11 +7,11 @@ use Rattle.math.proofs.phase_wrap_once_f64.Tie as tie
 
 returns : tie.Need-returns
 unfolding phaseWrapOnce
-returns c = simp (pi-is, twoPi-is, c .if1 .taken)
+returns c = simp (pi-is, twoPi-is, c .if1 .taken) refl
 
 returns-2 : tie.Need-returns-2
 unfolding phaseWrapOnce
-returns-2 c = simp (pi-is, twoPi-is, c .before .if1 .left, c .if2 .taken)
+returns-2 c = simp (pi-is, twoPi-is, c .before .if1 .left, c .if2 .taken) refl
 
 returns-3 : tie.Need-returns-3
 unfolding phaseWrapOnce

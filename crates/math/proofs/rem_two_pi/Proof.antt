@@ -1,4 +1,5 @@
 -- `math::rem_two_pi` meets its contract. Assumes nothing.
+use mathlib.Core.Path.{refl}
 use Rattle.math.specs.Phase.{remEuclid}
 use Rattle.math.proofs.Literals.{twoPi-is}
 use Rattle.math.proofs.rem_two_pi.Statement.{statement}
@@ -6,7 +7,7 @@ use Rattle.math.proofs.rem_two_pi.Tie as tie
 
 returns : tie.Need-returns
 unfolding remEuclid
-returns c = simp (twoPi-is, c .if1 .taken)
+returns c = simp (twoPi-is, c .if1 .taken) refl
 
 returns-2 : tie.Need-returns-2
 unfolding remEuclid

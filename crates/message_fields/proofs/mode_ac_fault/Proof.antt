@@ -1,4 +1,5 @@
 -- `message_fields::mode_ac_fault` meets its contract. Assumes nothing.
+use mathlib.Core.Path.{refl}
 use borrow.Author.Tests.{lt-ltb, le-ltb}
 use borrow.Author.Needs.{needs}
 use Rattle.message.specs.Making.{fieldFault, formats, subfields, formatOf, overlayFits, modeAcFits}
@@ -7,7 +8,7 @@ use Rattle.message_fields.proofs.mode_ac_fault.Tie as tie
 
 returns : tie.Need-returns
 unfolding fieldFault formats subfields formatOf overlayFits modeAcFits
-returns c = simp (le-ltb _ _ (c .if1 .taken))
+returns c = simp (le-ltb _ _ (c .if1 .taken)) refl
 
 cast-last-fault : tie.Need-cast-last-fault
 cast-last-fault c = search needs

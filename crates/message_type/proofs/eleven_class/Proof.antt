@@ -1,5 +1,5 @@
 -- `message_type::eleven_class` meets its contract. Assumes nothing.
-use mathlib.Core.Path.{sym, _∙_}
+use mathlib.Core.Path.{refl, sym, _∙_}
 use borrow.Author.Tests.{eq-eqb, ne-eqb}
 use borrow.Author.Needs.{needs}
 use lib.ListN.{take}
@@ -26,7 +26,7 @@ returns c =
 returns-2 : tie.Need-returns-2
 unfolding elevenClass
 returns-2 c =
-    simp (ne-eqb (parityOf (take 7 (c .before .before .before .args .t1))) 0 (λ e. c .if1 .left (c .before .parity .ensures ∙ e)))
+    simp (ne-eqb (parityOf (take 7 (c .before .before .before .args .t1))) 0 (λ e. c .if1 .left (c .before .parity .ensures ∙ e))) refl
 
 pub eleven-class-spec : {M : Type 1} → statement M
 eleven-class-spec =

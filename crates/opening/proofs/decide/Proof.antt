@@ -1,6 +1,7 @@
 -- `decide` meets its contract. Assumes nothing.
-use mathlib.Core.Path.{ap, _∙_}
+use mathlib.Core.Path.{_≡_, ap, _∙_}
 use Rattle.opening.specs.declared.Opened.the-variants.{Run}
+use Rattle.opening.specs.Opening.{firstState}
 use Rattle.opening.proofs.Decided.{no-mode-s, no-mode-ac, both-found}
 use borrow.Author.Needs.{needs}
 use Rattle.opening.proofs.decide.Statement.{statement}
@@ -29,7 +30,10 @@ first-state-requires c κs = search needs
 
 returns-3 : tie.Need-returns-3
 returns-3 c =
-    ap Run (c .first-state .ensures)
+    let s = c .before .before .before .before .before .mode-s .given .0 .0 in
+    let ac = c .before .before .mode-ac .given .0 .0 in
+    let begun : c .first-state .result ≡ firstState _ _ _ s ac = c .first-state .ensures in
+    ap Run begun
     ∙ both-found _ _ _ _ _ _ _ (c .before .before .before .before .before .mode-s .given .1) (c .before .before .mode-ac .given .1)
 
 pub decide-spec : {M : Type 1} → statement M

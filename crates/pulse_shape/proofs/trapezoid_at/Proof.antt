@@ -1,4 +1,5 @@
 -- `trapezoid_at` meets its contract. Assumes nothing.
+use mathlib.Core.Path.{refl}
 use borrow.Author.Needs.{needs}
 use borrow.Author.Tests.{lt-ltb, le-ltb}
 use Rattle.pulse_shape.specs.Trapezoid.{trapezoidAt}
@@ -33,7 +34,7 @@ ratio-requires-2 c κs = search needs
 
 returns-3 : tie.Need-returns-3
 unfolding trapezoidAt
-returns-3 c = simp (le-ltb _ _ (c .before .if2 .left), le-ltb _ _ (c .before .before .if1 .left), c .ratio2 .ensures)
+returns-3 c = simp (le-ltb _ _ (c .before .if2 .left), le-ltb _ _ (c .before .before .if1 .left), c .ratio2 .ensures) refl
 
 pub trapezoid-at-spec : {M : Type 1} → statement M
 trapezoid-at-spec =

@@ -34,7 +34,9 @@ array-write-on-4 : tie.Need-array-write-on-4 Inv-loop μ-loop
 array-write-on-4 c = search needs
 
 loop-holds : tie.Need-loop-holds Inv-loop μ-loop
-loop-holds c = (search needs, refl, rw (sub-zero (c .num-bits .result)))
+loop-holds c =
+    let bits = c .num-bits .result in
+    (search needs, refl, ap (λ (k : ℕ). mark (bitPlaces (c .before .args .t1) k 0) preambled) {x = bits - 0} {y = bits} (sub-zero bits))
 
 array-read-bit : tie.Need-array-read-bit Inv-loop μ-loop
 array-read-bit c = search needs

@@ -4,11 +4,17 @@ use borrow.Author.Needs.{needs}
 use Rattle.recorded_replies.proofs.add.Statement.{statement}
 use Rattle.recorded_replies.proofs.add.Tie as tie
 
-read-requires : tie.Need-read-requires
-read-requires c κs = search needs
+byte-at-requires : tie.Need-byte-at-requires
+byte-at-requires c κs = search needs
 
-config-requires : tie.Need-config-requires
-config-requires c κs = search needs
+f32-at-requires : tie.Need-f32-at-requires
+f32-at-requires c κs = search needs
+
+picks-requires : tie.Need-picks-requires
+picks-requires c κs = search needs
+
+completed-requires : tie.Need-completed-requires
+completed-requires c κs = search needs
 
 ring-requires : tie.Need-ring-requires
 ring-requires c κs = search needs
@@ -27,21 +33,29 @@ same-length-2 c = search needs
 
 returns : tie.Need-returns
 returns c =
-    let a = c .before .before .before .before .before .before .before .before .before .before .before .before .before .before .before .before .args in
-    let here = c .before .before .before .before .before .before .before .ring .ensures in
-    let read = c .before .before .before .before .before .before .before .before .before .before .read .ensures in
-    let config = c .before .before .before .before .before .before .before .before .before .config .ensures in
-    let sum = c .before .before .before .before .before .before .add-reply .ensures in (
-      added (a .all) (a .delays) (a .time) (a .first) (a .rest .now) _ _ _ here read config (a .mode-s .now) (a .mode-ac .now) (a .memory .now) _ (sum .0),
-      recorded (a .all) (a .delays) (a .time) (a .first) (a .rest .now) _ _ _ here read config (a .memory .now) (a .records .now) _ (a .at) _ (sum .1) (c .before .before .put .ensures .1),
+    let q = c .before .before in
+    let r = q .before .before .before .before in
+    let m = r .before .before .before in
+    let f = m .before .before in
+    let a = f .before .before .before .before .before .before .before .args in
+    let here = r .before .ring .ensures in
+    let type = f .before .byte-at .ensures in
+    let loudness = f .f32-at .ensures in
+    let picks = m .before .picks .ensures in
+    let made = m .completed .ensures in
+    let sum = r .add-reply .ensures in (
+      added (a .pending) (a .delays) (a .first) (a .rest .now) _ _ _ _ _ here type loudness picks made (a .mode-s .now) (a .mode-ac .now) (a .memory .now) _ (sum .0),
+      recorded (a .pending) (a .delays) (a .first) (a .rest .now) _ _ _ _ _ here type loudness picks made (a .memory .now) (a .records .now) _ (a .at) _ (sum .1) (q .put .ensures .1),
     )
 
 pub add-spec : {M : Type 1} → statement M
 add-spec =
     tie.close
     (tie.spec
-    read-requires
-    config-requires
+    byte-at-requires
+    f32-at-requires
+    picks-requires
+    completed-requires
     ring-requires
     add-reply-requires
     put-requires

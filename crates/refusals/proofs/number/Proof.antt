@@ -1,4 +1,5 @@
 -- `refusals::number` meets its contract. Assumes nothing.
+use mathlib.Core.Path.{sym, ap}
 use borrow.Author.Needs.{needs}
 use Rattle.refusals.specs.Number.{numberOf}
 use Rattle.refusals.proofs.number.Statement.{statement}
@@ -41,7 +42,7 @@ returns-2 c = search needs
 
 returns-3 : tie.Need-returns-3
 unfolding numberOf
-returns-3 c = search needs
+returns-3 c = sym (ap numberOf (c .enum-told3 .given .1))
 
 returns-4 : tie.Need-returns-4
 unfolding numberOf
@@ -49,7 +50,7 @@ returns-4 c = search needs
 
 returns-5 : tie.Need-returns-5
 unfolding numberOf
-returns-5 c = search needs
+returns-5 c = sym (ap numberOf (c .enum-told5 .given .1))
 
 returns-6 : tie.Need-returns-6
 unfolding numberOf

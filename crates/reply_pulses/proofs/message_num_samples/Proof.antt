@@ -1,7 +1,8 @@
 -- `message_num_samples` meets its contract. Assumes nothing.
 use borrow.Author.Needs.{needs}
-use mathlib.Core.Path.{_∙_}
+use mathlib.Core.Path.{_≡_, _∙_}
 use Rattle.constants.specs.Rate.{four}
+use Rattle.pulse_length.specs.Length.{modeSNumSamples}
 use Rattle.reply_pulses.proofs.Places.{samples-short, samples-long, samples-mode-ac}
 use Rattle.reply_pulses.proofs.message_num_samples.Statement.{statement}
 use Rattle.reply_pulses.proofs.message_num_samples.Tie as tie
@@ -28,10 +29,14 @@ mode-ac-num-samples-requires : tie.Need-mode-ac-num-samples-requires
 mode-ac-num-samples-requires c κs = search needs
 
 returns : tie.Need-returns
-returns c = c .mode-s-num-samples .ensures ∙ samples-short four (c .before .before .before .before .args .r) (c .before .enum-told .given .1)
+returns c =
+    let short : c .mode-s-num-samples .result ≡ modeSNumSamples four false = c .mode-s-num-samples .ensures in
+    short ∙ samples-short four (c .before .before .before .before .args .r) (c .before .enum-told .given .1)
 
 returns-2 : tie.Need-returns-2
-returns-2 c = c .mode-s-num-samples2 .ensures ∙ samples-long four (c .before .before .before .before .args .r) (c .before .enum-told2 .given .1)
+returns-2 c =
+    let long : c .mode-s-num-samples2 .result ≡ modeSNumSamples four true = c .mode-s-num-samples2 .ensures in
+    long ∙ samples-long four (c .before .before .before .before .args .r) (c .before .enum-told2 .given .1)
 
 returns-3 : tie.Need-returns-3
 returns-3 c = c .mode-ac-num-samples .ensures ∙ samples-mode-ac four (c .before .before .before .before .before .args .r) _ (c .before .before .enum-told3 .given .1) (c .before .mode-ac-spi .ensures)

@@ -1,6 +1,7 @@
 -- `message_to_pulses` meets its contract. Assumes nothing.
 use borrow.Author.Needs.{needs}
-use mathlib.Core.Path.{_∙_}
+use mathlib.Core.Path.{_≡_, _∙_}
+use Rattle.pulses.specs.ModeS.{modeSPulses}
 use Rattle.reply_pulses.proofs.Places.{of-short, of-long, of-mode-ac}
 use Rattle.reply_pulses.proofs.message_to_pulses.Statement.{statement}
 use Rattle.reply_pulses.proofs.message_to_pulses.Tie as tie
@@ -30,7 +31,10 @@ mode-ac-pulses-requires : tie.Need-mode-ac-pulses-requires
 mode-ac-pulses-requires c κs = search needs
 
 returns : tie.Need-returns
-returns c = c .mode-s-pulses .ensures ∙ of-short (c .before .before .before .before .args .r) (c .before .enum-told .given .1)
+returns c =
+    let r = c .before .before .before .before .args .r in
+    let short : c .mode-s-pulses .result ≡ modeSPulses (r .bytes) false = c .mode-s-pulses .ensures in
+    short ∙ of-short r (c .before .enum-told .given .1)
 
 returns-2 : tie.Need-returns-2
 returns-2 c = c .mode-s-pulses2 .ensures ∙ of-long (c .before .before .before .before .args .r) (c .before .enum-told2 .given .1)

@@ -11,28 +11,26 @@ drain-requires c κs = search needs
 
 returns : tie.Need-returns
 returns c =
-    let a = c .before .before .before .args in
-    c .drain .ensures ∙ chose-ended (a .written) (a .total) (a .last) (a .all) (a .delays) (a .rest .now) (a .room) (a .noise) (a .bytes) (a .ended) (c .before .if1 .taken)
+    let a = c .before .before .args in
+    c .drain .ensures ∙ chose-ended (a .written) (a .total) (a .delays) (a .next) (a .rest) (a .room) (a .noise) (a .bytes) (a .ended) (c .before .if1 .taken)
 
 returns-2 : tie.Need-returns-2
 returns-2 c =
-    let a = c .before .before .before .args in
-    chose-none (a .written) (a .total) (a .last) (a .all) (a .delays) (a .rest .now) (a .room) (a .noise) (a .bytes) (a .ended) (c .before .if1 .left) (c .if2 .taken)
+    let a = c .before .before .args in
+    chose-none (a .written) (a .total) (a .delays) (a .next) (a .rest) (a .room) (a .noise) (a .bytes) (a .ended) (c .before .if1 .left) (c .if2 .taken)
 
-time-after-requires : tie.Need-time-after-requires
-time-after-requires c κs = search needs
-
-start-at-requires : tie.Need-start-at-requires
-start-at-requires c κs = search needs
+first-sample-index-requires : tie.Need-first-sample-index-requires
+first-sample-index-requires c κs = search needs
 
 place-requires : tie.Need-place-requires
 place-requires c κs = search needs
 
 returns-3 : tie.Need-returns-3
 returns-3 c =
-    let a = c .before .before .before .before .before .before .args in
+    let f = c .before in
+    let a = f .before .before .before .args in
     c .place .ensures
-    ∙ chose-draw (a .written) (a .total) (a .last) (a .all) (a .delays) (a .rest .now) (a .room) (a .noise) (a .bytes) (a .ended) (c .before .before .before .before .if1 .left) (c .before .before .before .if2 .left) _ _ (c .before .before .time-after .ensures) (toZ-ofZ (record { sfits = c .before .start-at .ok }) ∙ c .before .start-at .ensures)
+    ∙ chose-draw (a .written) (a .total) (a .delays) (a .next) (a .rest) (a .room) (a .noise) (a .bytes) (a .ended) (f .before .before .if1 .left) (f .before .if2 .left) _ (toZ-ofZ (record { sfits = f .first-sample-index .ok }) ∙ f .first-sample-index .ensures)
 
 pub choose-spec : {M : Type 1} → statement M
 choose-spec =
@@ -41,7 +39,6 @@ choose-spec =
     drain-requires
     returns
     returns-2
-    time-after-requires
-    start-at-requires
+    first-sample-index-requires
     place-requires
     returns-3)

@@ -1,6 +1,6 @@
 -- `settings::rate_of` meets its contract. Assumes nothing.
 use Prim.Native.Nat.{ℕ, suc, _≤_, zero-le}
-use mathlib.Core.Path.{_≡_, sym}
+use mathlib.Core.Path.{_≡_, refl, sym}
 use native.Mathlib.Omega.{arith}
 use lib.ListN.{List·getD-eq-default}
 use lib.Ieee.{binary64, ofBits}
@@ -18,7 +18,7 @@ returns-2 c = rw (c .if2 .taken)
 
 returns-3 : tie.Need-returns-3
 unfolding rateOf ratesOf
-returns-3 c = rw (c .if3 .taken)
+returns-3 c = rw (c .if3 .taken) refl
 
 returns-4 : tie.Need-returns-4
 unfolding rateOf ratesOf
@@ -34,7 +34,7 @@ returns-6 c = rw (c .if6 .taken)
 
 returns-7 : tie.Need-returns-7
 unfolding rateOf ratesOf
-returns-7 c = rw (c .if7 .taken)
+returns-7 c = let six : _ ≡ 6 = c .if7 .taken in rw six
 
 -- a number from k on that is not k
 above : (k n : ℕ) → k ≤ n → (n ≡ k → ⊥) → suc k ≤ n

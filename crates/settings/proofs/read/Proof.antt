@@ -1,4 +1,5 @@
 -- `settings::read` meets its contract. Assumes nothing.
+use mathlib.Core.Path.{refl}
 use borrow.Author.Needs.{needs}
 use Rattle.settings.specs.Settings.{settingsOf}
 use Rattle.settings.proofs.read.Statement.{statement}
@@ -25,7 +26,7 @@ u32-at-requires c κs = search needs
 returns : tie.Need-returns
 unfolding settingsOf
 returns c =
-    rw (c .u32-at .ensures, c .before .u64-at .ensures, c .before .before .asked-at3 .ensures, c .before .before .before .asked-at2 .ensures, c .before .before .before .before .asked-at .ensures, c .before .before .before .before .before .rates-at .ensures)
+    rw (c .u32-at .ensures, c .before .u64-at .ensures, c .before .before .asked-at3 .ensures, c .before .before .before .asked-at2 .ensures, c .before .before .before .before .asked-at .ensures, c .before .before .before .before .before .rates-at .ensures) refl
 
 pub read-spec : {M : Type 1} → statement M
 read-spec =

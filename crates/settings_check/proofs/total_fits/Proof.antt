@@ -1,4 +1,7 @@
 -- `settings_check::total_fits` meets its contract. Assumes nothing.
+use mathlib.Core.Bool.{Bool, _&&_}
+use mathlib.Core.Path.{_≡_, sym, ap, _∙_}
+use lib.Ieee.Scale.{finite}
 use borrow.Author.Needs.{needs}
 use Rattle.settings.specs.Accepted.{totalFits}
 use Rattle.settings_check.proofs.total_fits.Statement.{statement}
@@ -9,7 +12,9 @@ finite-requires c κs = search needs
 
 returns : tie.Need-returns
 unfolding totalFits
-returns c = simp (c .before .if1 .taken, ← c .finite .ensures)
+returns c =
+    let known : c .finite .result ≡ finite (c .before .before .args .total) = c .finite .ensures in
+    known ∙ sym (ap (λ (t : Bool). t && finite (c .before .before .args .total)) (c .before .if1 .taken))
 
 returns-2 : tie.Need-returns-2
 unfolding totalFits

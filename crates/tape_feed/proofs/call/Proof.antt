@@ -1,21 +1,9 @@
 -- `tape_feed::call` meets its contract. Assumes nothing.
-use borrow.Author.Needs.{needs}
-use mathlib.Core.Path.{sym}
 use native.Mathlib.Nat.{le-refl}
 use lib.Dec.{lit<}
-use lib.Seq.{length-take-le}
-use Rattle.tape_feed.proofs.Parts.{within, room-left, part-kept, called}
+use Rattle.tape_feed.proofs.Parts.{within, part-kept, called}
 use Rattle.tape_feed.proofs.call.Statement.{statement}
 use Rattle.tape_feed.proofs.call.Tie as tie
-
-zeros-requires : tie.Need-zeros-requires
-zeros-requires c κs = tt
-
-slice-aggregate-floats : tie.Need-slice-aggregate-floats
-slice-aggregate-floats c = search needs
-
-floats-requires : tie.Need-floats-requires
-floats-requires c κs = tt
 
 place-requires : tie.Need-place-requires
 place-requires c κs = lit< tt
@@ -32,17 +20,11 @@ part-run-start c = within _ _ (c .before .before .before .place .ensures)
 part-run-end : tie.Need-part-run-end
 part-run-end c = le-refl _
 
-array-share-prefix-row : tie.Need-array-share-prefix-row
-array-share-prefix-row c = room-left _ _ _ (c .before .before .before .before .before .before .floats .ensures .0) (sym (slice-aggregate-floats (c .before .before .before .before .before .before .before))) (c .before .before .before .before .before .row2 .given)
-
-slice-aggregate-run : tie.Need-slice-aggregate-run
-slice-aggregate-run c = sym (length-take-le _ _ (array-share-prefix-row (c .before)))
-
 sub-run-2 : tie.Need-sub-run-2
-sub-run-2 c = within _ _ (c .before .before .before .before .before .place2 .ensures)
+sub-run-2 c = within _ _ (c .before .before .before .before .place2 .ensures)
 
 part-run-start-2 : tie.Need-part-run-start-2
-part-run-start-2 c = within _ _ (c .before .before .before .before .before .place2 .ensures)
+part-run-start-2 c = within _ _ (c .before .before .before .before .place2 .ensures)
 
 part-run-end-2 : tie.Need-part-run-end-2
 part-run-end-2 c = le-refl _
@@ -60,25 +42,20 @@ same-length-2 : tie.Need-same-length-2
 same-length-2 c = c .before .before .before .before .before .before .before .run .kept .1 .1 .1 .1 .1 .1 .0
 
 same-length-3 : tie.Need-same-length-3
-same-length-3 c = part-kept _ _ (c .before .before .before .before .before .before .before .run .last .1 .1 .1 .1 .1 .1 .1 .0) (within _ _ (c .before .before .before .before .before .before .before .before .before .before .before .before .before .before .place2 .ensures)) (c .before .before .before .before .before .before .before .run .kept .1 .1 .1 .1 .1 .1 .1 .0)
+same-length-3 c = part-kept _ _ (c .before .before .before .before .before .before .before .run .last .1 .1 .1 .1 .1 .1 .1 .0) (within _ _ (c .before .before .before .before .before .before .before .before .before .before .before .before .before .place2 .ensures)) (c .before .before .before .before .before .before .before .run .kept .1 .1 .1 .1 .1 .1 .1 .0)
 
 returns : tie.Need-returns
-returns c = let a = c .before .before .before .before .before .before .before .before .before .before .before .before .before .before .before .before .before .before .before .before .before .before .before .before .before .before .before .args in called (a .f) (a .mode-s .now) (a .mode-ac .now) (a .memory .now) (a .draws .now) (a .bytes .now) (a .output .now) (a .records .now) _ _ (sym (slice-aggregate-floats (c .before .before .before .before .before .before .before .before .before .before .before .before .before .before .before .before .before .before))) (c .before .before .before .before .before .before .before .before .before .before .before .before .before .before .before .before .before .floats .ensures .0) (c .before .before .before .before .before .before .before .before .before .before .before .before .before .before .before .before .before .floats .ensures .1) (c .before .before .before .before .before .before .before .before .before .before .before .before .before .before .before .place .ensures) (c .before .before .before .before .before .before .before .before .before .before .before .before .before .before .place2 .ensures) (c .before .before .before .before .before .before .before .run .ensures) (c .after .ensures)
+returns c = let a = c .before .before .before .before .before .before .before .before .before .before .before .before .before .before .before .before .before .before .before .before .before .before .args in called (a .f) (a .mode-s .now) (a .mode-ac .now) (a .memory .now) (a .draws .now) (a .noise .now) (a .output .now) (a .records .now) (c .before .before .before .before .before .before .before .before .before .before .before .before .before .before .place .ensures) (c .before .before .before .before .before .before .before .before .before .before .before .before .before .place2 .ensures) (c .before .before .before .before .before .before .before .run .ensures) (c .after .ensures)
 
 pub call-spec : {M : Type 1} → statement M
 call-spec =
     tie.close
     (tie.spec
-    zeros-requires
-    slice-aggregate-floats
-    floats-requires
     place-requires
     place-requires-2
     sub-run
     part-run-start
     part-run-end
-    array-share-prefix-row
-    slice-aggregate-run
     sub-run-2
     part-run-start-2
     part-run-end-2

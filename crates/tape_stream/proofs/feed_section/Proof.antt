@@ -4,46 +4,42 @@ use mathlib.Core.Bool.{false}
 use mathlib.Core.Logic.{_⊎_, inl, inr}
 use mathlib.Core.Path.{_≡_, refl, sym, ap, _∙_}
 use native.Mathlib.Omega.{arith}
-use lib.Dec.{ltb}
 use lib.ListN.{length}
 use lib.Seq.{length-take-le}
-use Rattle.tape_laws.proofs.Section.{Going, going-first, going-end, no-more, fewer-left, as-read, turned, next-turn}
+use Rattle.tape_laws.proofs.Section.{Going, going-first, going-end, no-more, fewer-left, turned, next-turn}
 use Rattle.tape_stream.proofs.feed_section.Statement.{statement}
 use Rattle.tape_stream.proofs.feed_section.Tie as tie
 
 abbrev Inv-loop : tie.InvT-loop
-Inv-loop count samples draws mode-s mode-ac memory₀ records₀ f₀ short₀ left₀ want₀ turns₀ memory records f short left want turns =
+Inv-loop count samples draws mode-s mode-ac memory₀ records₀ f₀ untaken₀ short₀ left₀ want₀ turns₀ memory records f untaken short left want turns =
     (want ≤ left) × (want ≤ 16384) × (length memory ≡ length memory₀) × (length records ≡ length records₀) × ((want ≡ 0) ⊎ (want ≡ min left 16384))
     × (0 < turns → short ≡ false) × (turns ≡ 0 → left ≡ 0)
     × Going mode-s mode-ac draws (record { feed = f₀; memory = memory₀; records = records₀ }) count turns left short (record { feed = f; memory = memory; records = records })
 
 abbrev μ-loop : tie.MeasureT-loop
-μ-loop count samples draws mode-s mode-ac memory₀ records₀ f₀ short₀ left₀ want₀ turns₀ memory records f short left want turns =
+μ-loop count samples draws mode-s mode-ac memory₀ records₀ f₀ untaken₀ short₀ left₀ want₀ turns₀ memory records f untaken short left want turns =
     2 * left + turns + (1 - want)
 
 loop-holds : tie.Need-loop-holds Inv-loop μ-loop
 loop-holds c = (zero-le, zero-le, refl, refl, inl refl, λ h. refl, λ e. absurd (omega (arith, e)), going-first _ _ _ _ _)
 
-mul-size : tie.Need-mul-size Inv-loop μ-loop
-mul-size c = record { fits = omega (arith, c .before .loop .inv .1) }
+slice-aggregate-read-values : tie.Need-slice-aggregate-read-values Inv-loop μ-loop
+slice-aggregate-read-values c = refl
 
-slice-aggregate-read-whole : tie.Need-slice-aggregate-read-whole Inv-loop μ-loop
-slice-aggregate-read-whole c = refl
+read-values-requires : tie.Need-read-values-requires Inv-loop μ-loop
+read-values-requires c κs = tt
 
-read-whole-requires : tie.Need-read-whole-requires Inv-loop μ-loop
-read-whole-requires c κs = tt
+array-share-prefix-row : tie.Need-array-share-prefix-row Inv-loop μ-loop
+array-share-prefix-row c = c .before .before .read-values .ensures .0
 
-array-share-prefix-bytes : tie.Need-array-share-prefix-bytes Inv-loop μ-loop
-array-share-prefix-bytes c = c .before .before .read-whole .ensures .0
+slice-aggregate-feed-noise : tie.Need-slice-aggregate-feed-noise Inv-loop μ-loop
+slice-aggregate-feed-noise c = sym (length-take-le _ _ (array-share-prefix-row (c .before)))
 
-slice-aggregate-feed-bytes : tie.Need-slice-aggregate-feed-bytes Inv-loop μ-loop
-slice-aggregate-feed-bytes c = sym (length-take-le _ _ (array-share-prefix-bytes (c .before)))
+slice-aggregate-feed-noise-2 : tie.Need-slice-aggregate-feed-noise-2 Inv-loop μ-loop
+slice-aggregate-feed-noise-2 c = refl
 
-slice-aggregate-feed-bytes-2 : tie.Need-slice-aggregate-feed-bytes-2 Inv-loop μ-loop
-slice-aggregate-feed-bytes-2 c = refl
-
-feed-bytes-requires : tie.Need-feed-bytes-requires Inv-loop μ-loop
-feed-bytes-requires c κs = tt
+feed-noise-requires : tie.Need-feed-noise-requires Inv-loop μ-loop
+feed-noise-requires c κs = tt
 
 slice-aggregate-put-samples : tie.Need-slice-aggregate-put-samples Inv-loop μ-loop
 slice-aggregate-put-samples c = sym (c .before .before .before .output2 .given)
@@ -68,20 +64,16 @@ loop-less c = fewer-left _ _ _ _ _ _ (c .before .before .before .either .result)
 
 loop-again : tie.Need-loop-again Inv-loop μ-loop
 loop-again c =
-    let t = turned (c .before .before .before .before .before .before .before .before .before .before .before .before .before .before .before .before .before .read-whole .result) (c .before .before .before .before .before .before .before .before .before .before .before .before .before .before .before .before .before .before .before .before .loop .want) _ _ _ _ (c .before .before .before .before .put-samples .result) (c .before .before .before .either .result) (c .before .before .before .before .before .before .before .before .before .before .before .before .before .before .before .before .before .read-whole .ensures .1) (c .before .before .before .before .before .before .before .before .before .before .before .before .before .before .before .before .before .read-whole .ensures .2) (c .before .before .before .before .before .before .before .before .before .before .before .before .before .before .before .before .before .before .before .before .loop .inv .4) (c .before .before .before .before .before .before .before .before .before .before .before .before .before .before .before .before .before .before .before .before .loop .inv .0) (c .before .before .before .either .ensures) (c .before .before .left-after .ensures) (c .before .least .ensures) (c .least2 .ensures) in (
+    let t = turned (c .before .before .before .before .before .before .before .before .before .before .before .before .before .before .before .before .before .read-values .result) (c .before .before .before .before .before .before .before .before .before .before .before .before .before .before .before .before .before .before .before .before .loop .want) _ _ _ _ (c .before .before .before .before .put-samples .result) (c .before .before .before .either .result) (c .before .before .before .before .before .before .before .before .before .before .before .before .before .before .before .before .before .read-values .ensures .1) (c .before .before .before .before .before .before .before .before .before .before .before .before .before .before .before .before .before .before .before .before .loop .inv .4) (c .before .before .before .before .before .before .before .before .before .before .before .before .before .before .before .before .before .before .before .before .loop .inv .0) (c .before .before .before .either .ensures) (c .before .before .left-after .ensures) (c .before .least .ensures) (c .least2 .ensures) in (
       omega (arith, c .before .least .ensures),
       omega (arith, c .before .least .ensures),
-      c .before .before .before .before .before .before .before .before .before .before .before .feed-bytes .kept .1 .1 .1 .0 ∙ c .before .before .before .before .before .before .before .before .before .before .before .before .before .before .before .before .before .before .before .before .loop .inv .2,
-      c .before .before .before .before .before .before .before .before .before .before .before .feed-bytes .kept .1 .1 .1 .1 .1 .1 .1 .0 ∙ c .before .before .before .before .before .before .before .before .before .before .before .before .before .before .before .before .before .before .before .before .loop .inv .3,
+      c .before .before .before .before .before .before .before .before .before .before .before .feed-noise .kept .1 .1 .1 .0 ∙ c .before .before .before .before .before .before .before .before .before .before .before .before .before .before .before .before .before .before .before .before .loop .inv .2,
+      c .before .before .before .before .before .before .before .before .before .before .before .feed-noise .kept .1 .1 .1 .1 .1 .1 .1 .0 ∙ c .before .before .before .before .before .before .before .before .before .before .before .before .before .before .before .before .before .before .before .before .loop .inv .3,
       inr (omega (arith, c .before .least .ensures)),
       t .goes-on,
       t .over,
-      next-turn _ _ _ _ _ _ _ _ _ (c .before .before .before .before .before .before .before .before .before .before .before .before .before .before .before .before .before .before .before .before .loop .want) _ _ _ _ _ _ _ _ _ _ _ (c .before .before .before .before .before .before .before .before .before .before .before .before .before .before .before .before .before .before .before .before .loop .inv .7) (c .before .before .before .before .before .before .before .before .before .before .before .before .before .before .before .before .before .before .before .loop-test .taken) refl
-          (λ more. as-read _ _ (array-share-prefix-bytes (c .before .before .before .before .before .before .before .before .before .before .before .before .before .before .before)) (t .even more))
-          (c .before .before .before .before .before .before .before .before .before .before .before .before .before .before .before .before .before .before .before .before .loop .inv .1)
-          (c .before .before .before .before .before .before .before .before .before .before .before .before .before .before .before .before .before .before .before .before .loop .inv .5 (c .before .before .before .before .before .before .before .before .before .before .before .before .before .before .before .before .before .before .before .loop-test .taken))
-          (λ h. (length-take-le _ _ (array-share-prefix-bytes (c .before .before .before .before .before .before .before .before .before .before .before .before .before .before .before)) ∙ t .read h .0, t .read h .1))
-          (c .before .before .before .before .before .before .before .before .before .before .before .feed-bytes .ensures),
+      next-turn _ _ _ _ _ _ _ _ _ (c .before .before .before .before .before .before .before .before .before .before .before .before .before .before .before .before .before .before .before .before .loop .want) (c .before .before .before .before .before .before .before .before .before .before .before .before .before .before .before .before .before .read-values .result) _ _ _ _ _ _ _ _ _ _ _ (c .before .before .before .before .before .before .before .before .before .before .before .before .before .before .before .before .before .before .before .before .loop .inv .7) (c .before .before .before .before .before .before .before .before .before .before .before .before .before .before .before .before .before .before .before .loop-test .taken) refl (array-share-prefix-row (c .before .before .before .before .before .before .before .before .before .before .before .before .before .before .before)) (c .before .before .before .before .before .before .before .before .before .before .before .before .before .before .before .before .before .read-values .ensures .1)
+          (c .before .before .before .before .before .before .before .before .before .before .before .before .before .before .before .before .before .before .before .before .loop .inv .1) (c .before .before .before .before .before .before .before .before .before .before .before .before .before .before .before .before .before .before .before .before .loop .inv .5 (c .before .before .before .before .before .before .before .before .before .before .before .before .before .before .before .before .before .before .before .loop-test .taken)) t (c .before .before .before .before .before .before .before .before .before .before .before .feed-noise .ensures),
     )
 
 left-over-requires : tie.Need-left-over-requires Inv-loop μ-loop
@@ -103,13 +95,12 @@ feed-section-spec =
     Inv-loop
     μ-loop
     loop-holds
-    mul-size
-    slice-aggregate-read-whole
-    read-whole-requires
-    array-share-prefix-bytes
-    slice-aggregate-feed-bytes
-    slice-aggregate-feed-bytes-2
-    feed-bytes-requires
+    slice-aggregate-read-values
+    read-values-requires
+    array-share-prefix-row
+    slice-aggregate-feed-noise
+    slice-aggregate-feed-noise-2
+    feed-noise-requires
     slice-aggregate-put-samples
     put-samples-requires
     either-requires

@@ -44,6 +44,9 @@ progress-requires c κs = tt
 returns : tie.Need-returns
 returns c = search needs
 
+returns-2 : tie.Need-returns-2
+returns-2 c = search needs
+
 pub write-samples-spec : {M : Type 1} → statement M
 write-samples-spec =
     tie.close
@@ -60,4 +63,5 @@ write-samples-spec =
     slice-aggregate-write-all
     write-all-requires
     progress-requires
-    returns)
+    returns
+    returns-2)

@@ -37,7 +37,7 @@ returns-3 c = rw (c .enum-told3 .given .1)
 
 returns-4 : tie.Need-returns-4
 unfolding stopThen
-returns-4 c = rw (c .enum-told4 .given .1)
+returns-4 c = rw (c .enum-told4 .given .1) refl
 
 returns-5 : tie.Need-returns-5
 unfolding stopThen

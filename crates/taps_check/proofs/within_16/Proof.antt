@@ -1,11 +1,14 @@
 -- `within_16` meets its contract. Assumes nothing.
-use Rattle.pulse_shape.specs.Accepted.{within16}
+use mathlib.Core.Bool.{Bool, _&&_}
+use mathlib.Core.Path.{sym, ap}
+use lib.Ieee.{le}
+use Rattle.pulse_shape.specs.Accepted.{sixteen, within16}
 use Rattle.taps_check.proofs.within_16.Statement.{statement}
 use Rattle.taps_check.proofs.within_16.Tie as tie
 
 returns : tie.Need-returns
 unfolding within16
-returns c = simp (c .if1 .taken)
+returns c = sym (ap (λ (t : Bool). t && le (c .before .args .x) sixteen) (c .if1 .taken))
 
 returns-2 : tie.Need-returns-2
 unfolding within16

@@ -63,7 +63,7 @@ returns-4 c = took-by _ _ _ (c .before .before .p4 .given .1) _ _ _ refl _ _ _ _
 
 returns-5 : tie.Need-returns-5
 unfolding movedBy
-returns-5 c = took-by _ _ _ (c .before .before .p5 .given .1) _ _ _ refl _ _ _ _ (c .took2 .ensures) refl refl refl
+returns-5 c = took-by _ _ _ (c .before .before .p5 .given .1) _ _ _ refl _ _ 0 _ (c .took2 .ensures) refl refl refl
 
 returns-6 : tie.Need-returns-6
 unfolding movedBy

@@ -1,0 +1,22 @@
+-- `tape_verdict::reported` meets its contract. Assumes nothing.
+use mathlib.Core.Path.{sym, ap, _∙_}
+use Rattle.tape_verdict.specs.Verdict.{judgedOf, outcomeOf}
+use Rattle.tape_verdict.proofs.reported.Statement.{statement}
+use Rattle.tape_verdict.proofs.reported.Tie as tie
+
+returns : tie.Need-returns
+unfolding outcomeOf
+returns c = simp (c .if1 .taken)
+
+verdict-requires : tie.Need-verdict-requires
+verdict-requires c κs = tt
+
+judged-requires : tie.Need-judged-requires
+judged-requires c κs = tt
+
+returns-2 : tie.Need-returns-2
+unfolding outcomeOf
+returns-2 c = rw (c .judged .ensures, c .before .verdict .ensures, c .before .before .if1 .left)
+
+pub reported-spec : {M : Type 1} → statement M
+reported-spec = tie.close (tie.spec returns verdict-requires judged-requires returns-2)
