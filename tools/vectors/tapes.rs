@@ -1,15 +1,21 @@
-// Makes the test of crates/tape_vectors: one tape, and for each refusal, and each form of it, a change of that tape.
-//   rustc --edition 2021 -O -o /tmp/tapes tools/vectors/tapes.rs && /tmp/tapes in > crates/tape_vectors/stdin
-//   differential/build && for k in $(seq 0 $(/tmp/tapes last)); do /tmp/tapes tape $k | differential/target/harness text; done > crates/tape_vectors/stdout
-// The answers are thus those of the harness: the rules of document 01 (differential/harness/rules.rs, program.rs) and the published Rust.
+// Makes the stored tapes of tapes/: a small tape, and for each refusal, and each form of it, a change of that tape or of another stored one.
+//   rustc --edition 2021 -O -o /tmp/tapes tools/vectors/tapes.rs
+//   /tmp/tapes small >tapes/small.tape; /tmp/tapes cases >tapes/cases
+//   tapes/run --report >tapes/expected; differential/build; tapes/judge
+// tapes/judge holds what is then expected against the harness: the rules of document 01 (differential/harness/rules.rs, program.rs) and the published Rust.
 use std::io::Write;
 
 const TAPS: usize = 127;
 const DRAWS: usize = 12_131;
 const NOISE: usize = 12_135 + 2 * 65;
 
+// Document 01's worked tape (crates/tape/stdin) and the tape of crates/cf32/stdin, which is longer than a chunk of noise: its bytes, and where its noise begins.
+const WORKED: usize = 76_334;
+const LONG: usize = 89_739;
+const LONG_NOISE: usize = 14_735;
+
 // 1,200 samples; rates 1.0; all distributions uniform or normal; tap 0 of each lowpass 1.0; a Mode A/C reply and a draw that ends the run; noise of 2,400 values.
-fn base() -> Vec<u8> {
+fn small() -> Vec<u8> {
     let mut b = Vec::new();
     b.extend(1u32.to_le_bytes());
     b.extend(0u64.to_le_bytes());
@@ -47,114 +53,128 @@ fn base() -> Vec<u8> {
     b
 }
 
-struct Case {
-    length: usize,
-    changes: Vec<(usize, u8)>,
+// A case: its name, the tape that it changes, its length, and bytes put at places before it is cut to that length.
+type Change = (usize, Vec<u8>);
+
+struct Cases {
+    whole: usize,
+    all: Vec<(String, &'static str, usize, Vec<Change>)>,
 }
 
-fn put(at: usize, bytes: &[u8]) -> Vec<(usize, u8)> {
-    bytes.iter().enumerate().map(|(k, &b)| (at + k, b)).collect()
+fn put(at: usize, bytes: &[u8]) -> Change {
+    (at, bytes.to_vec())
 }
 
-fn cases(whole: usize) -> Vec<Case> {
-    let mut all = vec![(whole, vec![])];
-    let mut at = |place: usize, bytes: &[u8]| all.push((whole, put(place, bytes)));
+impl Cases {
+    fn small(&mut self, name: &str, changes: &[Change], length: usize) {
+        self.all.push((name.to_string(), "small", length, changes.to_vec()));
+    }
+
+    fn at(&mut self, name: &str, place: usize, bytes: &[u8]) {
+        self.small(name, &[put(place, bytes)], self.whole);
+    }
+
+    fn of(&mut self, base: &'static str, name: &str, changes: &[Change], length: usize) {
+        self.all.push((name.to_string(), base, length, changes.to_vec()));
+    }
+}
+
+fn heads(c: &mut Cases) {
     let nan = f64::NAN.to_le_bytes();
-    // 1: nanoseconds; a duration above 2^52 samples.
-    at(12, &1_000_000_000u32.to_le_bytes());
-    at(4, &562_949_954u64.to_le_bytes());
-    // 2: a rate negative; not finite. 3: the total 0, infinite.
-    at(16 + 8 * 6, &(-1.0f64).to_le_bytes());
-    at(16, &nan);
-    at(16, &[0; 56]);
-    at(16, &[f64::MAX.to_le_bytes(), f64::MAX.to_le_bytes()].concat());
-    // 4: each distribution's kind, and a parameter of each.
-    for k in 0..3 {
-        at(72 + 17 * k, &[2]);
-        at(73 + 17 * k, &nan);
+    c.at("1: nanoseconds of 1,000,000,000", 12, &1_000_000_000u32.to_le_bytes());
+    c.at("1: above 2^52 samples", 4, &562_949_954u64.to_le_bytes());
+    c.at("2: the last rate negative", 16 + 8 * 6, &(-1.0f64).to_le_bytes());
+    c.at("2: the first rate a NaN", 16, &nan);
+    c.at("3: rates of 0 in all", 16, &[0; 56]);
+    c.at("3: an infinite total", 16, &[f64::MAX.to_le_bytes(), f64::MAX.to_le_bytes()].concat());
+    for (k, name) in ["carrier offset", "phase", "clock error"].iter().enumerate() {
+        c.at(&format!("4: a {name} of kind 2"), 72 + 17 * k, &[2]);
     }
-    // 5: a tap not finite, a tap above 16. 6: a prototype value above 16, no crossing.
-    at(TAPS, &f32::INFINITY.to_le_bytes());
-    at(TAPS + 4 * 3000, &16.000002f32.to_le_bytes());
-    at(TAPS + 4, &[16.0f32.to_le_bytes(), 16.0f32.to_le_bytes()].concat());
-    at(TAPS + 4 * 1486, &0.25f32.to_le_bytes());
-    // 7: each field of the Mode A/C draw, and the fields of the other one.
-    for (field, bytes) in [(0usize, (-1.0f64).to_le_bytes()), (9, nan), (21, nan), (29, 3.2f64.to_le_bytes()), (37, 0.06f64.to_le_bytes())] {
-        at(DRAWS + 4 + field, &bytes);
+    c.at("4: the carrier offset's first parameter a NaN", 73, &nan);
+    c.at("a uniform phase, which has no parameter, with a NaN for it", 73 + 17, &nan);
+    c.at("4: the clock error's first parameter a NaN", 73 + 34, &nan);
+    c.at("5: an infinite tap", TAPS, &f32::INFINITY.to_le_bytes());
+    c.at("5: the last tap above 16", TAPS + 4 * 3000, &16.000002f32.to_le_bytes());
+    c.at("6: a prototype value above 16", TAPS + 4, &[16.0f32.to_le_bytes(), 16.0f32.to_le_bytes()].concat());
+    c.at("6: no crossing of 0.5", TAPS + 4 * 1486, &0.25f32.to_le_bytes());
+    let fields = [("gap", 0usize, (-1.0f64).to_le_bytes()), ("CN0", 9, nan), ("carrier draw", 21, nan), ("phase draw", 29, 3.2f64.to_le_bytes()), ("clock draw", 37, 0.06f64.to_le_bytes())];
+    for (name, field, bytes) in fields {
+        c.at(&format!("7: the {name} of a draw"), DRAWS + 4 + field, &bytes);
     }
-    at(DRAWS + 4 + 8, &[7]);
-    at(DRAWS + 4 + 17, &1_048_577.0f32.to_le_bytes());
-    at(DRAWS + 4 + 62, &4096u16.to_le_bytes());
-    at(DRAWS + 4 + 64, &[2]);
-    at(DRAWS + 69 + 46, &[5]);
-    at(DRAWS + 69 + 47, &[0]);
-    at(DRAWS + 69 + 47, &[128]);
-    // 8: the first noise value, the last one, which no sample uses at a count of 2,401, and one behind the run's end.
-    at(NOISE + 4, &f32::NAN.to_le_bytes());
-    at(NOISE + 4 + 4 * 2399, &64.00001f32.to_le_bytes());
-    // 11: each count; draws and noise that run out before Done; bytes left over.
-    at(0, &[0]);
-    at(0, &[2]);
-    at(123, &3000u32.to_le_bytes());
-    at(DRAWS, &401u32.to_le_bytes());
-    at(DRAWS + 69, &1.0f64.to_le_bytes());
-    at(NOISE, &2399u32.to_le_bytes());
-    at(NOISE, &2398u32.to_le_bytes());
-    at(NOISE, &u32::MAX.to_le_bytes());
-    // the order: a wrong taps' count behind a wrong rate; a bad noise value in a short section; a bad draw and a short noise.
-    at(16, &nan);
-    let mut both = |changes: Vec<(usize, u8)>, length: usize| all.push((length, changes));
-    both([put(16, &nan), put(123, &[0])].concat(), whole);
-    both([put(TAPS, &f32::NAN.to_le_bytes()), put(DRAWS, &401u32.to_le_bytes())].concat(), whole);
-    both([put(DRAWS + 12, &[9]), put(NOISE, &[0xff; 4])].concat(), whole);
-    both(put(NOISE + 4, &f32::NAN.to_le_bytes()), whole - 1);
-    both([put(NOISE + 4, &f32::NAN.to_le_bytes()), put(DRAWS + 69, &1.0f64.to_le_bytes())].concat(), whole);
-    both([put(NOISE + 4, &f32::NAN.to_le_bytes())].concat(), whole + 1);
-    // a run of no samples, with noise and without; the same with no draws.
-    both([put(12, &[0; 4])].concat(), whole);
-    both([put(12, &[0; 4]), put(NOISE, &[0; 4])].concat(), NOISE + 4);
-    both([put(12, &[0; 4]), put(DRAWS, &[0; 8])].concat(), DRAWS + 8);
-    // an odd noise value more, unused; then bytes left over.
-    both(put(NOISE, &2401u32.to_le_bytes()), whole + 4);
-    both([put(NOISE, &2401u32.to_le_bytes()), put(whole, &f32::NAN.to_le_bytes())].concat(), whole + 4);
-    both(vec![], whole + 1);
-    // cuts: in each count and in each section.
-    for length in [0, 3, 4, 122, 123, 126, 127, 12_130, DRAWS, DRAWS + 3, DRAWS + 4, NOISE - 1, NOISE, NOISE + 3, NOISE + 4, whole - 1] {
-        both(vec![], length);
-    }
-    all.into_iter().map(|(length, changes)| Case { length, changes }).collect()
+    c.at("7: type 7", DRAWS + 4 + 8, &[7]);
+    c.at("7: an amplitude above 2^20", DRAWS + 4 + 17, &1_048_577.0f32.to_le_bytes());
+    c.at("7: data of 4,096", DRAWS + 4 + 62, &4096u16.to_le_bytes());
+    c.at("7: SPI of 2", DRAWS + 4 + 64, &[2]);
+    c.at("7: CA pick 5 of the last draw", DRAWS + 69 + 46, &[5]);
+    c.at("7: overlay 0 of the last draw", DRAWS + 69 + 47, &[0]);
+    c.at("7: overlay 128 of the last draw", DRAWS + 69 + 47, &[128]);
 }
 
-fn tape(base: &[u8], case: &Case) -> Vec<u8> {
-    let mut t = base.to_vec();
-    t.resize(24_576, 0);
-    for &(at, b) in &case.changes {
-        t[at] = b;
+fn noise(c: &mut Cases) {
+    let whole = c.whole;
+    let nan = f32::NAN.to_le_bytes();
+    c.at("8: the first noise value a NaN", NOISE + 4, &nan);
+    c.at("8: the last noise value above 64", NOISE + 4 + 4 * 2399, &64.00001f32.to_le_bytes());
+    c.at("11: no settings", 0, &[0]);
+    c.at("11: two settings", 0, &[2]);
+    c.at("11: 3,000 taps", 123, &3000u32.to_le_bytes());
+    c.at("11: 401 draws", DRAWS, &401u32.to_le_bytes());
+    c.at("11: not done, no draw ends the run", DRAWS + 69, &1.0f64.to_le_bytes());
+    c.at("11: not done, 2,399 noise values, and bytes left over", NOISE, &2399u32.to_le_bytes());
+    c.small("11: not done, 2,398 noise values", &[put(NOISE, &2398u32.to_le_bytes())], whole - 8);
+    c.at("11: 4,294,967,295 noise values", NOISE, &u32::MAX.to_le_bytes());
+    c.small("order: a rate before the count of the taps", &[put(16, &f64::NAN.to_le_bytes()), put(123, &[0])], whole);
+    c.small("order: a tap before the count of the draws", &[put(TAPS, &nan), put(DRAWS, &401u32.to_le_bytes())], whole);
+    c.small("order: a draw before the count of the noise", &[put(DRAWS + 12, &[9]), put(NOISE, &[0xff; 4])], whole);
+    c.small("order: a short noise section before its values", &[put(NOISE + 4, &nan)], whole - 1);
+    c.small("order: a noise value before a run not done", &[put(NOISE + 4, &nan), put(DRAWS + 69, &1.0f64.to_le_bytes())], whole);
+    c.small("order: a noise value before a byte left over", &[put(NOISE + 4, &nan)], whole + 1);
+    c.small("no samples, with noise", &[put(12, &[0; 4])], whole);
+    c.small("no samples, without noise", &[put(12, &[0; 4]), put(NOISE, &[0; 4])], NOISE + 4);
+    c.small("no samples, without draws and noise: not done", &[put(12, &[0; 4]), put(DRAWS, &[0; 8])], DRAWS + 8);
+    c.small("no samples, cut in the count of the noise", &[put(12, &[0; 4]), put(NOISE, &[0; 4])], NOISE + 2);
+    c.small("an odd noise value more, unused", &[put(NOISE, &2401u32.to_le_bytes())], whole + 4);
+    c.small("8: an odd noise value more, unused and a NaN", &[put(NOISE, &2401u32.to_le_bytes()), put(whole, &nan)], whole + 4);
+    c.small("11: a byte left over", &[], whole + 1);
+    c.small("11: noise one value short", &[], whole - 4);
+    for length in [0, 3, 4, 122, 123, 126, 127, 6000, 12_130, DRAWS, DRAWS + 3, DRAWS + 4, DRAWS + 60, NOISE - 1, NOISE, NOISE + 3, NOISE + 4, whole - 1] {
+        c.small(&format!("11: cut to {length} bytes"), &[], length);
     }
-    t.truncate(case.length);
-    t
+}
+
+fn others(c: &mut Cases) {
+    let nan = f32::NAN.to_le_bytes();
+    c.of("worked", "the worked tape", &[], WORKED);
+    c.of("worked", "8: the worked tape with a first gap of 10.0 and its last noise value a NaN", &[put(12_135, &10.0f64.to_le_bytes()), put(WORKED - 4, &nan)], WORKED);
+    c.of("long", "two chunks", &[], LONG);
+    c.of("long", "8: the last value of the second chunk a NaN", &[put(LONG - 4, &nan)], LONG);
+    c.of("long", "8: the last value of the first chunk a NaN", &[put(LONG_NOISE + 4 + 4 * 16_383, &nan)], LONG);
+    c.of("long", "11: the second chunk one value short", &[], LONG - 4);
+    c.of("long", "11: the first chunk one value short", &[], LONG_NOISE + 4 + 4 * 16_383);
+    c.of("long", "11: a byte left over behind two chunks", &[], LONG + 1);
+    c.of("long", "11: not done after a whole chunk", &[put(LONG_NOISE, &16_384u32.to_le_bytes())], LONG_NOISE + 4 + 4 * 16_384);
 }
 
 fn main() {
-    let base = base();
-    let cases = cases(base.len());
+    let small = small();
     let mut out = std::io::stdout().lock();
-    let words: Vec<String> = std::env::args().collect();
-    match words[1].as_str() {
-        "last" => println!("{}", cases.len() - 1),
-        "tape" => out.write_all(&tape(&base, &cases[words[2].parse::<usize>().unwrap()])).unwrap(),
-        _ => {
-            let number = |n: usize| (n as u32).to_le_bytes();
-            out.write_all(&number(base.len())).unwrap();
-            out.write_all(&base).unwrap();
-            out.write_all(&number(cases.len())).unwrap();
-            for c in &cases {
-                out.write_all(&number(c.length)).unwrap();
-                out.write_all(&number(c.changes.len())).unwrap();
-                for &(at, b) in &c.changes {
-                    out.write_all(&[number(at), number(b.into())].concat()).unwrap();
-                }
+    if std::env::args().nth(1).as_deref() == Some("small") {
+        out.write_all(&small).unwrap();
+        return;
+    }
+    let mut c = Cases { whole: small.len(), all: Vec::new() };
+    c.small("the small tape", &[], small.len());
+    heads(&mut c);
+    noise(&mut c);
+    others(&mut c);
+    for (name, base, length, changes) in c.all {
+        let mut line = format!("{name}; {base}; {length};");
+        for (at, bytes) in changes {
+            line += &format!(" {at}=");
+            for b in bytes {
+                line += &format!("{b:02x}");
             }
         }
+        writeln!(out, "{line}").unwrap();
     }
 }
