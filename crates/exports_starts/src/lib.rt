@@ -60,7 +60,12 @@ pub extern "C" fn port_message(
         mode_ac: delay_ac,
     };
     let o = c.onset(delays);
-    let all = [o.clock_error, o.clock_phase, o.carrier_rate, o.carrier_phase];
+    let all = [
+        o.clock_error,
+        o.clock_phase,
+        o.carrier_rate,
+        o.carrier_phase,
+    ];
     *out = all;
     c.first_sample_index(delays)
 }

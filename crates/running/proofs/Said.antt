@@ -151,7 +151,7 @@ module _ (P : Planned) where
     lines = t .records;
     rest = rest;
     output = (wrote-output noise memory output memory′ output′ (t .written) (t .samples) n memory-is (f .noise-fits) (f .output-fits) e
-    ∙ ap (λ (l : List Float). laid (2 * t .samples) l output) (sym (any-samples (draws (filtersOf s modeS modeAC)) (s .total) memory (t .written) (take (2 * n) (drop (2 * t .samples) noise))))) j;
+        ∙ ap (λ (l : List Float). laid (2 * t .samples) l output) (sym (any-samples (draws (filtersOf s modeS modeAC)) (s .total) memory (t .written) (take (2 * n) (drop (2 * t .samples) noise))))) j;
     records = records;
   }
 
@@ -235,5 +235,5 @@ module _ (P : Planned) where
         rest = drop 65 rest;
         output = output;
         records = (recorded-by (s .distributions) (s .delays) at first rest next next-is memory memory-is records records′ (66 * t .records) (omega (arith, f .fits)) o
-        ∙ ap (λ (n : ℕ). laid (66 * t .records) (recordBytes message first (drawAt rest .kind) n) records) (sym (counts (filtersOf s modeS modeAC) (s .total) (drawAt rest .amplitude) message))) j;
+            ∙ ap (λ (n : ℕ). laid (66 * t .records) (recordBytes message first (drawAt rest .kind) n) records) (sym (counts (filtersOf s modeS modeAC) (s .total) (drawAt rest .amplitude) message))) j;
       }
