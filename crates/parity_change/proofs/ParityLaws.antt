@@ -39,8 +39,8 @@ parity-laws = record {
   beyond = beyond;
   all-differ = changes-differ;
   none-hidden = changes-seen;
-  told = finds;
-  told-only = found-only;
+  found = finds;
+  found-only = found-only;
   mended = λ bs e place t. mends bs (omega arith) place (omega (arith, found-only (parityOf bs) place t .0)) t;
   mended-short = λ bs e place h t. mends bs (omega arith) place (omega arith) t;
 }

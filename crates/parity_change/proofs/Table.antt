@@ -65,13 +65,13 @@ not-there x [] t i h e = omega arith
 not-there x (y ∷ ys) t zero h e = unlike x y (both-left (not (eqb x y)) (absent x ys) t) e
 not-there x (y ∷ ys) t (suc i) h e = not-there x ys (both-right (not (eqb x y)) (absent x ys) t) i (omega arith) e
 
-told-apart : (l : List ℕ) → T (distinct l) → (a b : ℕ) → a < length l → b < length l → getD l a 0 ≡ getD l b 0 → a ≡ b
+places-differ : (l : List ℕ) → T (distinct l) → (a b : ℕ) → a < length l → b < length l → getD l a 0 ≡ getD l b 0 → a ≡ b
 unfolding distinct
-told-apart [] t a b ha hb e = absurd (omega arith)
-told-apart (x ∷ xs) t zero zero ha hb e = refl
-told-apart (x ∷ xs) t zero (suc b) ha hb e = absurd (not-there x xs (both-left (absent x xs) (distinct xs) t) b (omega arith) e)
-told-apart (x ∷ xs) t (suc a) zero ha hb e = absurd (not-there x xs (both-left (absent x xs) (distinct xs) t) a (omega arith) (sym e))
-told-apart (x ∷ xs) t (suc a) (suc b) ha hb e = ap suc (told-apart xs (both-right (absent x xs) (distinct xs) t) a b (omega arith) (omega arith) e)
+places-differ [] t a b ha hb e = absurd (omega arith)
+places-differ (x ∷ xs) t zero zero ha hb e = refl
+places-differ (x ∷ xs) t zero (suc b) ha hb e = absurd (not-there x xs (both-left (absent x xs) (distinct xs) t) b (omega arith) e)
+places-differ (x ∷ xs) t (suc a) zero ha hb e = absurd (not-there x xs (both-left (absent x xs) (distinct xs) t) a (omega arith) (sym e))
+places-differ (x ∷ xs) t (suc a) (suc b) ha hb e = ap suc (places-differ xs (both-right (absent x xs) (distinct xs) t) a b (omega arith) (omega arith) e)
 
 all-distinct : T (distinct changes)
 unfolding distinct absent changes
@@ -85,7 +85,7 @@ within : (k : ℕ) → k < 112 → k < length changes
 within k h = subst (λ (n : ℕ). k < n) (sym changes-length) h
 
 pub changes-differ : (a b : ℕ) → a < 112 → b < 112 → changeAt a ≡ changeAt b → a ≡ b
-changes-differ a b ha hb e = told-apart changes all-distinct a b (within a ha) (within b hb) (changes-at a ha ∙ e ∙ sym (changes-at b hb))
+changes-differ a b ha hb e = places-differ changes all-distinct a b (within a ha) (within b hb) (changes-at a ha ∙ e ∙ sym (changes-at b hb))
 
 -- ---- none is 0
 

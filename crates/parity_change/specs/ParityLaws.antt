@@ -23,9 +23,9 @@ pub record ParityLaws : Type 0 where
   -- the 112 changes all differ, and none is 0
   pub all-differ : (a b : ℕ) → a < 112 → b < 112 → changeAt a ≡ changeAt b → a ≡ b
   pub none-hidden : (place : ℕ) → place < 112 → changeAt place ≡ 0 → ⊥
-  -- so a change tells the place, and a place is told only for its own change
-  pub told : (place : ℕ) → place < 112 → placeOf (changeAt place) ≡ some place
-  pub told-only : (change place : ℕ) → placeOf change ≡ some place → (place < 112) × (changeAt place ≡ change)
-  -- and a message whose parity tells a place that it has gets parity 0 by flipping the bit there
+  -- so a change determines its place, and a place is found only for its own change
+  pub found : (place : ℕ) → place < 112 → placeOf (changeAt place) ≡ some place
+  pub found-only : (change place : ℕ) → placeOf change ≡ some place → (place < 112) × (changeAt place ≡ change)
+  -- and a message whose parity is the change of a place that it has gets parity 0 by flipping the bit there
   pub mended : (bs : List ℕ) → length bs ≡ 14 → (place : ℕ) → placeOf (parityOf bs) ≡ some place → parityOf (flipped place bs) ≡ 0
   pub mended-short : (bs : List ℕ) → length bs ≡ 7 → (place : ℕ) → place < 56 → placeOf (parityOf bs) ≡ some place → parityOf (flipped place bs) ≡ 0
