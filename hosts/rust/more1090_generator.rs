@@ -1,4 +1,4 @@
-//! include/more1090_generator.h for Rust: its structs, and its two calls on slices. A `Run` holds all that a run needs
+//! include/more1090_generator.h for Rust: its structs, and its calls on slices. A `Run` holds all that a run needs
 //! between two calls: its state, the prototypes and the working memory. It can be stored and taken up again.
 // A program uses a part of it.
 #![allow(dead_code)]
@@ -69,6 +69,24 @@ unsafe extern "C" {
         memory: *mut f32, memory_length: usize, draws: *const u8, draws_length: usize,
         noise: *const f32, noise_length: usize, output: *mut f32, output_length: usize,
         records: *mut u8, records_length: usize) -> Ran;
+    fn more1090_parity(bytes: *const u8, bytes_length: usize) -> u32;
+    safe fn more1090_parity_change(place: u64) -> u32;
+    safe fn more1090_flipped_bit(change: u32) -> u64;
+}
+
+/// The parity of a message.
+pub fn parity(bytes: &[u8]) -> u32 {
+    unsafe { more1090_parity(bytes.as_ptr(), bytes.len()) }
+}
+
+/// What flipping the bit at a place, counted back from 0 at the last bit, changes in the parity; 0 above 111.
+pub fn parity_change(place: u64) -> u32 {
+    more1090_parity_change(place)
+}
+
+/// The place whose flipped bit changes the parity so.
+pub fn flipped_bit(change: u32) -> Option<u64> {
+    Some(more1090_flipped_bit(change)).filter(|&place| place != u64::MAX)
 }
 
 /// `more1090_open`, on slices of any length.
