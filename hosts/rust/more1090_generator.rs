@@ -1,5 +1,7 @@
-//! include/more1090_generator.h for Rust: its structs, and its two calls on slices. A `Run` holds a run's state with the
+//! include/more1090_generator.h for Rust: its structs, and its calls on slices. A `Run` holds a run's state with the
 //! prototypes and the working memory that belong to it.
+// A program may use a part of it.
+#![allow(dead_code)]
 
 pub const MODE_S_TAPS: usize = 1486;
 pub const MODE_AC_TAPS: usize = 1515;
@@ -63,6 +65,24 @@ unsafe extern "C" {
     fn more1090_run(state: State, mode_s: *const f32, mode_s_length: usize, mode_ac: *const f32, mode_ac_length: usize,
         memory: *mut f32, memory_length: usize, draws: *const u8, draws_length: usize, noise: *const f32, noise_length: usize,
         output: *mut f32, output_length: usize, records: *mut u8, records_length: usize) -> Ran;
+    fn more1090_parity(bytes: *const u8, bytes_length: usize) -> u32;
+    safe fn more1090_parity_change(place: u64) -> u32;
+    safe fn more1090_flipped_bit(change: u32) -> u64;
+}
+
+/// The parity of a message.
+pub fn parity(bytes: &[u8]) -> u32 {
+    unsafe { more1090_parity(bytes.as_ptr(), bytes.len()) }
+}
+
+/// What flipping the bit at a place, counted back from 0 at the last bit, changes in the parity; 0 above 111.
+pub fn parity_change(place: u64) -> u32 {
+    more1090_parity_change(place)
+}
+
+/// The place whose flipped bit changes the parity so.
+pub fn flipped_bit(change: u32) -> Option<u64> {
+    Some(more1090_flipped_bit(change)).filter(|&place| place != u64::MAX)
 }
 
 pub struct Run {
