@@ -1,4 +1,4 @@
-/* The reply generator for C and C++: opening a run, and run calls. Link libmore1090_generator.a and -lm (hosts/build).
+/* The reply generator for C and C++: opening a run, and run calls; and the parity of messages. Link libmore1090_generator.a and -lm (hosts/build).
  *
  * A run makes the samples of transponder replies at 8,000,000 a second, each a pair of floats, real part first, and a record
  * of every reply. The caller lends everything: settings, filter taps, draws (one for each reply) and noise to read;
@@ -140,6 +140,20 @@ more1090_ran more1090_run(more1090_state state,
                           const float *noise, size_t noise_length,
                           float *output, size_t output_length,
                           uint8_t *records, size_t records_length);
+
+/* The parity of a message in whole bytes, of any length: the remainder of the bytes times x^24 by the generator 0x1FFF409,
+ * below 2^24. Of a message that ends in its own parity it is 0. (crates/more1090_parity) */
+uint32_t more1090_parity(const uint8_t *bytes, size_t bytes_length);
+
+/* What flipping one bit of a message of 7 or 14 bytes changes in its parity, by exclusive or. Places are counted back from 0
+ * at the last bit: a short message has 0 to 55, a long one 0 to 111. A place above 111 gives 0. */
+uint32_t more1090_parity_change(uint64_t place);
+
+#define MORE1090_NO_BIT UINT64_MAX
+
+/* The place whose flipped bit changes the parity so, or MORE1090_NO_BIT where none does. The 112 changes all differ, so it is
+ * the only one. A place of 56 or more is no bit of a short message. */
+uint64_t more1090_flipped_bit(uint32_t change);
 
 #ifdef __cplusplus
 }

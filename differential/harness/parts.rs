@@ -14,6 +14,7 @@ mod tally;
 mod tape;
 mod parts {
     pub mod carrier;
+    pub mod flips;
     pub mod floats;
     pub mod port;
     pub mod replies;
@@ -39,6 +40,7 @@ fn main() {
     parts::floats::compare(&mut tally, &mut r, count);
     parts::carrier::compare(&mut tally, &mut r, count);
     parts::replies::compare(&mut tally, &mut r, count);
+    parts::flips::compare(&mut tally, &mut Random::new(seed), count);
     parts::shape::compare(&mut tally, &mut r, count);
     parts::starts::compare(&mut tally, &mut r, count);
     parts::runs::compare(&mut tally, &mut Random::new(seed), number(3, 1000));

@@ -30,6 +30,8 @@ static void print_record(const uint8_t *r) {
     fprintf(stderr, "first %llu type %d count %d message ", (unsigned long long)first, r[48], count);
     for (int k = 0; k < r[51]; k++)
         fprintf(stderr, "%02x", r[52 + k]);
+    if (r[51] != 2) /* a Mode S message: 0 where it ends in its parity */
+        fprintf(stderr, " parity %06x", (unsigned)more1090_parity(r + 52, r[51]));
     fputc('\n', stderr);
 }
 

@@ -1,0 +1,33 @@
+// Parity and flipped bits under C names. Assumes nothing.
+ghost use mathlib.Core.Path.{_≡_};
+ghost use Rattle.mode_s.specs.Parity.{parityOf};
+ghost use Rattle.parity_change.specs.Change.{changeAt, placeOf};
+ghost use Rattle.more1090_parity.specs.Places.{placeNumber};
+use parity_change::FlippedBit;
+
+// The parity of bytes, however many.
+#[no_mangle]
+pub extern "C" fn more1090_parity(bytes: &[u8]) -> u32
+    ensures { λ r. ⌜ r ≡ parityOf (now (bytes .entry)) ⌝ }
+{
+    mode_s::parity(bytes)
+}
+
+// The change in parity of a message whose bit at a place is flipped, places counted back from 0 at the last bit; 0 above 111.
+#[no_mangle]
+pub extern "C" fn more1090_parity_change(place: u64) -> u32
+    ensures { λ r. ⌜ r ≡ changeAt place ⌝ }
+{
+    parity_change::parity_change(place)
+}
+
+// The place whose flipped bit changes the parity so, or 2^64 - 1 for none.
+#[no_mangle]
+pub extern "C" fn more1090_flipped_bit(change: u32) -> u64
+    ensures { λ r. ⌜ r ≡ placeNumber (placeOf change) ⌝ }
+{
+    match parity_change::flipped_bit(change) {
+        FlippedBit::At(place) => place,
+        FlippedBit::Nowhere => 0xffff_ffff_ffff_ffff,
+    }
+}

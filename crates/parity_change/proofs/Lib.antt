@@ -1,0 +1,4 @@
+pub mod Powers
+pub mod Table
+pub mod Places
+pub mod ParityLaws
