@@ -1,2 +1,4 @@
 pub mod DataOfDigits
 pub mod RisingPlaces
+pub mod PlaceRule
+pub mod BasePlaces

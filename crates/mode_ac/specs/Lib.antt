@@ -1,3 +1,4 @@
 pub mod Data
 pub mod Places
+pub mod BasePlaces
 pub mod Building

@@ -1,12 +1,9 @@
--- The places of the twelve bits of Mode A/C data, as a table. Definitions only.
-use Prim.Native.Nat.{ℕ}
-use mathlib.Core.List.{List, [], _∷_}
-use lib.ListN.{getD}
+-- The places of the twelve bits of Mode A/C data, by rule. Definitions only.
+use Prim.Native.Nat.{ℕ, _+_, _*_}
+use mathlib.Core.Bool.{cond}
+use lib.Dec.{ltb}
 
--- C1 A1 C2 A2 C4 A4 at 3 to 18, B1 D1 B2 D2 B4 D4 at 24 to 39, in threes
-abbrev pub places : List ℕ
-places = 3 ∷ 6 ∷ 9 ∷ 12 ∷ 15 ∷ 18 ∷ 24 ∷ 27 ∷ 30 ∷ 33 ∷ 36 ∷ 39 ∷ []
-
--- the place of the n-th bit, from 0 to 11; a pulse map asks for no other
+-- the place of the n-th bit, from 0, in the order C1 A1 C2 A2 C4 A4 B1 D1 B2 D2 B4 D4: every third place from 3 on, and past the middle one third later.
+-- There are twelve bits; a pulse map asks for no other
 unfoldable pub placeOf : ℕ → ℕ
-placeOf n = getD places n 0
+placeOf n = cond (ltb n 6) (3 * (n + 1)) (cond (ltb n 12) (3 * (n + 2)) 0)

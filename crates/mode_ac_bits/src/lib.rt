@@ -1,20 +1,20 @@
-// The twelve bits of Mode A/C data and their places, each by a table of twelve. Assumes nothing.
+// The twelve bits of Mode A/C data, in the order C1 A1 C2 A2 C4 A4 B1 D1 B2 D2 B4 D4, and their places. Assumes nothing.
 ghost use mathlib.Core.Path.{_≡_};
 ghost use Rattle.mode_ac.specs.Data.{bitOf};
 ghost use Rattle.mode_ac.specs.Places.{placeOf};
 
-// The places of the twelve bits, in the order C1 A1 C2 A2 C4 A4 B1 D1 B2 D2 B4 D4.
-const PLACES: [usize; 12] = [3, 6, 9, 12, 15, 18, 24, 27, 30, 33, 36, 39];
-
-// Where each of them stands in the data, counted from the lowest bit.
+// Where each bit stands in the data, counted from the lowest one.
 const SHIFTS: [u16; 12] = [3, 9, 4, 10, 5, 11, 6, 0, 7, 1, 8, 2];
 
-// The place of the n-th bit.
+// The place of the n-th bit: every third from 3 on, with one left out in the middle.
 pub fn place_of(n: usize) -> usize
     ensures { λ r. ⌜ r ≡ placeOf n ⌝ }
 {
+    if n < 6 {
+        return 3 * (n + 1);
+    }
     if n < 12 {
-        return PLACES[n];
+        return 3 * (n + 2);
     }
     0
 }

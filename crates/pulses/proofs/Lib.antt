@@ -3,3 +3,4 @@ pub mod ModeSTurns
 pub mod ModeACTurns
 pub mod ModeSPlaceByPlace
 pub mod ModeACPlaceByPlace
+pub mod BasePulses

@@ -1,3 +1,4 @@
 pub mod Map
 pub mod ModeS
 pub mod ModeAC
+pub mod BasePulses
