@@ -155,6 +155,14 @@ uint32_t more1090_parity_change(uint64_t place);
  * the only one. A place of 56 or more is no bit of a short message. */
 uint64_t more1090_flipped_bit(uint32_t change);
 
+#define MORE1090_TIS_B 7
+#define MORE1090_NO_CLASS 255
+
+/* The class of a message, from its bytes: 7 for a short one, 14 for a long one, 2 for Mode A/C. The answer is the number of
+ * its type, 0 to 6; MORE1090_TIS_B for a long message of DF 18 with control 2, 3 or 5; or MORE1090_NO_CLASS, also for any
+ * other number of bytes. TIS-B is no type: the record of such a message has the drawn type, 0. */
+uint8_t more1090_class(const uint8_t *message, size_t message_length);
+
 #ifdef __cplusplus
 }
 #define MORE1090_ASSERT(holds) static_assert(holds, "layout")

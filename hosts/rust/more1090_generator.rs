@@ -175,3 +175,16 @@ impl Run {
         })
     }
 }
+
+/// The class of a TIS-B message, which is no type.
+pub const TIS_B: u8 = 7;
+
+unsafe extern "C" {
+    fn more1090_class(message: *const u8, message_length: usize) -> u8;
+}
+
+/// The class of message bytes: a type's number, `TIS_B`, or none.
+pub fn class(message: &[u8]) -> Option<u8> {
+    let number = unsafe { more1090_class(message.as_ptr(), message.len()) };
+    Some(number).filter(|&class| class != 255)
+}

@@ -11,12 +11,12 @@ use Rattle.pulses.specs.ModeAC.{modeACPlaces}
 use Rattle.mode_s.specs.Parity.{parityOf}
 use Rattle.message.specs.Types.{typeNumber}
 use Rattle.message.specs.declared.ReplyKind.the-variants.{Short, Long}
-use Rattle.message.specs.declared.TypeFound.{TypeFound}
-use Rattle.message.specs.declared.TypeFound.the-variants.{Of, Unknown}
-use Rattle.message_type.specs.Classing.{kindClass}
+use Rattle.message_type.specs.declared.Class.{Class}
+use Rattle.message_type.specs.declared.Class.the-variants.{OfType, TisB, NoClass}
+use Rattle.message_type.specs.Classing.{classBy}
 use Rattle.pulse_length.specs.Length.{modeSNumSamples, modeACNumSamples}
 
--- what a line speaks of: a number, a refusal by its number, the places of pulses, a message type by its number, or none
+-- what a line speaks of: a number, a refusal by its number, the places of pulses, a class by its number, or none
 pub data Value : Type 0 where
   number : ℕ → Value
   refusal : ℕ → Value
@@ -40,9 +40,10 @@ abbrev pub ofReply : mode-ac.Answer → Value
 ofReply (mode-ac.reply n spi) = number n
 ofReply (mode-ac.refusal n) = refusal n
 
-abbrev pub ofClass : TypeFound → Value
-ofClass (Of t) = class (typeNumber t)
-ofClass Unknown = noClass
+abbrev pub ofClass : Class → Value
+ofClass (OfType t) = class (typeNumber t)
+ofClass TisB = class 7
+ofClass NoClass = noClass
 
 abbrev pub durations : List Line
 durations =
@@ -80,8 +81,8 @@ parity = line (number (parityOf (49 ∷ 50 ∷ 51 ∷ 52 ∷ 53 ∷ 54 ∷ 55 �
 -- messages with any low three bits of byte 0 and any later bytes; short AP is type 2
 abbrev pub classes : ℕ → List ℕ → List Line
 classes low later =
-    line (ofClass (kindClass Long ((11 * 8 + low) ∷ later))) noClass ∷
-    line (ofClass (kindClass Short ((4 * 8 + low) ∷ later))) (class 2) ∷
+    line (ofClass (classBy Long ((11 * 8 + low) ∷ later))) noClass ∷
+    line (ofClass (classBy Short ((4 * 8 + low) ∷ later))) (class 2) ∷
     []
 
 abbrev pub table : ℕ → List ℕ → List Line

@@ -1,4 +1,4 @@
--- How replies and classes cross to the Rust, as numbers. Definitions only.
+-- How replies cross to the Rust, as numbers. Definitions only.
 use Prim.Native.Nat.{ℕ, zero, suc}
 use mathlib.Core.Path.{_≡_}
 use mathlib.Core.List.{List}
@@ -12,7 +12,6 @@ use Rattle.message.specs.declared.Field.the-variants.{Fine, Wrong}
 use Rattle.message.specs.declared.Made.{Made}
 use Rattle.message.specs.declared.TypeFound.{TypeFound}
 use Rattle.message.specs.declared.TypeFound.the-variants.{Of, Unknown}
-use Rattle.message.specs.Types.{typeNumber}
 use Rattle.message.specs.Making.{made}
 
 -- the kinds: 0 short, 1 long, and Mode A/C
@@ -45,11 +44,6 @@ pub record MadeNumbers (m : Made) (f k : ℕ) (b : List ℕ) : Type 0 where
   pub fault : f ≡ fieldNumber (m .fault)
   pub kind : k ≡ kindNumber (m .reply .kind)
   pub bytes : b ≡ m .reply .bytes
-
--- a type by its number, none as 7
-unfoldable pub classNumber : TypeFound → ℕ
-classNumber (Of t) = typeNumber t
-classNumber Unknown = 7
 
 unfoldable pub replyWith : ℕ → List ℕ → Reply
 replyWith k b = record { kind = kindNumbered k; bytes = b }

@@ -8,8 +8,8 @@ use message::TypeFound;
 ghost use mathlib.Core.Path.{_≡_};
 ghost use Rattle.mode_s.specs.Parity.{parityOf};
 ghost use Rattle.message.specs.Types.{typeNumbered};
-ghost use Rattle.message_type.specs.Classing.{classOf};
-ghost use Rattle.exports_replies.specs.Crossing.{kindNumber, kindNumbered, fieldNumber, picksOf, madeFor, MadeNumbers, classNumber, replyWith};
+ghost use Rattle.message_type.specs.Classing.{classOf, classNumber};
+ghost use Rattle.exports_replies.specs.Crossing.{kindNumber, kindNumbered, fieldNumber, picksOf, madeFor, MadeNumbers, replyWith};
 
 #[no_mangle]
 pub extern "C" fn port_parity(bytes: &[u8]) -> u32
@@ -98,23 +98,14 @@ fn kind_numbered(n: u8) -> ReplyKind
     }
 }
 
-fn class_number(found: TypeFound) -> u8
-    ensures { λ r. ⌜ r ≡ classNumber found ⌝ }
-{
-    match found {
-        TypeFound::Of(t) => message::type_number(t),
-        TypeFound::Unknown => 7,
-    }
-}
-
-// The type's number, 7 for none.
+// The number of the class, 255 for none.
 #[no_mangle]
 pub extern "C" fn port_from_message(kind: u8, message: &[u8; 14]) -> u8
     ensures { λ r. ⌜ r ≡ classNumber (classOf (replyWith kind (now (message .entry)))) ⌝ }
 {
     let bytes = *message;
     let k = kind_numbered(kind);
-    class_number(message_type::from_message(Reply {
+    message_type::class_number(message_type::from_message(Reply {
         kind: k,
         bytes: bytes,
     }))

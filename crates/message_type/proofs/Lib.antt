@@ -1,2 +1,4 @@
 pub mod Listed
 pub mod MadeClassed
+mod ClassArms
+pub mod ClassChanges

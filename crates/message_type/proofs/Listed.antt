@@ -16,48 +16,48 @@ use Rattle.message.specs.Types.{typeNumber, typeNumbered}
 use Rattle.message.proofs.Numbers.{number-found}
 use Rattle.message_type.specs.Classing.{longClass}
 
--- the number of a class, 7 where there is none
-unfoldable pub classNumber : TypeFound → ℕ
-classNumber (Of t) = typeNumber t
-classNumber Unknown = 7
+-- the number of a type, 255 where there is none
+unfoldable pub foundNumber : TypeFound → ℕ
+foundNumber (Of t) = typeNumber t
+foundNumber Unknown = 255
 
-back : (f : TypeFound) → typeNumbered (classNumber f) ≡ f
-unfolding classNumber typeNumbered
+back : (f : TypeFound) → typeNumbered (foundNumber f) ≡ f
+unfolding foundNumber typeNumbered
 back (Of t) = number-found t
 back Unknown = refl
 
-pub same-class : (a b : TypeFound) → classNumber a ≡ classNumber b → a ≡ b
+pub same-class : (a b : TypeFound) → foundNumber a ≡ foundNumber b → a ≡ b
 same-class a b e = sym (back a) ∙ ap typeNumbered e ∙ back b
 
 -- ---- by one computed test each
 
 upperTest : ℕ → Bool
-upperTest k = eqb (classNumber (longClass (24 + k))) 4
+upperTest k = eqb (foundNumber (longClass (24 + k))) 4
 
 upper-tested : T (every upperTest 8)
-unfolding upperTest classNumber typeNumber longClass formats
+unfolding upperTest foundNumber typeNumber longClass formats
 upper-tested = tt
 
 pub upper : (df : ℕ) → 24 ≤ df → df < 32 → longClass df ≡ Of LongAp
-unfolding upperTest classNumber typeNumber
+unfolding upperTest foundNumber typeNumber
 upper df l h =
     let e : df ≡ 24 + (df - 24) = omega arith in
     ap longClass e
     ∙ same-class (longClass (24 + (df - 24))) (Of LongAp)
-    (eqb→eq (classNumber (longClass (24 + (df - 24)))) 4 (below upperTest 8 upper-tested (df - 24) (omega arith)))
+    (eqb→eq (foundNumber (longClass (24 + (df - 24)))) 4 (below upperTest 8 upper-tested (df - 24) (omega arith)))
 
 longTest : ℕ → Bool
-longTest k = eqb (classNumber (longClass (getD longApFormats k 0))) 4
+longTest k = eqb (foundNumber (longClass (getD longApFormats k 0))) 4
 
 long-tested : T (every longTest 11)
-unfolding longTest classNumber typeNumber longClass formats
+unfolding longTest foundNumber typeNumber longClass formats
 long-tested = tt
 
 pub long-ap-listed : (k : ℕ) → k < 11 → longClass (getD longApFormats k 0) ≡ Of LongAp
-unfolding longTest classNumber typeNumber
+unfolding longTest foundNumber typeNumber
 long-ap-listed k h =
     same-class (longClass (getD longApFormats k 0)) (Of LongAp)
-    (eqb→eq (classNumber (longClass (getD longApFormats k 0))) 4 (below longTest 11 long-tested k h))
+    (eqb→eq (foundNumber (longClass (getD longApFormats k 0))) 4 (below longTest 11 long-tested k h))
 
 apart : (df k : ℕ) → df < 24 → df ≡ 24 + k → ⊥
 apart df k h e = omega arith

@@ -1,4 +1,4 @@
--- Theorem `made-classed`: every message that is made of fields in range is classed as its type. Assumes nothing.
+-- Theorem `made-classed`: every message that is made of fields in range is of its type by length and format. Assumes nothing.
 use mathlib.Core.Path.{_≡_, refl, ap, _∙_}
 use mathlib.Core.Bool.{Bool, true, false}
 use mathlib.Core.List.{List, [], _∷_}
@@ -51,7 +51,7 @@ use Rattle.message.proofs.InRange.{
   overlay-above,
   overlay-below,
 }
-use Rattle.message_type.specs.Classing.{elevenClass, shortClass, longClass, kindClass, classOf}
+use Rattle.message_type.specs.Classing.{elevenClass, shortClass, longClass, kindClass, typeOf}
 use Rattle.message_type.proofs.Listed.{long-ap-listed}
 
 -- ---- byte 0 holds the format
@@ -109,24 +109,24 @@ module _ (p : Picks) (fourteen : length (p .bytes) ≡ 14) where
   unfolding sealed parityBytes
   acquisition-length = simp (length-append, length-take, length-drop) (omega arith)
 
-  acquisition-classed : classOf (replyOf AcquisitionSquitter p) ≡ Of AcquisitionSquitter
-  unfolding classOf kindClass replyOf kindOf messageBytes later filled sealed formatOf formats
+  acquisition-classed : typeOf (replyOf AcquisitionSquitter p) ≡ Of AcquisitionSquitter
+  unfolding typeOf kindClass replyOf kindOf messageBytes later filled sealed formatOf formats
   acquisition-classed =
       let head = byte0 AcquisitionSquitter p ∷ take 3 (drop 1 (p .bytes)) in
       ap (λ (df : ℕ). shortClass df (take 7 (filled (sealed head 0)))) (byte0-format AcquisitionSquitter p)
       ∙ ap (shortClass 11) (first-seven (sealed head 0) acquisition-length)
       ∙ eleven-sealed (sealed head 0) (sealed-parity head)
 
-  all-call-classed : fieldFault AllCallReply p ≡ Fine → classOf (replyOf AllCallReply p) ≡ Of AllCallReply
-  unfolding classOf kindClass replyOf kindOf messageBytes filled sealed parityBytes formatOf formats
+  all-call-classed : fieldFault AllCallReply p ≡ Fine → typeOf (replyOf AllCallReply p) ≡ Of AllCallReply
+  unfolding typeOf kindClass replyOf kindOf messageBytes filled sealed parityBytes formatOf formats
   all-call-classed e =
       let head = byte0 AllCallReply p ∷ 0 ∷ 0 ∷ 0 ∷ [] in
       let below = overlay-below p e in
       ap (λ (df : ℕ). shortClass df (sealed head (p .overlay))) (byte0-format AllCallReply p)
       ∙ eleven-overlaid (sealed head (p .overlay)) (overlay-seen head (p .overlay) (overlay-above p e) (omega arith))
 
-  pub made-classed : (t : MessageType) → fieldFault t p ≡ Fine → classOf (replyOf t p) ≡ Of t
-  unfolding classOf kindClass replyOf kindOf messageBytes filled sealed formatOf formats longClass
+  pub made-classed : (t : MessageType) → fieldFault t p ≡ Fine → typeOf (replyOf t p) ≡ Of t
+  unfolding typeOf kindClass replyOf kindOf messageBytes filled sealed formatOf formats longClass
   made-classed ExtendedSquitter e = ap longClass (byte0-format ExtendedSquitter p) ∙ extended-listed (p .format) (extended-format p e)
   made-classed AcquisitionSquitter e = acquisition-classed
   made-classed ShortAp e =
@@ -138,10 +138,10 @@ module _ (p : Picks) (fourteen : length (p .bytes) ≡ 14) where
   made-classed ModeAc e = refl
 
   -- the same of what making answers
-  pub answer-classed : (t : MessageType) → made t p .fault ≡ Fine → classOf (made t p .reply) ≡ Of t
+  pub answer-classed : (t : MessageType) → made t p .fault ≡ Fine → typeOf (made t p .reply) ≡ Of t
   unfolding made madeWhere
   answer-classed t e = by (fieldFault t p) refl e
     where
-      by : (f : Field) → fieldFault t p ≡ f → madeWhere f (replyOf t p) .fault ≡ Fine → classOf (madeWhere f (replyOf t p) .reply) ≡ Of t
+      by : (f : Field) → fieldFault t p ≡ f → madeWhere f (replyOf t p) .fault ≡ Fine → typeOf (madeWhere f (replyOf t p) .reply) ≡ Of t
       by Fine q h = made-classed t q
       by (Wrong k) q h = let z : _≡_ {A = ℕ} 0 1 = cc in absurd (omega arith)

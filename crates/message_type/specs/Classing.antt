@@ -1,9 +1,9 @@
--- Classing, as document 01's section "Replies" says it: a reply's type by its length and format. Definitions only.
-use Prim.Native.Nat.{ℕ, _/_}
-use mathlib.Core.Bool.{Bool, true, false}
+-- Classing, as SPECIFICATION 7.5 says it: TIS-B, class 7, or else a reply's type by its length and format. Definitions only.
+use Prim.Native.Nat.{ℕ, _/_, _%_}
+use mathlib.Core.Bool.{Bool, true, false, cond}
 use mathlib.Core.List.{List, [], _∷_}
 use lib.Dec.{eqb}
-use lib.ListN.{getD, take}
+use lib.ListN.{length, getD, take}
 use Rattle.mode_s.specs.Parity.{parityOf}
 use Rattle.message.specs.declared.MessageType.the-variants.{
   ExtendedSquitter,
@@ -19,7 +19,10 @@ use Rattle.message.specs.declared.ReplyKind.the-variants.{Short, Long, ModeAc a
 use Rattle.message.specs.declared.Reply.{Reply}
 use Rattle.message.specs.declared.TypeFound.{TypeFound}
 use Rattle.message.specs.declared.TypeFound.the-variants.{Of, Unknown}
+use Rattle.message.specs.Types.{typeNumber}
 use Rattle.message.specs.Making.{formats}
+use Rattle.message_type.specs.declared.Class.{Class}
+use Rattle.message_type.specs.declared.Class.the-variants.{OfType, TisB, NoClass}
 
 abbrev pub anyOf : Bool → Bool → Bool
 anyOf true b = true
@@ -55,6 +58,63 @@ kindClass Short b = shortClass (getD b 0 0 / 8) (take 7 b)
 kindClass Long b = longClass (getD b 0 0 / 8)
 kindClass ModeAcKind b = Of ModeAc
 
--- the type that a reply is classed as; other pairs of length and format have no class
-unfoldable pub classOf : Reply → TypeFound
-classOf r = kindClass (r .kind) (r .bytes)
+-- the type that a reply is of; other pairs of length and format have none
+unfoldable pub typeOf : Reply → TypeFound
+typeOf r = kindClass (r .kind) (r .bytes)
+
+-- ---- TIS-B, which is an answer of classing and not a type
+
+-- the controls of DF 18 that RTCA DO-260B gives to TIS-B
+abbrev pub tisBControls : List ℕ
+tisBControls = 2 ∷ 3 ∷ 5 ∷ []
+
+-- the first byte is of DF 18 with one of them; the control is its low three bits
+unfoldable pub isTisB : ℕ → Bool
+isTisB first = cond (eqb (first / 8) 18) (listed tisBControls (first % 8)) false
+
+unfoldable pub isLong : ReplyKind → Bool
+isLong Short = false
+isLong Long = true
+isLong ModeAcKind = false
+
+-- the one rule: a long message with such a first byte is a TIS-B message
+unfoldable pub relayClass : Bool → ℕ → Class
+relayClass long first = cond long (cond (isTisB first) TisB NoClass) NoClass
+
+-- the other rule: a reply's type, an extended squitter for all of DF 17 and 18
+unfoldable pub typeClass : TypeFound → Class
+typeClass (Of t) = OfType t
+typeClass Unknown = NoClass
+
+-- of two answers the first that is a class
+unfoldable pub firstOf : Class → Class → Class
+firstOf (OfType t) after = OfType t
+firstOf TisB after = TisB
+firstOf NoClass after = after
+
+-- both rules in their order: TIS-B first
+unfoldable pub classBy : ReplyKind → List ℕ → Class
+classBy k b = firstOf (relayClass (isLong k) (getD b 0 0)) (typeClass (kindClass k b))
+
+-- the class of a reply
+unfoldable pub classOf : Reply → Class
+classOf r = classBy (r .kind) (r .bytes)
+
+-- the class of message bytes, whose number tells the kind: 7 short, 14 long, 2 Mode A/C; another number of bytes has no class
+unfoldable pub classOfBytes : List ℕ → Class
+classOfBytes m =
+    cond (eqb (length m) 7) (classBy Short m)
+    (cond (eqb (length m) 14) (classBy Long m)
+    (cond (eqb (length m) 2) (classBy ModeAcKind m) NoClass))
+
+-- the number of a class: its type's, 7 for TIS-B, 255 for none
+unfoldable pub classNumber : Class → ℕ
+classNumber (OfType t) = typeNumber t
+classNumber TisB = 7
+classNumber NoClass = 255
+
+-- class 7 read as class 0
+unfoldable pub sevenAsZero : Class → TypeFound
+sevenAsZero (OfType t) = Of t
+sevenAsZero TisB = Of ExtendedSquitter
+sevenAsZero NoClass = Unknown

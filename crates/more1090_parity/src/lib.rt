@@ -1,7 +1,8 @@
-// Parity and flipped bits under C names. Assumes nothing.
+// Parity, flipped bits and classing under C names. Assumes nothing.
 ghost use mathlib.Core.Path.{_≡_};
 ghost use Rattle.mode_s.specs.Parity.{parityOf};
 ghost use Rattle.parity_change.specs.Change.{changeAt, placeOf};
+ghost use Rattle.message_type.specs.Classing.{classOfBytes, classNumber};
 ghost use Rattle.more1090_parity.specs.Places.{placeNumber};
 use parity_change::FlippedBit;
 
@@ -30,4 +31,12 @@ pub extern "C" fn more1090_flipped_bit(change: u32) -> u64
         FlippedBit::At(place) => place,
         FlippedBit::Nowhere => 0xffff_ffff_ffff_ffff,
     }
+}
+
+// The class of message bytes, however many: its type's number, 7 for TIS-B, 255 for none.
+#[no_mangle]
+pub extern "C" fn more1090_class(message: &[u8]) -> u8
+    ensures { λ r. ⌜ r ≡ classNumber (classOfBytes (now (message .entry))) ⌝ }
+{
+    message_type::class_number(message_type::of_bytes(message))
 }

@@ -6,6 +6,7 @@ use message::Picks;
 use message::Reply;
 use message::ReplyKind;
 use message::TypeFound;
+use message_type::Class;
 
 // One step of the long division by 0xFFF409, x^24 implied.
 fn with_bit(r: u32) -> u32 {
@@ -74,12 +75,15 @@ fn parity_line(r: [u8; 22]) {
     io::write_all(STDOUT_FILENO, b"\n");
 }
 
-fn print_type(t: TypeFound) {
-    match t {
-        TypeFound::Of(m) => {
+fn print_class(c: Class) {
+    match c {
+        Class::OfType(m) => {
             io::print_decimal(STDOUT_FILENO, message::type_number(m) as u64);
         }
-        TypeFound::Unknown => {
+        Class::TisB => {
+            io::write_all(STDOUT_FILENO, b"7");
+        }
+        Class::NoClass => {
             io::write_all(STDOUT_FILENO, b"none");
         }
     }
@@ -125,7 +129,7 @@ fn print_reply(r: Reply) {
     print_kind(k);
     print_bytes(b);
     io::write_all(STDOUT_FILENO, b" class ");
-    print_type(message_type::from_message(r));
+    print_class(message_type::from_message(r));
 }
 
 fn print_made(m: message::Made) {
@@ -183,7 +187,7 @@ fn class_line(r: [u8; 22]) {
     io::write_all(STDOUT_FILENO, b"class ");
     io::print_decimal(STDOUT_FILENO, r[15] as u64);
     io::write_all(STDOUT_FILENO, b" ");
-    print_type(message_type::from_message(reply));
+    print_class(message_type::from_message(reply));
 }
 
 fn line(r: [u8; 22]) {

@@ -24,6 +24,7 @@ unsafe extern "C" {
         out: &mut [u8; 14],
     ) -> u64;
     safe fn port_from_message(kind: u8, message: &[u8; 14]) -> u8;
+    fn more1090_class(message: *const u8, length: usize) -> u8;
     safe fn port_mode_s_pulses(
         message: &[u8; 14],
         long: bool,
@@ -42,6 +43,7 @@ pub fn compare(t: &mut Tally, r: &mut Random, count: u64) {
         duration(t, r);
     }
     made(t, r, count / 4);
+    every_first_byte(t, r);
     every_mode_ac(t);
     for n in 0..=240 {
         t.alike(
@@ -91,21 +93,63 @@ fn class(t: &mut Tally, r: &mut Random) {
         SSRReply::ModeAC(ModeACReply::new(0, false).unwrap()),
     ];
     for (kind, m) in all.iter().enumerate() {
-        t.alike(
-            "from_message",
-            (kind, long),
-            number(MessageType::from_message(m)),
-            port_from_message(kind as u8, &long),
-        );
+        classes(t, kind as u8, &long, m);
     }
 }
 
-/// The number of a type, 7 for none.
+/// The number of a type, 255 for none.
 fn number(class: Option<MessageType>) -> u8 {
     MessageType::ALL
         .iter()
         .position(|t| Some(*t) == class)
-        .unwrap_or(7) as u8
+        .unwrap_or(255) as u8
+}
+
+/// Classing, against the Rust once 7 is read as 0; and which answers are 7, by the bits that RTCA DO-260B names.
+fn classes(t: &mut Tally, kind: u8, bytes: &[u8; 14], m: &SSRReply) {
+    let ours = port_from_message(kind, bytes);
+    let length = [7, 14, 2][usize::from(kind)];
+    t.alike("class by its C name", (kind, bytes), ours, class_of(&bytes[..length]));
+    let read = if ours == 7 { 0 } else { ours };
+    t.alike("from_message, 7 read as 0", (kind, bytes), number(MessageType::from_message(m)), read);
+    let relay = kind == 1 && bytes[0] >> 3 == 0b10010 && matches!(bytes[0] & 0b111, 0b010 | 0b011 | 0b101);
+    t.alike("TIS-B", (kind, bytes), relay, ours == 7);
+    if relay {
+        t.see("class 7");
+    }
+}
+
+fn class_of(message: &[u8]) -> u8 {
+    unsafe { more1090_class(message.as_ptr(), message.len()) }
+}
+
+/// All 256 first bytes at both lengths, with the right parity and a wrong one; and every other length up to 20.
+fn every_first_byte(t: &mut Tally, r: &mut Random) {
+    for first in 0..=255 {
+        let mut long: [u8; 14] = r.bytes();
+        long[0] = first;
+        for wrong in [0, 1] {
+            for end in [4, 11] {
+                let p = CRC24.checksum(&long[..end]).to_be_bytes();
+                long[end..end + 3].copy_from_slice(&p[1..]);
+                long[end + 2] ^= wrong;
+            }
+            let short = long[..7].try_into().unwrap();
+            classes(t, 0, &long, &SSRReply::ModeS(ModeSMessage::Short(short)));
+            classes(t, 1, &long, &SSRReply::ModeS(ModeSMessage::Long(long)));
+        }
+        for length in (0..=20).filter(|n| ![2, 7, 14].contains(n)) {
+            let mut bytes = vec![0; length];
+            if let Some(b) = bytes.first_mut() {
+                *b = first;
+            }
+            t.alike("class of another length", &bytes, 255, class_of(&bytes));
+        }
+    }
+    let fixed: [(&[u8], u8); 2] = [(&[0x90, 0, 0, 0, 0, 0, 0], 255), (&[0x92, 0, 0, 0, 0, 0, 0, 0, 0, 0, 0, 0, 0, 0], 7)];
+    for (message, class) in fixed {
+        t.alike("class", message, class, class_of(message));
+    }
 }
 
 fn duration(t: &mut Tally, r: &mut Random) {
@@ -179,12 +223,9 @@ fn made(t: &mut Tally, r: &mut Random, count: u64) {
                 (reply.as_slice(), length),
                 (&bytes, lengths[usize::from(kind)]),
             );
-            t.alike(
-                "class of a made message",
-                d,
-                number(MessageType::from_message(&m)),
-                port_from_message(kind, &bytes),
-            );
+            classes(t, kind, &bytes, &m);
+            let class = port_from_message(kind, &bytes);
+            t.alike("class of a made message", d, d.kind, if class == 7 { 0 } else { class });
             t.see(&format!("type {} made", d.kind));
             pulses(t, &m);
         }

@@ -125,7 +125,14 @@ fn shown(reply: &SSRReply) -> String {
     format!("{kind} {}", hex(&bytes))
 }
 
+/// The Rust's class, which has no TIS-B: long messages of DF 18 with control 2, 3 or 5 are of class 7 (SPECIFICATION 7.5).
 fn class(reply: &SSRReply) -> String {
+    if let SSRReply::ModeS(ModeSMessage::Long(m)) = reply
+        && [0x92, 0x93, 0x95].contains(&m[0])
+    {
+        assert_eq!(MessageType::from_message(reply), Some(MessageType::ExtendedSquitter));
+        return "7".to_string();
+    }
     match MessageType::from_message(reply) {
         Some(t) => MessageType::ALL.iter().position(|a| *a == t).unwrap().to_string(),
         None => "none".to_string(),
@@ -263,6 +270,14 @@ fn classes(v: &mut Vectors, s: &mut Stream) {
             bytes[end..end + 3].copy_from_slice(&crc.to_be_bytes()[1..]);
             v.class(kind, bytes);
             bytes[end + 2] ^= 1;
+            v.class(kind, bytes);
+        }
+    }
+    // Every control of DF 18.
+    for kind in 0..2 {
+        for control in 0..8 {
+            let mut bytes = [0; 14];
+            bytes[0] = 18 << 3 | control;
             v.class(kind, bytes);
         }
     }

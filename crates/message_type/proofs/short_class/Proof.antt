@@ -3,7 +3,6 @@ use mathlib.Core.Path.{sym, ap, _∙_}
 use Prim.Native.Nat.{ℕ}
 use borrow.Author.Tests.{ne-eqb}
 use borrow.Author.Needs.{needs}
-use lib.ListN.{take}
 use Rattle.message_type.specs.Classing.{shortClass}
 use Rattle.message.specs.Making.{formats}
 use Rattle.message_type.proofs.short_class.Statement.{statement}
@@ -14,19 +13,19 @@ eleven-class-requires c κs = search needs
 
 returns : tie.Need-returns
 unfolding shortClass formats
-returns c = c .eleven-class .ensures ∙ sym (ap (λ (df : ℕ). shortClass df (take 7 (c .before .before .args .b))) (c .before .if1 .taken))
+returns c = c .eleven-class .ensures ∙ sym (ap (λ (df : ℕ). shortClass df (c .before .before .before .args .m .now)) (c .before .if1 .taken))
 
 returns-2 : tie.Need-returns-2
 unfolding shortClass formats
-returns-2 c = sym (ap (λ (df : ℕ). shortClass df (take 7 (c .before .before .args .b))) (c .if2 .taken))
+returns-2 c = sym (ap (λ (df : ℕ). shortClass df (c .before .before .before .args .m .now)) (c .if2 .taken))
 
 returns-3 : tie.Need-returns-3
 unfolding shortClass formats
-returns-3 c = sym (ap (λ (df : ℕ). shortClass df (take 7 (c .before .before .before .args .b))) (c .if3 .taken))
+returns-3 c = sym (ap (λ (df : ℕ). shortClass df (c .before .before .before .before .args .m .now)) (c .if3 .taken))
 
 returns-4 : tie.Need-returns-4
 unfolding shortClass formats
-returns-4 c = sym (ap (λ (df : ℕ). shortClass df (take 7 (c .before .before .before .before .args .b))) (c .if4 .taken))
+returns-4 c = sym (ap (λ (df : ℕ). shortClass df (c .before .before .before .before .before .args .m .now)) (c .if4 .taken))
 
 returns-5 : tie.Need-returns-5
 unfolding shortClass formats
