@@ -1,5 +1,5 @@
 -- What a head and the section that is fed behind it give is right to report (`reported-refused`, `reported-run`); what a report says in the plain run's terms (`reported-plainly`); that only a run that is done writes records (`others-leave`), 400 at most (`few-reported`);
--- and that what the program lends to opening has the lengths that opening asks for (`lent-fits`). Assumes nothing.
+-- and that what the program lends to opening, with settings of their length, has the lengths that opening asks for (`lent-fits`). Assumes nothing.
 use Prim.Native.Nat.{ℕ, zero, suc, _+_, _*_, _/_, _≤_}
 use mathlib.Core.Bool.{Bool, true, false, cond}
 use mathlib.Core.List.{List}
@@ -19,6 +19,7 @@ use Rattle.running.specs.Turns.{genOf}
 use Rattle.opening.specs.declared.Opened as Opened
 use Rattle.opening.specs.Opening.{Lent, leftBy}
 use Rattle.opening.specs.FirstCause.{LentFits}
+use Rattle.settings.specs.Settings.{settingsLength}
 use Rattle.tape_head.specs.declared.Beginning as Beginning
 use Rattle.tape_head.specs.Head.{tapsS, tapsAC, Begun, leftThen, headOf}
 use Rattle.tape_head.proofs.Within.{head-within}
@@ -36,9 +37,9 @@ use Rattle.tape_laws.proofs.PlainTape.{plain-tape, section-ends}
 length-zeros : (n : ℕ) → length (zeros n) ≡ n
 length-zeros n = length-replicate n _
 
-pub lent-fits : LentFits lentByProgram
+pub lent-fits : (settings : List ℕ) → length settings ≡ settingsLength → LentFits settings lentByProgram
 unfolding lentByProgram
-lent-fits = record { mode-s-is = length-zeros 1792; mode-ac-is = length-zeros 1792; memory-is = length-zeros 2252 }
+lent-fits settings h = record { settings-is = h; mode-s-is = length-zeros 1792; mode-ac-is = length-zeros 1792; memory-is = length-zeros 2252 }
 
 -- rows of 0.0, as code writes them
 abbrev rowOf : ℕ → List Float

@@ -1,12 +1,13 @@
 -- `tape_verdict::reported` meets its contract. Assumes nothing.
-use mathlib.Core.Path.{sym, ap, _∙_}
-use Rattle.tape_verdict.specs.Verdict.{judgedOf, outcomeOf}
+use mathlib.Core.Bool.{Bool}
+use mathlib.Core.Path.{sym, ap}
+use Rattle.tape_verdict.specs.Verdict.{outcomeOf}
 use Rattle.tape_verdict.proofs.reported.Statement.{statement}
 use Rattle.tape_verdict.proofs.reported.Tie as tie
 
 returns : tie.Need-returns
 unfolding outcomeOf
-returns c = simp (c .if1 .taken)
+returns c = let a = c .before .args in sym (ap (λ (b : Bool). outcomeOf b (a .short) (a .over) (a .f)) (c .if1 .taken))
 
 verdict-requires : tie.Need-verdict-requires
 verdict-requires c κs = tt

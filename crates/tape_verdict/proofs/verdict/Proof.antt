@@ -1,7 +1,7 @@
 -- `tape_verdict::verdict` meets its contract. Assumes nothing.
 use borrow.Author.Needs.{needs}
-use mathlib.Core.Bool.{true}
-use mathlib.Core.Path.{_≡_, refl, sym, ap, _∙_}
+use mathlib.Core.Bool.{Bool}
+use mathlib.Core.Path.{sym, ap, _∙_}
 use Rattle.tape_verdict.specs.Verdict.{answerThen, verdictOf}
 use Rattle.tape_verdict.proofs.NotShort.{not-short}
 use Rattle.tape_verdict.proofs.verdict.Statement.{statement}
@@ -9,7 +9,7 @@ use Rattle.tape_verdict.proofs.verdict.Tie as tie
 
 returns : tie.Need-returns
 unfolding verdictOf
-returns c = let short : c .before .args .short ≡ true = c .if1 .taken in simp short
+returns c = let a = c .before .args in sym (ap (λ (b : Bool). verdictOf b (a .answer) (a .over)) (c .if1 .taken))
 
 enum-known-answer : tie.Need-enum-known-answer
 enum-known-answer c = search needs
