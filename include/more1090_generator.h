@@ -163,6 +163,14 @@ uint64_t more1090_flipped_bit(uint32_t change);
  * other number of bytes. TIS-B is no type: the record of such a message has the drawn type, 0. */
 uint8_t more1090_class(const uint8_t *message, size_t message_length);
 
+enum { MORE1090_NO_READING, MORE1090_II, MORE1090_SI, MORE1090_UNASSIGNED };
+
+/* Which interrogator a message answers. A message of 7 bytes and DF 11 has a reading, whatever its class: its last three
+ * bytes, exclusive or, the parity of the first four are the overlay. 0 to 15 are II codes, 17 to 79 are SI codes 1 to 63, and
+ * other overlays are unassigned. Answers the kind, and writes the II or SI code to *code, or 0 where there is none. Of other
+ * bytes, however many, it answers MORE1090_NO_READING. code must point to a number. */
+uint32_t more1090_interrogator(const uint8_t *message, size_t message_length, uint32_t *code);
+
 #ifdef __cplusplus
 }
 #define MORE1090_ASSERT(holds) static_assert(holds, "layout")

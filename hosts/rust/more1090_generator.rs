@@ -181,10 +181,30 @@ pub const TIS_B: u8 = 7;
 
 unsafe extern "C" {
     fn more1090_class(message: *const u8, message_length: usize) -> u8;
+    fn more1090_interrogator(message: *const u8, message_length: usize, code: &mut u32) -> u32;
 }
 
 /// The class of message bytes: a type's number, `TIS_B`, or none.
 pub fn class(message: &[u8]) -> Option<u8> {
     let number = unsafe { more1090_class(message.as_ptr(), message.len()) };
     Some(number).filter(|&class| class != 255)
+}
+
+/// What a short message of DF 11 has on its parity.
+#[derive(Clone, Copy, Debug, PartialEq, Eq)]
+pub enum Interrogator {
+    Ii(u32),
+    Si(u32),
+    Unassigned,
+}
+
+/// Which interrogator message bytes answer; none for all but short messages of DF 11.
+pub fn interrogator(message: &[u8]) -> Option<Interrogator> {
+    let mut code = 0;
+    match unsafe { more1090_interrogator(message.as_ptr(), message.len(), &mut code) } {
+        0 => None,
+        1 => Some(Interrogator::Ii(code)),
+        2 => Some(Interrogator::Si(code)),
+        _ => Some(Interrogator::Unassigned),
+    }
 }

@@ -1,8 +1,9 @@
-// Parity, flipped bits and classing under C names. Assumes nothing.
+// Parity, flipped bits, classing and interrogators under C names. Assumes nothing.
 ghost use mathlib.Core.Path.{_≡_};
 ghost use Rattle.mode_s.specs.Parity.{parityOf};
 ghost use Rattle.parity_change.specs.Change.{changeAt, placeOf};
 ghost use Rattle.message_type.specs.Classing.{classOfBytes, classNumber};
+ghost use Rattle.interrogator.specs.Interrogators.{interrogatorOf, kindNumber, codeNumber};
 ghost use Rattle.more1090_parity.specs.Places.{placeNumber};
 use parity_change::FlippedBit;
 
@@ -39,4 +40,14 @@ pub extern "C" fn more1090_class(message: &[u8]) -> u8
     ensures { λ r. ⌜ r ≡ classNumber (classOfBytes (now (message .entry))) ⌝ }
 {
     message_type::class_number(message_type::of_bytes(message))
+}
+
+// Which interrogator message bytes, however many, answer: the kind, 0 for none, 1 for an II code, 2 for an SI code, 3 for unassigned; and the code, 0 where there is none.
+#[no_mangle]
+pub extern "C" fn more1090_interrogator(message: &[u8], code: &mut u32) -> u32
+    ensures { λ r. ⌜ (r ≡ kindNumber (interrogatorOf (now (message .entry)))) × (now (code .exit) ≡ codeNumber (interrogatorOf (now (message .entry)))) ⌝ }
+{
+    let reading = interrogator::of_bytes(message);
+    *code = interrogator::code_number(reading);
+    interrogator::kind_number(reading)
 }

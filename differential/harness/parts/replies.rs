@@ -2,7 +2,7 @@
 
 use crate::random::Random;
 use crate::tally::Tally;
-use crate::tape::Draw;
+use crate::tape::{Draw, Settings};
 use crate::{judge, make, rules};
 use reference::mode_ac::ModeACReply;
 use reference::mode_s::{CRC24, ModeSMessage};
@@ -183,17 +183,23 @@ fn duration(t: &mut Tally, r: &mut Random) {
     t.alike("duration_as_samples", (seconds, nanoseconds), expected, ours);
 }
 
+/// Settings that accept every type, with distributions that are constants of 0.
+pub fn plain_settings(r: &mut Random) -> Settings {
+    let mut s = make::settings(r, 6000);
+    s.rates = [1.0; 7];
+    (s.carrier.kind, s.carrier.first) = (0, 0.0);
+    (s.phase.kind, s.phase.first) = (0, 0.0);
+    (s.clock.kind, s.clock.first) = (0, 0.0);
+    s
+}
+
 /// Draws that the settings accept, and draws with one field changed, against the functions `random_..` fed with the same
 /// draw. Where a field is out of range the Rust panics, so the field is held to the rules.
 fn made(t: &mut Tally, r: &mut Random, count: u64) {
     lent::lend_taps(&make::worked().taps);
     let mut done = 0;
     while done < count {
-        let mut s = make::settings(r, 6000);
-        s.rates = [1.0; 7];
-        (s.carrier.kind, s.carrier.first) = (0, 0.0);
-        (s.phase.kind, s.phase.first) = (0, 0.0);
-        (s.clock.kind, s.clock.first) = (0, 0.0);
+        let s = plain_settings(r);
         let all = judge::distributions(&s).expect("constants of 0");
         for mut d in make::draws(r, &s, 6000) {
             if r.once_in(3) {

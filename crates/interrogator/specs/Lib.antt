@@ -1,0 +1,2 @@
+pub mod Interrogators
+pub mod InterrogatorLaws
