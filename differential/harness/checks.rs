@@ -86,13 +86,6 @@ pub fn sines(tally: &mut Tally, r: &mut Random) {
     }
 }
 
-/// The stored answers in the repository are those that the Rust gives.
-pub fn stored(tally: &mut Tally, file: &std::path::Path) {
-    let held = std::fs::read(file).unwrap_or_default();
-    let wrong = first_difference("stored answers", crate::stored::file().as_bytes(), &held);
-    tally.compare("file of stored answers", "stored", &held, wrong);
-}
-
 /// Every damaged form of a tape.
 pub fn damaged(tally: &mut Tally, ours: &Ours, base: &Tape, seed: &str) {
     for d in damage::some(base, &|_| true) {

@@ -16,6 +16,7 @@ mod rules;
 mod stored;
 mod tally;
 mod tape;
+mod vectors;
 
 use ours::Ours;
 use random::Random;
@@ -31,10 +32,7 @@ fn main() {
         Some("text") => text(),
         Some("samples") => samples(),
         Some("tape") => write_tape(&words[1..]),
-        Some("stored") => {
-            print!("{}", stored::file());
-            0
-        }
+        Some("vectors") if words.len() == 2 => vectors::write(&PathBuf::from(&words[1])),
         _ => compare(&words),
     };
     std::process::exit(code);
@@ -101,10 +99,10 @@ struct Options {
     seed: u64,
     ours: Ours,
     folder: PathBuf,
-    stored: Option<PathBuf>,
+    vectors: Option<PathBuf>,
 }
 
-/// `[COUNT] [SEED] [--ours PROGRAM] [--ours-calls PROGRAM] [--stored FILE] [--keep FOLDER]`
+/// `[COUNT] [SEED] [--ours PROGRAM] [--ours-calls PROGRAM] [--vectors ROOT] [--keep FOLDER]`
 fn options(words: &[String]) -> Options {
     let mut o = Options {
         count: 1000,
@@ -114,7 +112,7 @@ fn options(words: &[String]) -> Options {
             calls: None,
         },
         folder: PathBuf::from("differences"),
-        stored: None,
+        vectors: None,
     };
     let mut plain = Vec::new();
     let mut rest = words.iter();
@@ -124,7 +122,7 @@ fn options(words: &[String]) -> Options {
             "--ours" => o.ours.tape = Some(value()),
             "--ours-calls" => o.ours.calls = Some(value()),
             "--keep" => o.folder = value(),
-            "--stored" => o.stored = Some(value()),
+            "--vectors" => o.vectors = Some(value()),
             _ => plain.push(number(w)),
         }
     }
@@ -136,8 +134,8 @@ fn options(words: &[String]) -> Options {
 fn compare(words: &[String]) -> i32 {
     let o = options(words);
     let mut tally = Tally::new(o.folder.clone());
-    if let Some(file) = &o.stored {
-        checks::stored(&mut tally, file);
+    if let Some(root) = &o.vectors {
+        vectors::compare(&mut tally, root);
     }
     checks::worked(&mut tally, &o.ours);
     checks::bench_lines(&mut tally, &o.ours);

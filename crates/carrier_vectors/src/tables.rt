@@ -1,4 +1,4 @@
-// Bit patterns of phases and of the Rust's answers for them, written by tools/vectors/carrier.rs, which says how. Assumes nothing.
+// Bit patterns of phases and of the Rust's answers for them. Made by `harness vectors`.
 
 // Rows of three: a phase, `phase_wrap_f64` of it, and `phase_wrap_once_f64`.
 pub const WRAPS: [u64; 303] = [
@@ -309,7 +309,7 @@ pub const WRAPS: [u64; 303] = [
 
 pub const WRAPS_ROWS: usize = 101;
 
-// Rows of five: a phase from -PI to PI, its sine and cosine by document 01's steps, and by `sin_cos`.
+// Rows of five: a phase from -PI to PI, its sine and cosine by the steps of SPECIFICATION 6.11, and by `sin_cos`.
 pub const PHASES: [u64; 1070] = [
     0x0000_0000_0000_0000,
     0x0000_0000_0000_0000,
@@ -1385,7 +1385,7 @@ pub const PHASES: [u64; 1070] = [
 
 pub const PHASES_ROWS: usize = 214;
 
-// Rows of three: any other f64, its sine and cosine by document 01's steps.
+// Rows of three: any other f64, its sine and cosine by the steps of SPECIFICATION 6.11.
 pub const OTHERS: [u64; 45] = [
     0x7ff8_0000_0000_0000,
     0x7ff8_0000_0000_0000,

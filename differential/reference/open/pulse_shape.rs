@@ -56,3 +56,17 @@ pub fn values(
     )
     .collect()
 }
+
+/// The filterbank's values of up to 240 pulses.
+pub fn values_of_pulses(prototype: &[f32], on: &[bool], clock_phase: f64, clock_error: f64) -> Vec<f32> {
+    let mut data = [false; super::super::MAX_MESSAGE_PULSES];
+    data[..on.len()].copy_from_slice(on);
+    let pulses = super::super::Pulses { data, len: on.len() };
+    super::apply_filterbank(
+        &super::prototype_to_bank(prototype),
+        pulses,
+        clock_phase,
+        clock_error,
+    )
+    .collect()
+}
