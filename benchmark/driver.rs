@@ -10,7 +10,7 @@ use loads::Load;
 /// Samples in a run call of the port, and in a batch of the Rust.
 const CALLS: [usize; 3] = [64, 4_096, 65_536];
 
-/// The Rust has its own sine, as published, and not document 01's.
+/// The Rust has its own sine, as published, and not that of SPECIFICATION 6.11.
 const OWN_SINE: bool = cfg!(own_sine);
 
 /// Replies a second.
@@ -93,7 +93,7 @@ fn main() {
     if OWN_SINE {
         println!("The Rust has its own sin_cos here, so that samples differ by 2^-23 and are not compared.");
     } else {
-        println!("Both have document 01's sine, and the samples and the number of records are the same, bit for bit.");
+        println!("Both have the sine of SPECIFICATION 6.11, and the samples and the number of records are the same, bit for bit.");
     }
     println!();
     println!("replies/s   call    Rust    port   ratio   to best");

@@ -11,7 +11,7 @@
  * lent to it. Calls that share no memory may run at the same time.
  *
  * Lengths count values of the pointer's type: floats or bytes. Places and draws are counted from 0 in what is lent to that
- * call. Settings, draws and records are packed and little-endian, as in document 01's tape:
+ * call. Settings, draws and records are packed and little-endian, as on a tape (docs/SPECIFICATION.md, 4):
  *
  * Settings, 119 bytes: seconds u64; nanoseconds u32; seven rates f64, by type, in replies a second; three distributions,
  *   each a kind u8 and two numbers f64. Carrier offset: 0 constant (Hz, at most 4,000,000 in size), 1 normal with sigma and
@@ -45,7 +45,7 @@ extern "C" {
 #define MORE1090_DRAW_BYTES 65
 #define MORE1090_RECORD_BYTES 66
 
-/* Refusals: document 01's numbers, with what `value` and `field` tell; they are 0 where nothing is said. */
+/* Refusals: the numbers of SPECIFICATION 3.1, with what `value` and `field` hold; they are 0 where nothing is said. */
 enum {
     MORE1090_ACCEPTED = 0,
     MORE1090_DURATION = 1,      /* nanoseconds 1,000,000,000 or more, or more than 2^52 samples */

@@ -98,7 +98,7 @@ pub fn taps(count: usize) -> Vec<f32> {
     }
 }
 
-/// Document 01's sine and cosine of p, which the compiler may inline; or the published program's own.
+/// The sine and cosine of p by SPECIFICATION 6.11, which the compiler may inline; or the published program's own.
 #[inline]
 pub fn sin_cos(p: f64) -> (f64, f64) {
     if cfg!(own_sine) {

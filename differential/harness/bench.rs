@@ -1,4 +1,4 @@
-//! Document 01's plain bench: what opening and each run call must answer. It follows the document's steps one sample and one
+//! The plain bench (SPECIFICATION 10.2): what opening and each run call must answer. It follows the steps of 9.4, one sample and one
 //! draw at a time and keeps whole replies; it knows nothing of working memory. A reply's own samples and its start are the
 //! reference's.
 
@@ -162,7 +162,7 @@ impl Bench {
         }
     }
 
-    /// One pass over document 01's steps 1 to 5: the first that does something, or the stop.
+    /// One pass over steps 1 to 5 (SPECIFICATION 9.4): the first that does something, or the stop.
     fn step(&mut self, call: &Call, draws: &[Draw], ran: &mut Ran) -> Option<Stop> {
         if self.done() {
             return Some(Stop::Done);

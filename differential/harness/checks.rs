@@ -12,17 +12,17 @@ use crate::rules;
 use crate::tally::{Tally, bytes_of, first_difference};
 use crate::tape::*;
 
-/// Document 01's worked tape gives document 01's text.
+/// The worked tape gives its text (SPECIFICATION 11.3).
 pub fn worked(tally: &mut Tally, ours: &Ours) {
     let bytes = make::worked().to_bytes();
     let text = "first type count message\n100 2 536 20000000000000\n151 6 189 0e00\nsamples 8000\n";
     let got = program::text(&program::outcome(&bytes));
-    let wrong = (got != text).then(|| format!("document 01 has {text:?}, the reference {got:?}"));
+    let wrong = (got != text).then(|| format!("the specification has {text:?}, the reference {got:?}"));
     tally.compare("worked tape, reference", "worked", &bytes, wrong);
     text_of_ours(tally, ours, "worked", &bytes, text);
 }
 
-/// The lines of document 01's bench checks that the reference can answer; the last one through the tape program too.
+/// The bench checks (SPECIFICATION 12) that the reference can answer; the last one through the tape program too.
 pub fn bench_lines(tally: &mut Tally, ours: &Ours) {
     use reference::simulation::pulse_shape::required_samples_for_apply;
     let required = [0, 43, 52, 128, 240].map(required_samples_for_apply);
@@ -39,7 +39,7 @@ pub fn bench_lines(tally: &mut Tally, ours: &Ours) {
     ];
     for (what, right) in lines {
         tally.compare(
-            "lines of document 01",
+            "bench checks of the specification",
             what,
             &[],
             (!right).then(|| what.to_string()),
@@ -116,7 +116,7 @@ pub fn tape(tally: &mut Tally, ours: &Ours, r: &mut Random, seed: &str) {
     }
 }
 
-/// The text of the tape program; a stop of the reference that document 01 does not name is a difference.
+/// The text of the tape program; a stop of the reference that the specification does not name is a difference.
 fn text(tally: &mut Tally, ours: &Ours, seed: &str, bytes: &[u8]) -> Option<Outcome> {
     let outcome = program::outcome(bytes);
     if let Outcome::Surprise(why) = &outcome {

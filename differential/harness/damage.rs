@@ -1,4 +1,4 @@
-//! Tapes at and beyond each limit of document 01: for each limit the last value inside and the first outside. What must
+//! Tapes at and beyond each limit of the specification: for each limit the last value inside and the first outside. What must
 //! come of each is worked out by the rules and the reference, as for any tape.
 
 use crate::make::MODE_AC_LIMIT;

@@ -1,4 +1,4 @@
-//! Where the Rust and document 01 part, or where the Rust surprises: each with the smallest input that shows it. If the
+//! Where the Rust and the specification differ, or where the Rust surprises: each with the smallest input that shows it. If the
 //! reference is ever renewed, a finding that no longer holds shows as a difference.
 
 use crate::judge::{self, Rng, Stopped};
@@ -36,7 +36,7 @@ pub const ALL: [(&str, fn() -> bool); 10] = [
     ),
 ];
 
-/// `random_all_call_reply` asks for three random bytes; the stand-in fills 0 there for document 01's sake. Here it is
+/// `random_all_call_reply` asks for three random bytes; the stand-in fills 0 there, as SPECIFICATION 7.3 has it. Here it is
 /// called with the draw of an acquisition squitter, for which the stand-in fills the draw's bytes.
 fn all_call_bytes() -> bool {
     let mut d = make::worked().draws[0];

@@ -1,4 +1,4 @@
-//! Random tapes from a seed: those that document 01 accepts, with a leaning towards its limits.
+//! Random tapes from a seed: those that the specification accepts, with a leaning towards its limits.
 
 use crate::judge;
 use crate::random::Random;
@@ -359,7 +359,7 @@ pub fn one_reply_at(start: u64) -> Tape {
     t
 }
 
-/// The tape that document 01 works out.
+/// The worked tape (SPECIFICATION 11.3).
 pub fn worked() -> Tape {
     let zero = asked(0, 0.0, 0.0);
     let none = Draw {

@@ -1,4 +1,4 @@
-//! What the tape program of document 01 must print for any bytes, with the reference for the run.
+//! What the tape program (SPECIFICATION 11.1) must print for any bytes, with the reference for the run.
 
 use crate::judge::{self, Run, Stopped};
 use crate::rules::{self, Refusal, refusal};
@@ -31,7 +31,7 @@ impl<'a> Reader<'a> {
 pub enum Outcome {
     Run(Run),
     Refused(Refusal),
-    /// The reference stopped in a way that document 01 does not name: a finding.
+    /// The reference stopped in a way that the specification does not name: a finding.
     Surprise(String),
 }
 

@@ -1,4 +1,4 @@
-//! Document 01's table of refusals, rule by rule, written from the document alone.
+//! The table of refusals (SPECIFICATION 3.1), rule by rule, written from the text alone.
 
 use crate::tape::{Asked, Draw, MODE_AC_TAPS, MODE_S_TAPS, Settings};
 use std::f64::consts::PI;

@@ -1,4 +1,4 @@
-//! The tape of document 01: its parts and its bytes.
+//! The tape (SPECIFICATION 4.6): its parts and its bytes.
 
 pub use lent::Draw;
 

@@ -1,4 +1,4 @@
--- The lines of document 01's bench checks that it marks P: what the definitions give, beside what document 01 says. Definitions only.
+-- The bench checks marked P in SPECIFICATION 12: what the definitions give, beside what it says. Definitions only.
 use Prim.Native.Nat.{ℕ, _+_, _*_, _^_}
 use mathlib.Core.Bool.{Bool, true, false}
 use mathlib.Core.List.{List, [], _∷_, _++_}
@@ -24,7 +24,7 @@ pub data Value : Type 0 where
   class : ℕ → Value
   noClass : Value
 
--- a line: what the definitions give, and what document 01 says
+-- a line: what the definitions give, and what SPECIFICATION 12 says
 pub record Line : Type 0 where
   pub gives : Value
   pub says : Value

@@ -1,4 +1,4 @@
--- A mirror of the code, and not document 01's words: a run call on working memory of limit + hold samples as a flat list used as a ring, a count of samples written, the time, the end and the latest time.
+-- A model of the code, and not the specification's words: a run call on working memory of limit + hold samples as a flat list used as a ring, a count of samples written, the time, the end and the latest time.
 -- From an opened run it comes to the plain bench (proofs/Demand3); it is defined on any state. Its fuel is enough (proofs/EnoughFuel, `machine-enough`). Definitions only.
 use mathlib.Core.Bool.{Bool, true, false, cond}
 use mathlib.Core.List.{List, [], _∷_}

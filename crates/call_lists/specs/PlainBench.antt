@@ -1,4 +1,4 @@
--- Plain bench of document 01: the checks and the five steps of a run call, on the draws taken, the noise used and the latest time.
+-- Plain bench (SPECIFICATION 10.2): the checks and the five steps of a run call, on the draws taken, the noise used and the latest time.
 -- Assumes nothing.
 use mathlib.Core.Bool.{Bool, true, false, cond, not, _&&_, _||_}
 use mathlib.Core.List.{List, [], _∷_, _++_}
@@ -12,7 +12,7 @@ use Rattle.call_lists.specs.PlainRun.{Kind, ignored, ends, reply, kind, 
 pub data Stop : Type 0 where
   done outputFull wantsNoise wantsDraws recordsFull : Stop
 
--- the stops in the order of document 01's steps
+-- the stops by number (SPECIFICATION 9.2)
 abbrev pub stopNumber : Stop → ℕ
 stopNumber done = 0
 stopNumber outputFull = 1
@@ -26,7 +26,7 @@ pub data Refusal : Type 0 where
   wrongDraw : ℕ → ℕ → Refusal
   wrongNoise : ℕ → Refusal
 
--- document 01's number and values
+-- the number and values of SPECIFICATION 3.1
 abbrev pub numbers : Refusal → List ℕ
 numbers wrongLength = 9 ∷ []
 numbers (wrongDraw d f) = 7 ∷ d ∷ f ∷ []

@@ -1,4 +1,4 @@
--- Plain run of document 01: the samples and records of draws and noise. It knows no calls and no memory.
+-- Plain run (SPECIFICATION 10.1): the samples and records of draws and noise. It knows no calls and no memory.
 -- Assumes nothing.
 use mathlib.Core.Bool.{Bool, true, false, cond}
 use mathlib.Core.List.{List, [], _∷_, map}

@@ -1,4 +1,4 @@
-// Replays stored answers of the Rust: the wraps and document 01's sine and cosine bit for bit, and the two values within 2^-23 of its `sin_cos`.
+// Replays stored answers of the Rust: the wraps and the sine and cosine of SPECIFICATION 6.11 bit for bit, and the two values within 2^-23 of its `sin_cos`.
 // Prints how many rows of each table agree. Assumes nothing.
 mod tables;
 

@@ -1,7 +1,7 @@
--- The numbers that follow from the samples per pulse, a pulse being 500 ns. Document 01 has 4 samples per pulse, and says them as numbers; each comment gives its number. Definitions only.
+-- The numbers that follow from the samples per pulse, a pulse being 500 ns. SPECIFICATION 1.5 has them at 4 samples per pulse; each comment gives its number. Definitions only.
 use Prim.Native.Nat.{ℕ, zero, suc, _+_, _-_, _*_, _/_}
 
--- samples per pulse in document 01
+-- samples per pulse (SPECIFICATION 1.5)
 abbrev pub four : ℕ
 four = 4
 

@@ -1,4 +1,4 @@
--- Document 01's three distributions as the settings ask for them, a kind byte and two numbers each, and which are accepted; the others are refusal 4. Definitions only.
+-- The specification's three distributions as the settings ask for them, a kind byte and two numbers each, and which are accepted; the others are refusal 4. Definitions only.
 use Prim.Native.Nat.{ℕ, zero, suc}
 use mathlib.Core.Bool.{Bool, _&&_, cond}
 use lib.IntN.{pos}
@@ -32,7 +32,7 @@ offsetLimit sps = ofInt binary64 (pos (largestOffset sps))
 unfoldable pub tenth : Float
 tenth = ofBits binary64 0x3fb9_9999_9999_999a
 
--- "max 0 to 4,000,000, sigma finite and not negative"
+-- max from 0 to 4,000,000, sigma finite and not negative (SPECIFICATION 4.2)
 unfoldable pub clampedNormal : ℕ → Float → Float → OffsetAnswer.OffsetAnswer
 clampedNormal sps sigma max =
     cond (finiteNotNegative sigma && upTo max (offsetLimit sps)) (OffsetAnswer.the-variants.Accepted (Offset.the-variants.ClampedNormal sigma max))
@@ -44,28 +44,28 @@ byKind zero a b other = a
 byKind (suc zero) a b other = b
 byKind (suc (suc k)) a b other = other
 
--- "the carrier offset is constant at a value, or normal with sigma and max; kind 0 or 1, the value at most 4,000,000 in size"
+-- distribution 0 (SPECIFICATION 4.2): constant, at most 4,000,000 in size; or normal with sigma and max
 unfoldable pub carrierOffset : ℕ → Asked → OffsetAnswer.OffsetAnswer
 carrierOffset sps d =
     byKind (d .kind) (cond (within (d .first) (offsetLimit sps)) (OffsetAnswer.the-variants.Accepted (Offset.the-variants.Constant (d .first))) OffsetAnswer.the-variants.Refused)
     (clampedNormal sps (d .first) (d .second))
     OffsetAnswer.the-variants.Refused
 
--- "Phase: 0 constant at a finite value, 1 uniform." A constant phase is kept wrapped, as the Rust does.
+-- distribution 1 (SPECIFICATION 4.2): constant and finite, or uniform. A constant phase is kept wrapped (5.2), as the Rust does.
 unfoldable pub carrierPhase : Asked → PhaseAnswer.PhaseAnswer
 carrierPhase d =
     byKind (d .kind) (cond (finite (d .first)) (PhaseAnswer.the-variants.Accepted (Phase.the-variants.Constant (phaseWrap (d .first)))) PhaseAnswer.the-variants.Refused)
     (PhaseAnswer.the-variants.Accepted Phase.the-variants.Uniform)
     PhaseAnswer.the-variants.Refused
 
--- "Clock error: 0 constant within 0.1 in size, 1 uniform with a max of 0 to 0.1."
+-- distribution 2 (SPECIFICATION 4.2): constant, at most 0.1 in size; or uniform with a max from 0 to 0.1
 unfoldable pub clockError : Asked → ClockAnswer.ClockAnswer
 clockError d =
     byKind (d .kind) (cond (within (d .first) tenth) (ClockAnswer.the-variants.Accepted (Clock.the-variants.Constant (d .first))) ClockAnswer.the-variants.Refused)
     (cond (upTo (d .first) tenth) (ClockAnswer.the-variants.Accepted (Clock.the-variants.Uniform (d .first))) ClockAnswer.the-variants.Refused)
     ClockAnswer.the-variants.Refused
 
--- the answers in document 01's terms: "unknown distribution kind, or its parameter out of range" is refusal 4, with the distribution: 0 for the carrier offset, 1 for the phase, 2 for the clock error
+-- the answers in the specification's terms: "unknown distribution kind, or its parameter out of range" is refusal 4, with the distribution: 0 for the carrier offset, 1 for the phase, 2 for the clock error
 unfoldable pub offsetAnswer : OffsetAnswer.OffsetAnswer → Answer Offset.CarrierOffset
 offsetAnswer (OffsetAnswer.the-variants.Accepted d) = accepted d
 offsetAnswer OffsetAnswer.the-variants.Refused = refused (Distribution 0)

@@ -1,4 +1,4 @@
--- What a draw becomes under each distribution, and the range that document 01 asks of it. "Draws of constant distributions .. are ignored." Definitions only.
+-- What a draw becomes under each distribution, and the range of its draw (SPECIFICATION 4.4, 5.2). Draws of constant distributions are ignored. Definitions only.
 use mathlib.Core.Bool.{Bool, true, _&&_, cond}
 use lib.Ieee.{Float, binary64, mul, neg, lt, le}
 use lib.Ieee.Scale.{finite}
@@ -27,7 +27,7 @@ unfoldable pub errorOf : Clock.ClockError → Float → Float
 errorOf (Clock.the-variants.Constant x) draw = x
 errorOf (Clock.the-variants.Uniform max) draw = draw
 
--- "carrier draw f64, finite"
+-- field 4 (SPECIFICATION 4.4): finite
 unfoldable pub offsetDrawFits : Offset.CarrierOffset → Float → Bool
 offsetDrawFits (Offset.the-variants.Constant x) draw = true
 offsetDrawFits (Offset.the-variants.ClampedNormal sigma max) draw = finite draw
@@ -35,12 +35,12 @@ offsetDrawFits (Offset.the-variants.ClampedNormal sigma max) draw = finite draw
 unfoldable pub fromMinusPiBelowPi : Float → Bool
 fromMinusPiBelowPi x = le (neg pi) x && lt x pi
 
--- "phase draw f64, from -PI to below PI"
+-- field 5 (SPECIFICATION 4.4): from -PI to below PI
 unfoldable pub phaseDrawFits : Phase.CarrierPhase → Float → Bool
 phaseDrawFits (Phase.the-variants.Constant x) draw = true
 phaseDrawFits Phase.the-variants.Uniform draw = fromMinusPiBelowPi draw
 
--- "clock draw f64, within max in size"
+-- field 6 (SPECIFICATION 4.4): at most max in size
 unfoldable pub clockDrawFits : Clock.ClockError → Float → Bool
 clockDrawFits (Clock.the-variants.Constant x) draw = true
 clockDrawFits (Clock.the-variants.Uniform max) draw = within draw max

@@ -25,7 +25,7 @@ typeDrawn TypeFound.the-variants.Unknown = ModeAc
 unfoldable pub kindDrawn : Draw → ReplyKind
 kindDrawn d = kindOf (typeDrawn (typeNumbered (d .kind)))
 
--- "Time of a draw: previous time (0.0 at first) plus its gap"
+-- SPECIFICATION 5.3: the time before, 0.0 at first, plus the gap
 unfoldable pub timeAfter : Float → Draw → Float
 timeAfter before d = add binary64 before (d .gap)
 

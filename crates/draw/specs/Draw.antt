@@ -1,4 +1,4 @@
--- Document 01's draw, read from its 65 bytes: "gap f64; type u8; cn0 f64; amplitude f32; carrier draw f64; phase draw f64; clock draw f64; DF pick, CA pick, overlay, u8 each; 14 bytes; Mode A/C data u16; SPI u8". Definitions only.
+-- A draw, read from its 65 bytes (SPECIFICATION 4.4). Definitions only.
 use Prim.Native.Nat.{ℕ, zero, suc, _+_}
 use mathlib.Core.List.{List, [], _∷_}
 use lib.Dec.{T}

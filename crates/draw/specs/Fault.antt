@@ -1,4 +1,4 @@
--- Document 01's refusal 7: the first field of a draw that is out of range, and the first draw with one. Fields are counted from 0 in tape order, the 14 bytes being one. Definitions only.
+-- Refusal 7 (SPECIFICATION 4.4): the first field of a draw that is out of range, and the first draw with one. Fields are counted from 0 in tape order, the 14 bytes being one. Definitions only.
 use Prim.Native.Nat.{ℕ, zero, suc, _/_}
 use mathlib.Core.Bool.{Bool, true, _&&_, cond}
 use mathlib.Core.List.{List}
@@ -23,19 +23,19 @@ use Rattle.draw.specs.declared.Draw.{Draw}
 use Rattle.draw.specs.declared.Fault as Fault
 use Rattle.draw.specs.Draw.{drawLength, drawAt}
 
--- "type u8 0..6, its rate above 0"
+-- field 1 (SPECIFICATION 4.4): a type from 0 to 6, with its rate above 0
 unfoldable pub typeFits : MessagesPerSecond → ℕ → Bool
 typeFits rates n = lt (ofBits binary64 0) (rateOf rates n)
 
--- "amplitude f32, 0 to 2^20"
+-- field 3 (SPECIFICATION 4.4): from 0 to 2^20
 unfoldable pub amplitudeFits : Float → Bool
 amplitudeFits a = le (ofBits binary32 0) a && le a (ofBits binary32 0x4980_0000)
 
--- "Filter clock error: .. above 0.1 in size the draw is refused"; for Mode S it is e itself, which a clock draw in range holds within 0.1
+-- SPECIFICATION 4.4: the filter clock error is at most 0.1 in size; for Mode S it is e itself, which a clock draw in range holds within 0.1
 unfoldable pub modeACLimit : ℕ → Float → Bool
 modeACLimit kind e = cond (eqb kind 6) (within (filterClockError ModeAc e) tenth) true
 
--- "clock draw f64, within max in size"; the Mode A/C limit on e is reported as the clock draw
+-- field 6 (SPECIFICATION 4.4): at most max in size; the Mode A/C limit on e is reported as the clock draw
 unfoldable pub clockFits : Distributions → ℕ → Float → Bool
 clockFits all kind draw = clockDrawFits (all .clock) draw && modeACLimit kind (errorOf (all .clock) draw)
 

@@ -11,7 +11,7 @@ pub data Answer : Type 0 where
   samples : ℕ → Answer
   refusal : ℕ → Answer
 
--- the code's answer in document 01's terms
+-- the code's answer in the specification's terms
 unfoldable pub answerOf : InSamples → Answer
 answerOf (Samples n) = samples n
 answerOf Refused = refusal 1

@@ -138,7 +138,7 @@ narrowed-within (fin false m e) n u h = (
   subst (λ (y : Float). T (le (round binary32 false (m * up e) (down e)) y)) round-one (round-mono binary32 (m * up e) (down e) 1 1 (down-pos e) (lit< tt) (cross n (2 ^ 1074) (down e) 1 (m * up e) 1 u refl h)),
 )
 
--- ---- the law, for 2 ^ l branches: 8 at document 01's rate
+-- ---- the law, for 2 ^ l branches: 8 at 4 samples per pulse
 pub branch-within : (sps l : ℕ) → branches sps ≡ 2 ^ l → 2 ^ l ≤ 2 ^ 20 → (p : Float) → T (fits binary64 p) → T (le zeroF p) → T (lt p oneF)
     → (branchOf sps p < branches sps) × (branchOf sps p ≡ toUnsigned 64 (scaled sps p)) × T (le zeroF (tauOf sps p)) × T (le (tauOf sps p) oneF)
 unfolding tauOf

@@ -1,4 +1,4 @@
--- Document 01's "above .. in size": the size of a value, and whether it is at most a limit. Definitions only.
+-- The size of a value, and whether it is at most a limit (SPECIFICATION 1.4). Definitions only.
 use mathlib.Core.Bool.{Bool, false}
 use lib.Ieee.{Float, nan, inf, fin, le}
 

@@ -1,4 +1,4 @@
--- What the settings and filters of a run make of draws: document 01's generator, as plain run and plain bench take it. Definitions only.
+-- What the settings and filters of a run make of draws: the generator, as plain run and plain bench take it (SPECIFICATION 10). Definitions only.
 use Prim.Native.Nat.{ℕ}
 use mathlib.Core.Bool.{Bool, not}
 use mathlib.Core.List.{List, map}
@@ -29,7 +29,7 @@ unfoldable pub faultOf : Field → Option ℕ
 faultOf Fine = none
 faultOf (Wrong field) = some field
 
--- Refusal 8: "a noise value not finite or above 64 in size"
+-- Refusal 8 (SPECIFICATION 3.1): a noise value not finite or above 64 in size
 unfoldable pub loud : Float → Bool
 loud v = not (within v (ofBits binary32 0x4280_0000))
 

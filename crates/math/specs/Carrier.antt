@@ -1,4 +1,4 @@
--- Document 01's sine and cosine of a phase: reduction, quadrant, Horner sums, each operation rounded once. For every `f64`. Definitions only.
+-- Sine and cosine of a phase (SPECIFICATION 6.11): reduction, quadrant, Horner sums, each operation rounded once. For every `f64`. Definitions only.
 use Prim.Native.Nat.{ℕ, zero, suc, _+_, _*_}
 use mathlib.Core.Bool.{Bool, false, not, cond}
 use lib.Ieee.{Float, binary64, ofBits, round, add, sub, mul, div, neg, lt}
@@ -6,7 +6,7 @@ use Rattle.math.specs.Phase.{pi}
 use Rattle.math.specs.declared.Reduced.{Reduced}
 use Rattle.math.specs.declared.SinCos.{SinCos}
 
--- document 01's H, PI / 2
+-- H of SPECIFICATION 6.11, PI / 2
 unfoldable pub halfPi : Float
 halfPi = div binary64 pi (ofBits binary64 0x4000_0000_0000_0000)
 
@@ -18,7 +18,7 @@ outerLimit = mul binary64 (ofBits binary64 0x3ff8_0000_0000_0000) halfPi
 unfoldable pub innerLimit : Float
 innerLimit = mul binary64 (ofBits binary64 0x3fe0_0000_0000_0000) halfPi
 
--- "below -1.5H, r = p + PI, q 2; else below -0.5H, r = p + H, q 3; else below 0.5H, r = p, q 0; else below 1.5H, r = p - H, q 1; else r = p - PI, q 2"
+-- r and q of a phase, by the first table of SPECIFICATION 6.11
 unfoldable pub reduced : Float → Reduced
 reduced p =
     cond (lt p (neg outerLimit)) (record { r = add binary64 p pi; q = 2 })
@@ -55,7 +55,7 @@ sineSum r = mul binary64 r (horner sineCoefficient 6 0 (mul binary64 r r))
 unfoldable pub cosineSum : Float → Float
 cosineSum r = horner cosineCoefficient 7 0 (mul binary64 r r)
 
--- "(sine, cosine) for q 0 to 3: (S, C), (C, -S), (-S, -C), (-C, S)"
+-- sine and cosine by q, by the second table of SPECIFICATION 6.11
 unfoldable pub quadrant : ℕ → Float → Float → SinCos
 quadrant zero s c = record { sin = s; cos = c }
 quadrant (suc zero) s c = record { sin = c; cos = neg s }

@@ -34,7 +34,7 @@ pub fn phase_wrap_once_f64(phase: f64) -> f64
     }
 }
 
-// A phase as document 01's r and q: r plus q times PI / 2, but for whole turns.
+// A phase as r and q of SPECIFICATION 6.11: r plus q times PI / 2, but for whole turns.
 pub struct Reduced {
     pub r: f64,
     pub q: u8,

@@ -1,4 +1,4 @@
--- Making a reply, as document 01's section "Replies" says it, in its order: formats, CA and control; picks; byte 0; later bytes; parity; overlay.
+-- Making a reply (SPECIFICATION 7.2, 7.3): formats, CA and control; picks; byte 0; later bytes; parity; overlay.
 -- Last, what is refused: the first field at fault, in the order of the tape. Definitions only.
 use Prim.Native.Nat.{ℕ, _+_, _-_, _*_, _/_, _%_}
 use mathlib.Core.Bool.{Bool, true, false}
@@ -170,7 +170,7 @@ madeWhere (Wrong field) r = record { fault = Wrong field; reply = record { kind 
 unfoldable pub made : MessageType → Picks → Made
 made t p = madeWhere (fieldFault t p) (replyOf t p)
 
--- in document 01's terms: "a draw field out of range" is refusal 7, with the place of the draw and the field
+-- in the specification's terms: "a draw field out of range" is refusal 7, with the place of the draw and the field
 unfoldable pub fieldRefusal : ℕ → Field → Option Refusal
 fieldRefusal draw Fine = none
 fieldRefusal draw (Wrong field) = some (Draw draw field)

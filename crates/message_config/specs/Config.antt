@@ -1,4 +1,4 @@
--- Document 01's "struct of five floats with its reply": what a message's configuration comes to, given the delays of the filters. Definitions only.
+-- A message's configuration, five floats with its reply: what follows from it, given the delays of the filters (SPECIFICATION 5.5, 6.4, 6.5, 6.10). Definitions only.
 use Prim.Native.Nat.{ℕ}
 use lib.IntN.{ℤ}
 use lib.Ieee.{Float}

@@ -1,4 +1,4 @@
--- Document 01's delay, start and filter clock error, and the clock's phase at a reply's first sample, each operation rounded once in the Rust's order. Definitions only.
+-- Delay, start and filter clock error (SPECIFICATION 5.4, 5.5, 6.4), and the clock's phase at a reply's first sample, each operation rounded once in the Rust's order. Definitions only.
 use lib.IntN.{ℤ, pos}
 use lib.Ieee.{Float, binary64, ofInt, add, sub, mul, div}
 use Rattle.float_bits.specs.Ceil.{ceilSigned}
@@ -10,7 +10,7 @@ use Rattle.message_config.specs.declared.Delays.{Delays}
 abbrev pub one : Float
 one = ofInt binary64 (pos 1)
 
--- "Delay: `compute_group_delay`; for Mode A/C divided by 1500.0/1450.0", which `pulse_shape` does
+-- the delay of each kind (SPECIFICATION 5.4)
 unfoldable pub delayOf : Delays → ReplyKind → Float
 delayOf delays Short = delays .«mode_s»
 delayOf delays Long = delays .«mode_s»
@@ -20,11 +20,11 @@ delayOf delays ModeAc = delays .«mode_ac»
 unfoldable pub unroundedStart : Float → Float → Float → Float
 unroundedStart time delay e = sub binary64 time (div binary64 delay (add binary64 one e))
 
--- "Start: ceiling of time - delay / (1 + e), e the clock error, converted as `as i64` does, saturating"
+-- the start (SPECIFICATION 5.5)
 unfoldable pub startOf : Float → Float → Float → ℤ
 startOf time delay e = ceilSigned 63 (unroundedStart time delay e)
 
--- "Filter clock error: e for Mode S, 1500.0/1450.0 times (1 + e) minus 1 for Mode A/C"
+-- the filter clock error (SPECIFICATION 6.4)
 unfoldable pub filterClockError : ReplyKind → Float → Float
 filterClockError Short e = e
 filterClockError Long e = e

@@ -119,7 +119,7 @@ phase-fits : (t d e f : Float) → T (fits binary64 (clockPhase t d e f))
 unfolding clockPhase
 phase-fits t d e f = mul-fits binary64 (sub binary64 (ofInt binary64 (startOf t d e)) (unroundedStart t d e)) (add binary64 one f)
 
--- ---- the theorem, at document 01's rate
+-- ---- the theorem, at 4 samples per pulse
 module _ (delays : Delays) (R : DelaysInRange four delays) where
   pub first-clock : (t e : Float) (kind : ReplyKind) (s : ℕ) → TimeInRange t → ErrorInRange kind e → startOf t (delayOf delays kind) e ≡ pos s → s < 2 ^ 52
       → InRange (clockPhase t (delayOf delays kind) e (filterClockError kind e)) (filterClockError kind e) × T (le (clockPhase t (delayOf delays kind) e (filterClockError kind e)) elevenTenthsF)

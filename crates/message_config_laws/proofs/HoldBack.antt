@@ -180,7 +180,7 @@ module _ (sps : ℕ) (S : 3 ≤ sps) (M : sps ≤ 2 ^ 30) (delays : Delays) (R :
       (le-trans (upward-mono (C .count) (2 ^ 1074) (C′ .count) (pow-pos 1074) n-le)
       (later-start (8 * sps) (held-some sps S) (held-few sps M) t′ d′ C′ (q′ .0) (q′ .1) (q′ .2) s′ p′ small))
 
--- ---- at document 01's rate
+-- ---- at 4 samples per pulse
 -- a delay divided by 1 + e is at most 31.5 samples
 pub delay-at-most : (d e : Float) → DelayInRange four d → T (fits binary64 e) → T (within e tenth) → T (le (div binary64 d (add binary64 one e)) (fin false 63 (negsuc 0)))
 delay-at-most d e r F t =

@@ -1,4 +1,4 @@
--- What the theorems of this crate take as in range: a draw's time and clock error, and the filters' delays. Each is what document 01's checks, or the theorem about group delays, gives. Assumes nothing.
+-- What the theorems of this crate take as in range: a draw's time and clock error, and the filters' delays. Each is what the checks of SPECIFICATION 3.1, or the theorem about group delays, gives. Assumes nothing.
 use mathlib.Core.Path.{refl, sym, ap, _∙_}
 use Prim.Native.Nat.{ℕ, _-_, _*_, _/_, _^_, _≤_, zero-le}
 use native.Mathlib.Nat.{le-trans, le-of-eq, zero-mul, mul-one, mul-right-comm}
@@ -47,7 +47,7 @@ signed-in-range t F s = record { fit = F; low = not-below t s }
     not-below (fin false m e) s = fin-le false 0 (pos 0) false m e (le-trans (le-of-eq (zero-mul (down e))) zero-le)
     not-below (fin true m e) s = absurd (true≢false s)
 
--- ---- a delay is from 0 to 7 * sps samples, 28 at document 01's rate, said in units of 2 ^ -1074
+-- ---- a delay is from 0 to 7 * sps samples, 28 at 4 samples per pulse, said in units of 2 ^ -1074
 pub record DelayInRange (sps : ℕ) (d : Float) : Type 0 where
   pub count : ℕ
   pub is : Units d count
@@ -95,7 +95,7 @@ filter-fits Short e F = F
 filter-fits Long e F = F
 filter-fits ModeAc e F = sub-fits binary64 (mul binary64 modeACRatio (add binary64 (ofInt binary64 (pos 1)) e)) (ofInt binary64 (pos 1))
 
--- ---- the largest carrier offset: 4,000,000 at document 01's rate
+-- ---- the largest carrier offset: 4,000,000 at 4 samples per pulse
 abbrev pub offsetUnits : ℕ → ℕ
 offsetUnits sps = largestOffset sps * 2 ^ 1074
 
@@ -114,7 +114,7 @@ offset-val sps few = whole-val (largestOffset sps) (room sps few)
     room : (s : ℕ) → s ≤ 2 ^ 30 → 2000000 * s / 2 ≤ 2 ^ 53
     room s h = omega arith
 
--- ---- a message is in range: its time, its clock error, its carrier's offset within 4,000,000 in size at document 01's rate, and its phase from -PI to PI
+-- ---- a message is in range: its time, its clock error, its carrier's offset within 4,000,000 in size at 4 samples per pulse, and its phase from -PI to PI
 pub record MessageInRange (sps : ℕ) (c : MessageConfig) : Type 0 where
   pub time : TimeInRange (c .time)
   pub error : ErrorInRange (c .reply .kind) (c .error)

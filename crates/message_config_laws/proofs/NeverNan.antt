@@ -79,7 +79,7 @@ difference-number (inf false) (inf s) k A D f = absurd D
 difference-number (inf false) (fin s m e) k A D f = tt
 difference-number (fin s m e) d k A D f = finite-number (sub binary64 (fin s m e) d) (f tt)
 
--- ---- the carrier's rate. 2 PI times the largest offset, rounded, is no more than PI times the samples a second; at document 01's rate it is a little less
+-- ---- the carrier's rate. 2 PI times the largest offset, rounded, is no more than PI times the samples a second; at 4 samples per pulse it is a little less
 pub record Turning (sps : ℕ) : Type 0 where
   pub most : ℕ
   pub turned : G (twoPiUnits * offsetUnits sps) (2 ^ 1074 * 2 ^ 1074) ≤ most
@@ -194,7 +194,7 @@ module _ (sps : ℕ) (S : 3 ≤ sps) (M : sps ≤ 2 ^ 30) (W : Turning sps) (del
             (phase-between (c .phase) (c .time) (carrierRate sps (c .offset)) s (r .phase) (reply-time (c .time) d (counted (c .time) (r .time) f) (q .0) (8 * sps) s (q .1) (held-some sps S) (held-few sps M) (q .2) h small) (carrier-within sps S M W c r) small);
       }
 
--- ---- at document 01's rate
+-- ---- at 4 samples per pulse
 pub draw-numbers-at-four : (delays : Delays) → DelaysInRange four delays → (c : MessageConfig) → MessageInRange four c → DrawNumbers four delays c
 draw-numbers-at-four = draw-numbers four (lit≤ tt) (lit≤ tt) turning-at-four
 

@@ -11,7 +11,7 @@ pub data Answer : Type 0 where
   reply : ℕ → Bool → Answer
   refusal : ℕ → Answer
 
--- the code's answer in document 01's terms
+-- the code's answer in the specification's terms
 unfoldable pub answerOf : Built → Answer
 answerOf (Reply r) = reply (r .data) (r .spi)
 answerOf Refused = refusal 10

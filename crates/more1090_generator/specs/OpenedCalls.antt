@@ -1,4 +1,4 @@
--- Demand 3 of document 01 for callers in C, hypothesis and claim in one statement: `OpenedCalls`, at the end of this file. Where `more1090_open` answers refusal 0, it opened a run of which all is claimed that `simulation/specs/OpenedRuns` claims,
+-- Demand 3 (SPECIFICATION 2.3) for callers in C, hypothesis and claim in one statement: `OpenedCalls`, at the end of this file. Where `more1090_open` answers refusal 0, it opened a run of which all is claimed that `simulation/specs/OpenedRuns` claims,
 -- and calls of `more1090_run`, refused ones among them, with any draws, noise and buffers, answer and leave what run calls on it do, in C's numbers. Definitions only.
 use mathlib.Core.Path.{_≡_}
 use mathlib.Core.List.{List, [], _∷_, map}
@@ -29,7 +29,7 @@ pub record Demand3InC (tapsS tapsAC : List Float) (settings : List ℕ) (given :
   pub demand3 : Demand3 tapsS tapsAC settings r
   -- each call answers and leaves what the run call does, in C's numbers
   pub same : (cs : List Lent) → flatCalls f r cs ≡ map leftFlat (calls r cs)
-  -- so each answer is the plain bench's, in document 01's numbers and values, and so are output and record bytes after it
+  -- so each answer is the plain bench's, in the specification's numbers and values, and so are output and record bytes after it
   pub answers : (cs : List Lent) → map flatSeen (flatCalls f r cs) ≡ map (benchSeen (r .state) (r .buffers .modeS) (r .buffers .modeAC)) (results r cs)
   -- and the state that comes back is the plain bench's
   pub state : (cs : List Lent) → lastFlat f (flatCalls f r cs) ≡ flatOf (stateAfter r (bench r cs))

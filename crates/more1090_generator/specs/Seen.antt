@@ -1,4 +1,4 @@
--- What a caller in C sees of a run call: its answer, and the two lent buffers after it; of what the contract of `more1090_run` leaves, and of document 01's plain bench. Definitions only.
+-- What a caller in C sees of a run call: its answer, and the two lent buffers after it; of what the contract of `more1090_run` leaves, and of the plain bench (SPECIFICATION 10.2). Definitions only.
 use Prim.Native.Nat.{ℕ}
 use mathlib.Core.List.{List}
 use lib.Ieee.{Float}
@@ -17,7 +17,7 @@ pub record FlatSeen : Type 0 where
 unfoldable pub flatSeen : FlatLeft → FlatSeen
 flatSeen l = record { answer = l .ran .answer; output = l .output; records = l .records }
 
--- the plain bench's answer: counts and stop, or document 01's number and values
+-- the plain bench's answer: counts and stop, or the number and values of SPECIFICATION 3.1
 unfoldable pub benchAnswer : Bench.Answer → FlatAnswer
 benchAnswer (Bench.refused q) = record { taken = 0; samples = 0; noise = 0; records = 0; stop = 5; refusal = getD (Bench.numbers q) 0 0; value = getD (Bench.numbers q) 1 0; field = getD (Bench.numbers q) 2 0 }
 benchAnswer (Bench.ran taken samples noise records stop) = record { taken = taken; samples = samples; noise = noise; records = records; stop = Bench.stopNumber stop; refusal = 0; value = 0; field = 0 }

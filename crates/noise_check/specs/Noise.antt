@@ -1,4 +1,4 @@
--- Refusal 8, "a noise value not finite or above 64 in size", told by the place of the first. Definitions only.
+-- Refusal 8 (SPECIFICATION 3.1): a noise value not finite or above 64 in size, with the index of the first. Definitions only.
 use Prim.Native.Nat.{ℕ, suc}
 use mathlib.Core.Bool.{cond}
 use mathlib.Core.List.{List, [], _∷_}

@@ -84,7 +84,7 @@ module _ (level : Float) (tapsS tapsAC : List Float) (bytes : List ℕ) (l : Len
         (record { memory = leftBy four tapsS tapsAC (Opened.the-variants.Run s) l .memory; written = s .written; time = s .time; over = s .ended; mark = s .latest })
         (Machine.opened (genOf s (modeSPrototype four tapsS) (modeACPrototype four tapsAC)) nan)) (sym (what-is-opened .is)) refl
 
--- at document 01's level
+-- at level 0.5
 pub opened-run-in-range : (tapsS tapsAC : List Float) (bytes : List ℕ) (l : Lent) (state : State) → openedOf four half tapsS tapsAC bytes l ≡ Opened.the-variants.Run state
     → Range.FiltersInRange (filtersOf state (modeSPrototype four tapsS) (modeACPrototype four tapsAC)) × (state .total ≤ 2 ^ 52)
 unfolding ofBits lt

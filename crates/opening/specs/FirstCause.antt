@@ -1,4 +1,4 @@
--- Which answer of opening is right: refusals 9, 1 to 4, 5 and 6 each for its cause, and for the first cause in document 01's order. Definitions only.
+-- Which answer of opening is right: refusals 9, 1 to 4, 5 and 6 each for its cause, and for the first cause in the order of SPECIFICATION 3.2. Definitions only.
 use Prim.Native.Nat.{ℕ, suc, _<_}
 use mathlib.Core.Path.{_≡_}
 use mathlib.Core.Bool.{true}
@@ -31,7 +31,7 @@ pub record Fits (settings modeS modeAC memory : ℕ) : Type 0 where
 abbrev pub AllWithin16 : List Float → Type 0
 AllWithin16 l = (i : ℕ) → i < length l → within16 (getD l i nan) ≡ true
 
--- 5: "filter list of the wrong length, or a tap not finite or above 16 in size" is not so
+-- no cause for 5 (SPECIFICATION 3.1): the list has its length, and each tap is at most 16 in size
 pub record GoodTaps (count : ℕ) (taps : List Float) : Type 0 where
   pub count-is : length taps ≡ count
   pub within : AllWithin16 taps
@@ -40,12 +40,12 @@ pub record GoodTaps (count : ℕ) (taps : List Float) : Type 0 where
 abbrev pub Crosses : Float → List Float → Type 0
 Crosses level l = (i : ℕ) × (suc i < length l) × (crosses level (getD l i nan) (getD l (suc i) nan) ≡ true)
 
--- 6: "a prototype value not finite or above 16 in size, or no 0.5 crossing" is not so
+-- no cause for 6 (SPECIFICATION 3.1): each value is at most 16 in size, and the level is crossed
 pub record GoodPrototype (level : Float) (prototype : List Float) : Type 0 where
   pub within : AllWithin16 prototype
   pub crossing : Crosses level prototype
 
--- 9: "working memory not 2,252 f32, a prototype not 1,792 f32" is not so, and the settings have 119 bytes
+-- no cause for 9 (SPECIFICATION 3.1), and the settings have 119 bytes
 abbrev pub LentFits : List ℕ → Lent → Type 0
 LentFits bytes l = Fits (length bytes) (length (l .modeS)) (length (l .modeAC)) (length (l .memory))
 
@@ -61,7 +61,7 @@ BothTaps tapsS tapsAC = GoodTaps (modeSTaps four) tapsS × GoodTaps (modeACTaps 
 abbrev pub BothPrototypes : Float → List Float → List Float → Type 0
 BothPrototypes level tapsS tapsAC = GoodPrototype level (modeSPrototype four tapsS) × GoodPrototype level (modeACPrototype four tapsAC)
 
--- which answer is right: each refusal for its cause, where no earlier one applies, and a run where none does. The level is 0.5 in document 01.
+-- which answer is right: each refusal for its cause, where no earlier one applies, and a run where none does. The level is 0.5 (SPECIFICATION 1.5).
 pub data Answered (level : Float) (tapsS tapsAC : List Float) (bytes : List ℕ) (l : Lent) : Opened → Type 0 where
   refused-9 : (LentFits bytes l → ⊥) → Answered level tapsS tapsAC bytes l (Refused Cause.Lent)
   refused-1-to-4 : {q : Refusal} → LentFits bytes l → Settings.Answered four (settingsOf bytes) (Checked.the-variants.Refused q) → Answered level tapsS tapsAC bytes l (Refused q)

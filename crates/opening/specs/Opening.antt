@@ -1,4 +1,4 @@
--- Document 01's opening of a run: "checks 9 for the memory lent to it, then 1 to 6 in that order; accepted, it fills the prototypes and sets working memory to 0.0". Definitions only.
+-- Opening a run (SPECIFICATION 8.2): its checks in order, and what it fills. Definitions only.
 use Prim.Native.Nat.{ℕ}
 use mathlib.Core.Bool.{Bool, true, false, _&&_, cond}
 use mathlib.Core.List.{List}
@@ -59,20 +59,20 @@ delaysGiven rates total all (accepted a) (accepted b) = Opened.the-variants.Run 
 delaysGiven rates total all (accepted a) (refused refusal) = Opened.the-variants.Refused refusal
 delaysGiven rates total all (refused refusal) b = Opened.the-variants.Refused refusal
 
--- refusal 6, "a prototype value not finite or above 16 in size, or no 0.5 crossing"; or the run's first state
+-- refusal 6 (SPECIFICATION 6.2, 6.3), or the run's first state
 unfoldable pub delaysThen : MessagesPerSecond → ℕ → Distributions → Crossing.Crossing → Crossing.Crossing → Opened.Opened
 delaysThen rates total all modeS modeAC = delaysGiven rates total all (crossingAnswer modeS) (crossingAnswer modeAC)
 
--- 0.5, the level that document 01's prototypes cross
+-- 0.5, the level that prototypes cross (SPECIFICATION 6.3)
 abbrev pub half : Float
 half = ofBits binary32 0x3f00_0000
 
--- the samples per pulse, the level of the prototypes' crossings (0.5 in document 01), and the two lent lowpasses
+-- the samples per pulse, the level of the prototypes' crossings (0.5 in SPECIFICATION 6.3), and the two lowpasses
 module _ (sps : ℕ) (level : Float) (tapsS tapsAC : List Float) where
   unfoldable pub delaysOf : MessagesPerSecond → ℕ → Distributions → Opened.Opened
   delaysOf rates total all = delaysThen rates total all (modeSDelay sps level (modeSPrototype sps tapsS)) (modeACDelay sps level (modeACPrototype sps tapsAC))
 
-  -- refusal 5, "filter list of the wrong length, or a tap not finite or above 16 in size"; then 6
+  -- refusal 5 (SPECIFICATION 4.3), then 6
   unfoldable pub tapsOf : MessagesPerSecond → ℕ → Distributions → Opened.Opened
   tapsOf rates total all = cond (modeSTapsAccepted sps tapsS && modeACTapsAccepted sps tapsAC) (delaysOf rates total all) (Opened.the-variants.Refused Refusal.the-variants.Taps)
 
@@ -99,7 +99,7 @@ unfoldable pub isRun : Opened.Opened → Bool
 isRun (Opened.the-variants.Run state) = true
 isRun (Opened.the-variants.Refused refusal) = false
 
--- what opening leaves: "accepted, it fills the prototypes and sets working memory to 0.0"; "a refusal changes neither state nor any lent buffer"
+-- what opening leaves (SPECIFICATION 8.2): a refusal changes no buffer
 unfoldable pub leftBy : ℕ → List Float → List Float → Opened.Opened → Lent → Lent
 leftBy sps tapsS tapsAC (Opened.the-variants.Run state) lent =
     record { modeS = modeSPrototype sps tapsS; modeAC = modeACPrototype sps tapsAC; memory = zeros (workingMemory sps) }

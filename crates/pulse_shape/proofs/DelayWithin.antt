@@ -1,4 +1,4 @@
--- A delay lies within its prototype: where values of at most 16 in size cross a positive level, the delay is finite, at least 0 and below 7 * sps samples, which is 28 at document 01's rate.
+-- A delay lies within its prototype: where values of at most 16 in size cross a positive level, the delay is finite, at least 0 and below 7 * sps samples, which is 28 at 4 samples per pulse.
 -- The quotient is of a smaller difference by a larger one, and rounding keeps order. Assumes nothing.
 use mathlib.Core.Path.{_≡_, refl, sym, ap, _∙_, subst}
 use Prim.Native.Nat.{ℕ, zero, suc, _+_, _-_, _*_, _/_, _^_, _≤_, _<_, zero-le}
@@ -280,7 +280,7 @@ delay-most sps level p d S few FL z H w h e =
     none : (n : ℕ) → 0 + n ≡ n
     none n = omega arith
 
--- at document 01's rate: at least 0, and below 28 samples
+-- at 4 samples per pulse: at least 0, and below 28 samples
 pub delay-within : (level : Float) (p : List Float) (d : Float) → T (fits binary32 level) → T (lt zeroF level) → Held p → allWithin16 p ≡ true → length p ≤ 1792 → groupDelay four level p ≡ At d → T (le zeroF d) × T (lt d (fin false 7 (pos 2)))
 delay-within level p d FL z H w h e =
     let r = delay-most four level p d (lit< tt) (lit≤ tt) FL z H w h e in

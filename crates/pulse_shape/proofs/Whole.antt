@@ -33,7 +33,7 @@ length-mode-ac : (sps : ℕ) → length (modeACTrapezoid sps) ≡ modeACPulse sp
 unfolding modeACTrapezoid
 length-mode-ac sps = length-values _ (modeACPulse sps) 0
 
--- at document 01's rate: 307 and 1,486 values, 278 and 1,515
+-- at 4 samples per pulse: 307 and 1,486 values, 278 and 1,515
 pub mode-s-whole : (lowpass : List Float) → length lowpass ≡ modeSTaps four → modeSPrototype four lowpass ≡ convolveFull (modeSTrapezoid four) lowpass
 mode-s-whole lowpass e = prototype-whole four (modeSTrapezoid four) lowpass (rw (length-mode-s four, e))
 

@@ -1,4 +1,4 @@
--- A Mode A/C pulse stands at a place exactly where document 01 says: at 0 and 42, at 51 for SPI, at the place of each bit that is set, and nowhere else.
+-- A Mode A/C pulse stands at a place exactly where SPECIFICATION 7.7 says: at 0 and 42, at 51 for SPI, at the place of each bit that is set, and nowhere else.
 -- Of `placeOf` only this is used: it rises, and lies between 0 and 42. Assumes nothing.
 use mathlib.Core.Path.{_≡_, refl, sym, ap, _∙_}
 use mathlib.Core.Bool.{Bool, true, false}

@@ -1,4 +1,4 @@
--- A Mode S pulse stands at a place exactly where document 01 says: 0, 2, 7, 9; of the pair of each bit, at its first place for 1 and at its second for 0;
+-- A Mode S pulse stands at a place exactly where SPECIFICATION 7.6 says: 0, 2, 7, 9; of the pair of each bit, at its first place for 1 and at its second for 0;
 -- and nowhere beyond the message. Assumes nothing.
 use mathlib.Core.Path.{_≡_, refl, sym, ap, _∙_}
 use mathlib.Core.Bool.{Bool, true, false}

@@ -1,4 +1,4 @@
--- Document 01's record: "Record, 66 bytes: time, cn0, offset, phase, e, f64 each; first sample u64; type u8; count of samples u16; message length u8; 14 bytes, zero filled". Definitions only.
+-- A record's 66 bytes (SPECIFICATION 4.5). Definitions only.
 use Prim.Native.Nat.{ℕ}
 use mathlib.Core.Bool.{cond}
 use mathlib.Core.List.{List, [], _∷_, _++_}
@@ -22,11 +22,11 @@ messageLength ModeAc = 2
 unfoldable pub f64Bytes : Float → List ℕ
 f64Bytes x = bytesOf 8 (toBits binary64 x)
 
--- "time, cn0, offset, phase, e, f64 each"
+-- offsets 0 to 39 (SPECIFICATION 4.5): time, CN0, offset, phase and clock error
 unfoldable pub floatBytes : MessageConfig → List ℕ
 floatBytes c = f64Bytes (c .time) ++ f64Bytes (c .cn0) ++ f64Bytes (c .offset) ++ f64Bytes (c .phase) ++ f64Bytes (c .error)
 
--- "first sample u64; type u8; count of samples u16; message length u8; 14 bytes, zero filled"
+-- offsets 40 to 65 (SPECIFICATION 4.5): first sample, type, count, message length and message
 unfoldable pub otherBytes : Reply → ℕ → ℕ → ℕ → List ℕ
 otherBytes reply first type count = bytesOf 8 first ++ (type ∷ []) ++ bytesOf 2 count ++ (messageLength (reply .kind) ∷ []) ++ reply .bytes
 

@@ -1,4 +1,4 @@
--- Document 01's table of refusals: what is returned for each cause, a number and its values. Definitions only.
+-- The table of refusals (SPECIFICATION 3.1): what is returned for each cause, a number and its values. Definitions only.
 use Prim.Native.Nat.{ℕ}
 use mathlib.Core.List.{List, [], _∷_}
 use Rattle.refusals.specs.declared.Refusal.{Refusal}

@@ -1,4 +1,4 @@
-// The refusals of opening a run and of run calls. specs/ gives document 01's number and values for each. Assumes nothing.
+// The refusals of opening a run and of run calls. specs/ gives the number and values of SPECIFICATION 3.1 for each. Assumes nothing.
 ghost use mathlib.Core.Path.{_≡_};
 ghost use Rattle.refusals.specs.Number.{numberOf};
 
@@ -23,7 +23,7 @@ pub enum Refusal {
     Lent,
 }
 
-// Document 01's number.
+// The number (SPECIFICATION 3.1).
 pub fn number(r: Refusal) -> u64
     ensures { λ n. ⌜ n ≡ numberOf r ⌝ }
 {

@@ -12,7 +12,7 @@ use Rattle.pulses.specs.ModeS.{modeSPulses}
 use Rattle.pulses.specs.ModeAC.{modeACPulses}
 use Rattle.pulse_length.specs.Length.{modeSNumSamples, modeACNumSamples}
 
--- "Mode A/C is 2 bytes, low first, SPI as bit 12"
+-- Mode A/C is 2 bytes (SPECIFICATION 7.3): low first, SPI as bit 12
 unfoldable pub dataOf : List ℕ → ℕ
 dataOf bytes = getD bytes 0 0 + getD bytes 1 0 % 16 * 256
 

@@ -41,6 +41,6 @@ prototypeOf ModeAc modeS modeAC = modeAC
 unfoldable pub replySamples : ℕ → List Float → List Float → Delays → Float → MessageConfig → List Sample
 replySamples sps modeS modeAC delays amplitude c = samplesBy sps (prototypeOf (c .reply .kind) modeS modeAC) delays amplitude c
 
--- how many they are: document 01's count of a reply
+-- how many they are: the count of a reply (SPECIFICATION 6.8)
 unfoldable pub replyCount : ℕ → Delays → MessageConfig → ℕ
 replyCount sps delays c = sampleCount sps (length (placesOf (c .reply))) (configClockPhase delays c) (configClockError c)

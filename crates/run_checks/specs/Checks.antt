@@ -17,11 +17,11 @@ use Rattle.draw.specs.Config.{timeAfter}
 use Rattle.draw.specs.declared.Fault as Fault
 use Rattle.generator.specs.Real.{real}
 
--- Refusal 9 of what opening was lent: "working memory not 2,252 f32, a prototype not 1,792 f32"
+-- Refusal 9 (SPECIFICATION 3.1) of opening's buffers
 abbrev pub wrongMemory : ℕ → ℕ → ℕ → Bool
 wrongMemory memory modeS modeAC = not (eqb memory (workingMemory four)) || not (eqb modeS (prototypeLength four)) || not (eqb modeAC (prototypeLength four))
 
--- and of the buffers: "output empty or of odd length, .. or draw bytes no multiple of 65"
+-- and of a run call's own: output empty or of odd length, or draw bytes no multiple of 65
 abbrev pub wrongBuffers : ℕ → ℕ → Bool
 wrongBuffers output draws = eqb output 0 || not (eqb (output % 2) 0) || not (eqb (draws % 65) 0)
 

@@ -13,7 +13,7 @@ fn is_run(answer: Opened) -> bool
     }
 }
 
-// Opens a run, as document 01 has it.
+// Opens a run (SPECIFICATION 8).
 pub fn open(
     settings: &[u8],
     taps_s: &[f32],

@@ -1,4 +1,4 @@
--- A run call, refused or not: its checks in document 01's order, and what it answers and leaves, by the mirror of its turns (`Ended`). Definitions only.
+-- A run call, refused or not: its checks in the order of SPECIFICATION 3.2, and what it answers and leaves, by the mirror of its turns (`Ended`). Definitions only.
 use Prim.Native.Nat.{ℕ}
 use mathlib.Core.Bool.{cond}
 use mathlib.Core.List.{List}
@@ -29,7 +29,7 @@ runBy s memory output records left none = left
 runBy s memory output records left (some q) = record { ran = refusedBy s (refusalGiven q); memory = memory; output = output; records = records }
 
 module _ (s : State) (modeS modeAC memory : List Float) (draws : List ℕ) (noise output : List Float) (records : List ℕ) where
-  -- "A run call checks 9, then every lent draw, then every lent noise value"
+  -- 9, then every draw, then every noise value (SPECIFICATION 3.2)
   abbrev pub callRefusal : Option Bench.Refusal
   callRefusal =
       cond (wrongMemory (length memory) (length modeS) (length modeAC)) (some Bench.wrongLength)

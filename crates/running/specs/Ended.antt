@@ -20,7 +20,7 @@ stopGiven Bench.wantsNoise = Stop.the-variants.WantsNoise
 stopGiven Bench.wantsDraws = Stop.the-variants.WantsDraws
 stopGiven Bench.recordsFull = Stop.the-variants.RecordsFull
 
--- the code's stops, numbered in the order of document 01's steps, as the plain bench's are
+-- the code's stops, numbered as in SPECIFICATION 9.2, as the plain bench's are
 unfoldable pub stopNumber : Stop.Stop → ℕ
 stopNumber Stop.the-variants.Done = 0
 stopNumber Stop.the-variants.OutputFull = 1

@@ -174,7 +174,7 @@ start-fits : (phase : Float) → T (fits binary64 (startClock four phase .phase)
 unfolding startClock
 start-fits phase = div-fits binary64 phase _
 
--- at document 01's rate
+-- at 4 samples per pulse
 pub values-sized : (p : List Float) → length p ≡ prototypeLength four → allWithin16 p ≡ true → (pulses : List Bool) (phase e : Float) → InRange phase e → Each (AtMost 336) (applyFilterbank four p pulses phase e)
 unfolding applyFilterbank valueAt
 values-sized p whole w pulses phase e r =

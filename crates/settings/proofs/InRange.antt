@@ -1,4 +1,4 @@
--- Accepted settings give at most 2^52 samples and distributions in document 01's ranges (`accepted-in-range`); a constant phase, wrapped, lies from -PI to PI. Assumes nothing.
+-- Accepted settings give at most 2^52 samples and distributions in the ranges of SPECIFICATION 4.2 (`accepted-in-range`); a constant phase, wrapped, lies from -PI to PI. Assumes nothing.
 use Prim.Native.Nat.{ℕ, zero, suc, _≤_}
 use mathlib.Core.Path.{_≡_, refl, sym, subst}
 use mathlib.Core.Bool.{Bool, true, false, _&&_, cond}
@@ -34,7 +34,7 @@ use Rattle.settings.proofs.FirstCause.{answered, lasts-for}
 abbrev pub Held : Float → Type 0
 Held x = T (fits binary64 x)
 
--- "the value at most 4,000,000 in size, max 0 to 4,000,000, sigma finite and not negative"
+-- distribution 0 (SPECIFICATION 4.2): the value at most 4,000,000 in size, max from 0 to 4,000,000, sigma finite and not negative
 abbrev pub OffsetInRange : ℕ → Offset.CarrierOffset → Type 0
 OffsetInRange sps (Offset.the-variants.Constant x) = Held x × T (within x (offsetLimit sps))
 OffsetInRange sps (Offset.the-variants.ClampedNormal sigma max) = Held sigma × Held max × T (finiteNotNegative sigma) × T (upTo max (offsetLimit sps))
@@ -44,7 +44,7 @@ abbrev pub PhaseInRange : Phase.CarrierPhase → Type 0
 PhaseInRange (Phase.the-variants.Constant x) = Within x piUnits
 PhaseInRange Phase.the-variants.Uniform = T true
 
--- "constant within 0.1 in size, 1 uniform with a max of 0 to 0.1"
+-- distribution 2 (SPECIFICATION 4.2): constant within 0.1 in size, or uniform with a max from 0 to 0.1
 abbrev pub ClockInRange : Clock.ClockError → Type 0
 ClockInRange (Clock.the-variants.Constant e) = Held e × T (within e tenth)
 ClockInRange (Clock.the-variants.Uniform max) = Held max × T (upTo max tenth)

@@ -1,4 +1,4 @@
--- Document 01's refusals 1 to 4 of settings, in that order, or what is accepted: the run's samples and its distributions. Definitions only.
+-- Refusals 1 to 4 of settings, in that order (SPECIFICATION 3.2), or what is accepted: the run's samples and its distributions. Definitions only.
 use Prim.Native.Nat.{ℕ, suc}
 use mathlib.Core.Bool.{Bool, _&&_, cond}
 use mathlib.Core.List.{List, [], _∷_}

@@ -1,4 +1,4 @@
--- Document 01's settings, read from their 119 bytes: "seconds u64; nanoseconds u32; seven f64 rates in `MessageType::ALL` order; three distributions, each a kind byte and two f64". Definitions only.
+-- Settings, read from their 119 bytes (SPECIFICATION 4.1). Definitions only.
 use Prim.Native.Nat.{ℕ, _+_}
 use mathlib.Core.List.{List, [], _∷_}
 use lib.ListN.{getD}

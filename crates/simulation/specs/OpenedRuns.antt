@@ -1,4 +1,4 @@
--- Demand 3 of document 01, hypothesis and claim in one statement: `OpenedRuns`, at the end of this file. If opening answers a run, then (a) to (e) hold of every list of run calls on it, refused calls among them, with any draws, noise and buffers;
+-- Demand 3 (SPECIFICATION 2.3), hypothesis and claim in one statement: `OpenedRuns`, at the end of this file. If opening answers a run, then (a) to (e) hold of every list of run calls on it, refused calls among them, with any draws, noise and buffers;
 -- the state that comes back is the plain bench's, and every number written is finite. Definitions only.
 use Prim.Native.Nat.{ℕ, _*_}
 use mathlib.Core.Bool.{true, false}

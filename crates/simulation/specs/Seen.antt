@@ -1,4 +1,4 @@
--- What a caller sees of a run call: its counts, its answer in document 01's numbers, and the two buffers after it; as the contract of `run` has it, and as the plain bench has it. Definitions only.
+-- What a caller sees of a run call: its counts, its answer in the specification's numbers, and the two buffers after it; as the contract of `run` has it, and as the plain bench has it. Definitions only.
 use Prim.Native.Nat.{ℕ}
 use mathlib.Core.List.{List, _∷_}
 use lib.Ieee.{Float}
@@ -10,7 +10,7 @@ use Rattle.running.specs.declared.Answer as Answer
 use Rattle.running.specs.Generated.{genOf}
 use Rattle.running.specs.Ended.{stopNumber, Left}
 
--- an answer: a stop, numbered in the order of document 01's steps; or a refusal's number and values
+-- an answer: a stop, numbered in the order of the specification's steps; or a refusal's number and values
 pub data Numbered : Type 0 where
   stopped : ℕ → Numbered
   refused : List ℕ → Numbered

@@ -63,7 +63,7 @@ module _ (tape : List ℕ) where
     pub begun-within : (b : Begun) (s : State) (n count : ℕ) → b ≡ headOf four tape lent → b .head ≡ Beginning.the-variants.Run s n count → (n ≤ 400) × (12139 + 65 * n ≤ length tape)
     begun-within b s n count e f = head-within s n count (sym (ap (λ (x : Begun). x .head) e) ∙ f)
 
-    -- "a refusal changes neither state nor any lent buffer"
+    -- a refusal leaves every buffer as it was (SPECIFICATION 3.3)
     pub refused-leaves : (b : Begun) (k : ℕ) → b ≡ headOf four tape lent → b .head ≡ Beginning.the-variants.Refused k → b .left ≡ lent
     unfolding headOf leftThen
     refused-leaves b k e f = ap (λ (x : Begun). x .left) e ∙ ap (leftThen four tape lent) (sym (ap (λ (x : Begun). x .head) e) ∙ f)

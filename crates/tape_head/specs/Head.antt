@@ -1,4 +1,4 @@
--- Document 01's tape up to its noise: "Four sections in this order, each after its 32-bit count". "Faults are met in tape order: each section's count and length before its values." Definitions only.
+-- A tape up to its noise (SPECIFICATION 4.6), its faults in the order of SPECIFICATION 11.2. Definitions only.
 use Prim.Native.Nat.{ℕ, _+_, _*_}
 use mathlib.Core.Bool.{Bool, true, false}
 use mathlib.Core.List.{List}
@@ -21,7 +21,7 @@ use Rattle.tape_sections.specs.Sections.{mostDraws, tapsPlace, tapsCount, draws
 use Rattle.tape_head.specs.declared.Early as Early
 use Rattle.tape_head.specs.declared.Beginning as Beginning
 
--- "tape short, a wrong section count, over 400 draws, ..": refusal 11
+-- refusal 11 (SPECIFICATION 11.2)
 abbrev pub tapeFault : Beginning.Beginning
 tapeFault = Beginning.the-variants.Refused 11
 
@@ -35,7 +35,7 @@ module _ (sps : ℕ) (tape : List ℕ) where
   faultThen s n Fault.the-variants.Clean = noiseThen s n
   faultThen s n (Fault.the-variants.At k field) = Beginning.the-variants.Refused 7
 
-  -- the draws, "65 bytes" each
+  -- the draws, 65 bytes each (SPECIFICATION 4.4)
   unfoldable pub drawsThen : State → Counted.Counted → Beginning.Beginning
   drawsThen s (Counted.the-variants.Of n) = faultThen s n (firstFault (s .rates) (s .distributions) (take (65 * n) (drop (drawsPlace sps + 4) tape)))
   drawsThen s Counted.the-variants.Wrong = tapeFault
@@ -45,7 +45,7 @@ module _ (sps : ℕ) (tape : List ℕ) where
   openedThen (Opened.the-variants.Run s) = drawsThen s (sectionAt tape (drawsPlace sps) 0 mostDraws 65)
   openedThen (Opened.the-variants.Refused refusal) = Beginning.the-variants.Refused (numberOf refusal)
 
-  -- "Taps, count 3,001 f32: Mode S, then Mode A/C"
+  -- the taps (SPECIFICATION 4.6): Mode S, then Mode A/C
   unfoldable pub taps : List Float
   taps = floatsOf (tapsCount sps) (drop (tapsPlace + 4) tape)
 
@@ -95,7 +95,7 @@ module _ (sps : ℕ) (tape : List ℕ) (lent : Lent) where
   earlyThen Early.the-variants.Passed = openedThen sps tape (openedFrom sps tape lent)
   earlyThen (Early.the-variants.Refused number) = Beginning.the-variants.Refused number
 
-  -- a run leaves what opening does; "a refusal changes neither state nor any lent buffer"
+  -- a run leaves what opening does; a refusal leaves every buffer as it was (SPECIFICATION 3.3)
   unfoldable pub leftThen : Beginning.Beginning → Lent
   leftThen (Beginning.the-variants.Run s n count) = leftBy sps (tapsS sps tape) (tapsAC sps tape) (Opened.the-variants.Run s) lent
   leftThen (Beginning.the-variants.Refused number) = lent

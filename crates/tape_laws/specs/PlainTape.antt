@@ -45,7 +45,7 @@ module _ (G : Generator) where
   unfoldable pub plainDone : List Draw → List Value → Bool
   plainDone ds noise = ended G t0 ds && leb total (length (pairs noise))
 
-  -- "noise value by value to the last, used or not; then a run not Done, then bytes left over": 8, 11, or 0 for no refusal
+  -- faults 8 to 10 of SPECIFICATION 11.2: 8, 11, or 0 for no refusal
   unfoldable pub plainVerdict : Bool → List Draw → List Value → ℕ
   plainVerdict left ds noise = cond (loudIn noise) 8 (cond (plainDone ds noise) (cond left 11 0) 11)
 

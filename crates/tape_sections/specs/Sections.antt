@@ -1,4 +1,4 @@
--- Document 01's tape: "Four sections in this order, each after its 32-bit count". Where the counts stand, when a section is right, and what stands before the noise. Definitions only.
+-- The four sections of a tape (SPECIFICATION 4.6): where the counts stand, when a section is right, and what stands before the noise. Definitions only.
 use Prim.Native.Nat.{ℕ, _+_, _*_}
 use mathlib.Core.Bool.{cond, _&&_}
 use mathlib.Core.List.{List}
@@ -8,7 +8,7 @@ use Rattle.constants.specs.Rate.{modeSTaps, modeACTaps}
 use Rattle.le_bytes.specs.LeBytes.{readAt}
 use Rattle.tape_sections.specs.declared.Counted as Counted
 
--- "over 400 draws"
+-- the most draws of a tape (SPECIFICATION 4.6)
 abbrev pub mostDraws : ℕ
 mostDraws = 400
 

@@ -1,4 +1,4 @@
--- What document 01's tape program prints: "a header, a line per record and the samples written"; "a refusal prints only `refused` and its number". Text is a list of ASCII codes. Definitions only.
+-- What the tape program prints (SPECIFICATION 11.1). Text is a list of ASCII codes. Definitions only.
 use Prim.Native.Nat.{ℕ, zero, suc, _+_, _/_, _%_, min}
 use mathlib.Core.Bool.{cond}
 use mathlib.Core.Path.{_≡_}
@@ -29,7 +29,7 @@ unfoldable pub hex : List ℕ → List ℕ
 hex [] = []
 hex (b ∷ bs) = hexDigit (b / 16) ∷ hexDigit (b % 16) ∷ hex bs
 
--- "Message in hexadecimal, Mode A/C as four digits of the u16": its bytes as they are printed, of a record of 66 bytes, which ends in "message length u8; 14 bytes, zero filled"
+-- the bytes of a record's message in the order in which they are printed (SPECIFICATION 11.1): Mode A/C high byte first
 unfoldable pub messageOf : List ℕ → List ℕ
 messageOf r = cond (eqb (getD r 48 0) 6) (getD r 53 0 ∷ getD r 52 0 ∷ []) (take (getD r 51 0) (take 14 (drop 52 r)))
 
@@ -37,7 +37,7 @@ messageOf r = cond (eqb (getD r 48 0) 6) (getD r 53 0 ∷ getD r 52 0 ∷ []) (t
 unfoldable pub hexLine : List ℕ → List ℕ
 hexLine bytes = hex bytes ++ (10 ∷ [])
 
--- "first type count message", with spaces between
+-- first sample, type, count and message, with spaces between (SPECIFICATION 11.1)
 unfoldable pub lineOf : List ℕ → List ℕ
 lineOf r = number (leAt 8 r 40) 32 ++ number (getD r 48 0) 32 ++ number (leAt 2 r 49) 32 ++ hexLine (messageOf r)
 

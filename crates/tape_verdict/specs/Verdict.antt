@@ -13,7 +13,7 @@ use Rattle.tape_verdict.specs.declared.Outcome as Outcome
 unfoldable pub startOf : State → Feed
 startOf s = record { state = s; taken = 0; records = 0; answer = Answer.the-variants.Stopped Stop.the-variants.WantsNoise }
 
--- the verdict on a tape whose noise is read: a refusal's number, or 0. "noise value by value to the last, used or not; then a run not Done, then bytes left over"; and a section's length before its values
+-- the verdict on a tape whose noise is read (SPECIFICATION 11.2, faults 7 to 10): a refusal's number, or 0
 unfoldable pub stopThen : Bool → Stop.Stop → ℕ
 stopThen over Stop.the-variants.Done = cond over 11 0
 stopThen over Stop.the-variants.OutputFull = 11

@@ -1,4 +1,4 @@
-//! The crate `math`: the wraps against the reference's, sine and cosine against document 01's steps.
+//! The crate `math`: the wraps against the reference's, sine and cosine against the steps of SPECIFICATION 6.11.
 
 use crate::random::Random;
 use crate::tally::{Tally, pattern64};

@@ -1,4 +1,4 @@
-//! What is lent to the reference in place of chance: the taps, the draws and the noise of one tape, and document 01's
+//! What is lent to the reference in place of chance: the taps, the draws and the noise of one tape, and the specification's
 //! sine. The other stand-ins ask here. One run at a time in each thread.
 
 use std::cell::{Cell, RefCell};
@@ -58,7 +58,7 @@ pub fn lend(draws: &[Draw], noise: &[f32]) {
     USED.set(0);
 }
 
-/// Makes the reference use its own `sin_cos` (true) or document 01's steps (false).
+/// Makes the reference use its own `sin_cos` (true) or the steps of SPECIFICATION 6.11 (false).
 pub fn use_original_sine(on: bool) {
     ORIGINAL_SINE.set(on);
 }
@@ -127,12 +127,12 @@ pub fn sin_cos(p: f64) -> (f64, f64) {
     if ORIGINAL_SINE.get() { original } else { steps }
 }
 
-/// The largest distance of document 01's sine or cosine from the original's, over all samples that were made.
+/// The largest distance of the sine or cosine of SPECIFICATION 6.11 from the original's, over all samples that were made.
 pub fn largest_distance() -> f64 {
     LARGEST_DISTANCE.get()
 }
 
-/// Document 01's sine and cosine of p.
+/// The sine and cosine of p by SPECIFICATION 6.11.
 pub fn sin_cos_by_steps(p: f64) -> (f64, f64) {
     use std::f64::consts::PI;
     const H: f64 = PI / 2.0;
