@@ -1,4 +1,4 @@
--- Every line of the table of bench checks holds: the definitions give what SPECIFICATION 12 says. Assumes nothing.
+-- Every line of the table of bench checks holds: the definitions give what SPECIFICATION 12 says.
 use mathlib.Core.Path.{_≡_, refl, ap, ap₂}
 use mathlib.Core.Bool.{false, cond}
 use mathlib.Core.List.{List, [], _∷_, _++_}

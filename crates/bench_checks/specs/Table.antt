@@ -1,4 +1,4 @@
--- The bench checks marked P in SPECIFICATION 12: what the definitions give, beside what it says. Definitions only.
+-- The bench checks marked P in SPECIFICATION 12: what the definitions give, beside what it says.
 use Prim.Native.Nat.{ℕ, _+_, _*_, _^_}
 use mathlib.Core.Bool.{Bool, true, false}
 use mathlib.Core.List.{List, [], _∷_, _++_}

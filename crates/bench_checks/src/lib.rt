@@ -1,1 +1,1 @@
-// The bench checks marked P in SPECIFICATION 12, as one table about the definitions: see specs/ and proofs/. Assumes nothing.
+// The bench checks marked P in SPECIFICATION 12, as one table about the definitions: see specs/ and proofs/.

@@ -1,5 +1,5 @@
 // Reads and writes of le_bytes and le_floats, held to Rust's from_le_bytes and to_le_bytes.
-// `harness vectors` (differential/) makes the bytes of `stdin` and, by Rust's own functions, the lines of `stdout`. Assumes nothing.
+// `harness vectors` (differential/) makes the bytes of `stdin` and, by Rust's own functions, the lines of `stdout`.
 ghost use Prim.Native.Nat.{_≤_};
 ghost use lib.ListN.{length};
 use le_bytes::ReadU16;

@@ -1,5 +1,4 @@
 -- Due samples written at once: n of them are n of the steps of SPECIFICATION 9.4, by `drain-many` after the end draw and `due-many` before a draw; and a batch cut in two.
--- Assumes nothing.
 use mathlib.Core.Bool.{Bool, true, false, cond}
 use mathlib.Core.List.{List, [], _∷_, _++_}
 use mathlib.Core.Path.{_≡_, refl, sym, ap, _∙_}

@@ -1,5 +1,4 @@
 -- The call as the code goes, on flat buffers, due samples at once, with a bound on its turns: `batched-result` and `batched-state` show it to be the call step by step, and the bound to be enough.
--- Assumes nothing.
 use mathlib.Core.List.{List}
 use mathlib.Core.Option.{none}
 use mathlib.Core.Path.{_≡_, refl, sym, ap, _∙_}

@@ -1,5 +1,4 @@
 -- What a call's steps use up of what is lent: the counts of an answer are those of the draws taken, noise used, samples and records.
--- Assumes nothing.
 use mathlib.Core.List.{List, [], _∷_, _++_, append-nil, append-assoc}
 use mathlib.Core.Option.{Option}
 use mathlib.Core.Path.{_≡_, refl, sym, ap, _∙_}

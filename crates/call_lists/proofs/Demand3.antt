@@ -1,5 +1,4 @@
 -- Demand 3 holds of the machine, by `demand3` at the end of this file: its calls keep step with the plain bench's, refused ones too. So does its state (`matched`).
--- Assumes nothing.
 use mathlib.Core.Bool.{Bool, true, false, _||_, false≢true}
 use mathlib.Core.List.{List, [], _∷_, _++_, map, map-append, append-nil, append-assoc}
 use mathlib.Core.Option.{Option, none, some}

@@ -1,5 +1,4 @@
 -- The fuel of a call is enough: the loops go on until a step stops them.
--- Assumes nothing.
 use mathlib.Core.List.{[], _∷_, _++_}
 use mathlib.Core.Path.{_≡_, refl, ap}
 use Prim.Native.Nat.{ℕ, zero, suc, _+_, _≤_, _<_}

@@ -1,5 +1,4 @@
 -- What sums keep, every number written has: a property of 0.0 that each value which a reply adds, and each noise value that is not refused, leaves to a sum, is one of every sample that a list of run calls writes (`every-sample`).
--- Assumes nothing.
 use mathlib.Core.Bool.{Bool, true, false, cond}
 use mathlib.Core.List.{List, [], _∷_, _++_}
 use mathlib.Core.Option.{Option, none, some}

@@ -1,5 +1,4 @@
 -- Flat lists, as they are lent: pairs, joins, draws cut from bytes, and buffers with something written at their start.
--- Assumes nothing.
 use mathlib.Core.List.{List, [], _∷_, _++_, append-assoc}
 use mathlib.Core.Path.{_≡_, refl, sym, ap, _∙_}
 use Prim.Native.Nat.{ℕ, zero, suc, _+_, _-_, _*_, _/_, _≤_, _<_}

@@ -1,5 +1,4 @@
 -- A call's loop on the machine keeps step with the bench's, and writes what the plain run has new.
--- Assumes nothing.
 use mathlib.Core.Bool.{true}
 use mathlib.Core.List.{List, [], _∷_, _++_, append-nil, append-assoc}
 use mathlib.Core.Option.{Option}

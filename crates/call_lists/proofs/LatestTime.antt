@@ -1,5 +1,4 @@
 -- The machine's latest time is the bench's, with the first time for none: no time is before it, and no other is as early. So both refuse alike and move alike.
--- Assumes nothing.
 use mathlib.Core.Bool.{Bool, true, false, cond}
 use mathlib.Core.List.{List, [], _∷_}
 use mathlib.Core.Option.{Option, none, some}

@@ -1,5 +1,4 @@
 -- Demand 3 (SPECIFICATION 2.3) in terms of any generator: what is shown here of every list of calls, as a record `Demand3`. What callers are promised is `OpenedRuns` of `simulation`, over the calls of the code.
--- Definitions only.
 use mathlib.Core.Bool.{Bool, true, false, _||_}
 use mathlib.Core.List.{List, [], _∷_, _++_}
 use mathlib.Core.Option.{none}

@@ -1,5 +1,4 @@
 -- Facts of the plain run: what one more draw, and more noise, do to it.
--- Assumes nothing.
 use mathlib.Core.Bool.{true, false, true≢false, false≢true}
 use mathlib.Core.List.{List, [], _∷_, _++_}
 use mathlib.Core.Path.{_≡_, refl, ap, _∙_}

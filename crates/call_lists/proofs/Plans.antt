@@ -1,5 +1,5 @@
 -- What the code chooses to do at each turn: a stop, so many samples at once, or a draw. `plan-right`: doing so leaves what the rest of the call comes to;
--- `plan-says`: what a plan tells of the buffers, so that the code may do it. Assumes nothing.
+-- `plan-says`: what a plan tells of the buffers, so that the code may do it.
 use mathlib.Core.Bool.{Bool, true, false, cond}
 use mathlib.Core.List.{List}
 use mathlib.Core.Path.{_≡_, refl}

@@ -1,5 +1,4 @@
 -- No reply of a run on draws in range adds before its first sample, nor to more than `limit`.
--- Assumes nothing.
 use mathlib.Core.List.{List, [], _∷_}
 use mathlib.Core.Path.{_≡_, refl}
 use Prim.Native.Nat.{ℕ, _≤_}

@@ -1,5 +1,4 @@
 -- What holds of a bench that calls made: draws that it does not refuse start at or after the samples written, and every reply taken ends within the window.
--- Assumes nothing.
 use mathlib.Core.Bool.{Bool, true, false, cond, true≢false}
 use mathlib.Core.List.{List, [], _∷_, _++_, map, map-append}
 use mathlib.Core.Option.{Option, none, some}

@@ -1,5 +1,4 @@
 -- A run call is refused with a number exactly where the cause of that number is the first: `refused-for` and `refused-if`, at the end.
--- Assumes nothing.
 use mathlib.Core.Bool.{Bool, true, false, cond}
 use mathlib.Core.List.{List, [], _∷_}
 use mathlib.Core.Logic.{_⊎_, inl, inr}

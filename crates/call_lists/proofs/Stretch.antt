@@ -1,5 +1,5 @@
 -- Working memory as flat numbers: a reply added place by place, and a stretch that does not wrap: what samples written from it are, and what is left of it.
--- A tight loop over numbers can state its contract by `mixed` and `replicate`. Assumes nothing.
+-- A tight loop over numbers can state its contract by `mixed` and `replicate`.
 use mathlib.Core.Bool.{Bool, true, false, cond}
 use mathlib.Core.List.{List, [], _∷_, _++_, append-assoc}
 use mathlib.Core.Path.{_≡_, refl, sym, ap, _∙_}

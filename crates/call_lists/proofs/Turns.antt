@@ -1,4 +1,4 @@
--- A call turn by turn, as the code goes: each turn of the code's loop leaves `restOf`, what the rest of the call comes to, as it is. No law of the generator is used but the length of a record. Assumes nothing.
+-- A call turn by turn, as the code goes: each turn of the code's loop leaves `restOf`, what the rest of the call comes to, as it is. No law of the generator is used but the length of a record.
 use mathlib.Core.Bool.{Bool, true, false, cond}
 use mathlib.Core.List.{List, [], _∷_, _++_}
 use mathlib.Core.Option.{none}

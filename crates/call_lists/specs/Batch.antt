@@ -1,4 +1,4 @@
--- A model of the code, and not the specification's words: samples that are due, written at once, and working memory after them. Definitions only.
+-- A model of the code, and not the specification's words: samples that are due, written at once, and working memory after them.
 use mathlib.Core.List.{List, [], _∷_}
 use Prim.Native.Nat.{ℕ, zero, suc, _%_}
 use Rattle.call_lists.specs.Generator.{Generator, Sample, NoisePair, silence, noisy}

@@ -1,4 +1,4 @@
--- A model of the code, and not the specification's words: a lent buffer with something written at a place. Definitions only.
+-- A model of the code, and not the specification's words: a lent buffer with something written at a place.
 use mathlib.Core.List.{List, _++_}
 use Prim.Native.Nat.{ℕ, _+_}
 use lib.ListN.{length, take, drop}

@@ -1,5 +1,4 @@
 -- What demand 3 of the specification speaks of: a first part of a list, the plain run as the flat lists that calls write, the plain bench after calls, and how far a reply reaches.
--- Assumes nothing.
 use mathlib.Core.List.{List, _++_}
 use mathlib.Core.Path.{_≡_}
 use Prim.Native.Nat.{ℕ, _+_, _≤_, _<_}

@@ -1,4 +1,4 @@
--- Every entry of a list has a property. Assumes nothing.
+-- Every entry of a list has a property.
 use mathlib.Core.List.{List, [], _∷_}
 
 abbrev pub Each : {X : Type 0} → (X → Type 0) → List X → Type 0

@@ -1,5 +1,5 @@
 -- What the settings and filters of a run fix: the numbers of samples and noise, draws, times, starts, what a reply adds, records, and what is out of range.
--- Everything above is said over one such record, so that it holds at each rate. Assumes nothing.
+-- Everything above is said over one such record, so that it holds at each rate.
 use mathlib.Core.Bool.{Bool}
 use mathlib.Core.List.{List}
 use mathlib.Core.Option.{Option}

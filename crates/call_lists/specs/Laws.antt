@@ -1,5 +1,5 @@
 -- What is asked of a generator for demand 3: order of times, hold-back, count bound, length of a record.
--- Each is to be proved of the generator at hand. Assumes nothing.
+-- Each is to be proved of the generator at hand.
 use mathlib.Core.Bool.{false}
 use mathlib.Core.List.{List, [], _∷_}
 use mathlib.Core.Option.{Option, none, some}

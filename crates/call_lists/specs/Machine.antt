@@ -1,5 +1,5 @@
 -- A model of the code, and not the specification's words: a run call on working memory of limit + hold samples as a flat list used as a ring, a count of samples written, the time, the end and the latest time.
--- From an opened run it comes to the plain bench (proofs/Demand3); it is defined on any state. Its fuel is enough (proofs/EnoughFuel, `machine-enough`). Definitions only.
+-- From an opened run it comes to the plain bench (proofs/Demand3); it is defined on any state. Its fuel is enough (proofs/EnoughFuel, `machine-enough`).
 use mathlib.Core.Bool.{Bool, true, false, cond}
 use mathlib.Core.List.{List, [], _∷_}
 use mathlib.Core.Option.{Option, none, some}

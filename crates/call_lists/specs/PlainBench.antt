@@ -1,5 +1,4 @@
 -- Plain bench (SPECIFICATION 10.2): the checks and the five steps of a run call, on the draws taken, the noise used and the latest time.
--- Assumes nothing.
 use mathlib.Core.Bool.{Bool, true, false, cond, not, _&&_, _||_}
 use mathlib.Core.List.{List, [], _∷_, _++_}
 use mathlib.Core.Option.{Option, none, some}

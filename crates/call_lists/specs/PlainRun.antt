@@ -1,5 +1,4 @@
 -- Plain run (SPECIFICATION 10.1): the samples and records of draws and noise. It knows no calls and no memory.
--- Assumes nothing.
 use mathlib.Core.Bool.{Bool, true, false, cond}
 use mathlib.Core.List.{List, [], _∷_, map}
 use Prim.Native.Nat.{ℕ, zero, suc, _+_, _-_}

@@ -1,4 +1,4 @@
--- A model of the code, and not the specification's words: what it chooses to do at each turn, a stop, so many samples at once, or a draw. Definitions only.
+-- A model of the code, and not the specification's words: what it chooses to do at each turn, a stop, so many samples at once, or a draw.
 use mathlib.Core.Bool.{Bool, true, false, cond}
 use Prim.Native.Nat.{ℕ, _-_, _/_, min}
 use lib.Dec.{eqb, leb, ltb}

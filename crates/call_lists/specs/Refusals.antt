@@ -1,5 +1,4 @@
 -- The causes of a run call's refusals, in the order in which they are looked for: each number belongs to one cause, and to the first one at fault.
--- Assumes nothing.
 use mathlib.Core.Bool.{true, false}
 use mathlib.Core.List.{List, [], _∷_}
 use mathlib.Core.Logic.{_⊎_}

@@ -1,5 +1,5 @@
 -- A model of the code, and not the specification's words: a call on flat buffers, turn by turn. `restOf t` is what the rest of a call comes to from a turn t on.
--- The buffers stay whole; the counts say where the next numbers go. Definitions only.
+-- The buffers stay whole; the counts say where the next numbers go.
 use mathlib.Core.List.{List}
 use Prim.Native.Nat.{ℕ, suc, _+_, _-_, _*_, _/_, _≤_}
 use lib.ListN.{length, drop}

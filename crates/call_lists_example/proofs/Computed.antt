@@ -1,5 +1,5 @@
 -- A list of nine calls computed: refusals, draws lent and replaced, a jump back, Done, and a call after Done.
--- Every number is what an independent reading of SPECIFICATION 9 and 10 gives. Assumes nothing.
+-- Every number is what an independent reading of SPECIFICATION 9 and 10 gives.
 use mathlib.Core.List.{List, [], _∷_}
 use mathlib.Core.Path.{_≡_, refl}
 use Prim.Native.Nat.{ℕ}

@@ -1,5 +1,4 @@
 -- The small generator meets the laws, so demand 3 holds of it.
--- Assumes nothing.
 use mathlib.Core.Bool.{Bool, true, false, cond}
 use mathlib.Core.List.{[]}
 use mathlib.Core.Option.{Option, none, some}

@@ -1,5 +1,4 @@
 -- A small generator: a number of a sample is a list, and to add is to append, so that the order of additions shows. Draws and records have three bytes.
--- Assumes nothing.
 use mathlib.Core.Bool.{cond}
 use mathlib.Core.List.{List, [], _∷_, _++_}
 use mathlib.Core.Option.{Option, none, some}

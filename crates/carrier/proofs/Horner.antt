@@ -1,4 +1,4 @@
--- The Horner sums written out, for any coefficients. Assumes nothing.
+-- The Horner sums written out, for any coefficients.
 use mathlib.Core.Path.{_≡_}
 use Prim.Native.Nat.{ℕ}
 use lib.Ieee.{Float, binary64, add, mul}

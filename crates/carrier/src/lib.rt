@@ -1,4 +1,4 @@
-// Sine and cosine by the steps of SPECIFICATION 6.11: equal to their definitions, in specs/ of `math`, on every input. Assumes nothing.
+// Sine and cosine by the steps of SPECIFICATION 6.11: equal to their definitions, in specs/ of `math`, on every input.
 use math::Reduced;
 use math::SinCos;
 ghost use mathlib.Core.Path.{_≡_};

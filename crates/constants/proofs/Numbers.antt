@@ -1,4 +1,4 @@
--- At 4 samples per pulse the definitions give the specification's numbers, and at 8 those of the doubled rate. Assumes nothing.
+-- At 4 samples per pulse the definitions give the specification's numbers, and at 8 those of the doubled rate.
 use mathlib.Core.Path.{_≡_, refl}
 use Prim.Native.Nat.{ℕ}
 use mathlib.Core.List.{List, [], _∷_}

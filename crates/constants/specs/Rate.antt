@@ -1,4 +1,4 @@
--- The numbers that follow from the samples per pulse, a pulse being 500 ns. SPECIFICATION 1.5 has them at 4 samples per pulse; each comment gives its number. Definitions only.
+-- The numbers that follow from the samples per pulse, a pulse being 500 ns. SPECIFICATION 1.5 has them at 4 samples per pulse; each comment gives its number.
 use Prim.Native.Nat.{ℕ, zero, suc, _+_, _-_, _*_, _/_}
 
 -- samples per pulse (SPECIFICATION 1.5)

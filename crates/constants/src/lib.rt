@@ -1,4 +1,4 @@
-// The numbers that follow from the samples per pulse, as definitions: see specs/. And the lesser of two lengths. Assumes nothing.
+// The numbers that follow from the samples per pulse, as definitions: see specs/. And the lesser of two lengths.
 ghost use mathlib.Core.Path.{_≡_};
 ghost use Prim.Native.Nat.{min};
 

@@ -1,4 +1,4 @@
--- The choice by a kind, from what the code's tests say of it. Assumes nothing.
+-- The choice by a kind, from what the code's tests say of it.
 use mathlib.Core.Path.{_≡_, refl, _∙_, sym}
 use Prim.Native.Nat.{ℕ, zero, suc}
 use Rattle.distributions.specs.Asked.{byKind}

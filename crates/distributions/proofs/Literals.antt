@@ -1,4 +1,4 @@
--- The limits that the definitions name are the numbers written in the code, computed. Assumes nothing.
+-- The limits that the definitions name are the numbers written in the code, computed.
 use mathlib.Core.Path.{_≡_, refl}
 use lib.Ieee.{binary64, ofBits, ofInt}
 use Rattle.constants.specs.Rate.{four}

@@ -1,4 +1,4 @@
--- The specification's three distributions as the settings ask for them, a kind byte and two numbers each, and which are accepted; the others are refusal 4. Definitions only.
+-- The specification's three distributions as the settings ask for them, a kind byte and two numbers each, and which are accepted; the others are refusal 4.
 use Prim.Native.Nat.{ℕ, zero, suc}
 use mathlib.Core.Bool.{Bool, _&&_, cond}
 use lib.IntN.{pos}

@@ -1,4 +1,4 @@
--- What a draw becomes under each distribution, and the range of its draw (SPECIFICATION 4.4, 5.2). Draws of constant distributions are ignored. Definitions only.
+-- What a draw becomes under each distribution, and the range of its draw (SPECIFICATION 4.4, 5.2). Draws of constant distributions are ignored.
 use mathlib.Core.Bool.{Bool, true, _&&_, cond}
 use lib.Ieee.{Float, binary64, mul, neg, lt, le}
 use lib.Ieee.Scale.{finite}

@@ -1,4 +1,4 @@
-// Distributions of a message's parameters, after distributions.rs: carrier offset, carrier phase and symbol clock error, and what each asks of its numbers. Assumes nothing.
+// Distributions of a message's parameters, after distributions.rs: carrier offset, carrier phase and symbol clock error, and what each asks of its numbers.
 ghost use mathlib.Core.Path.{_≡_};
 ghost use Rattle.constants.specs.Rate.{four};
 ghost use Rattle.distributions.specs.Asked.{upTo, finiteNotNegative, carrierOffset, clampedNormal, carrierPhase, clockError};

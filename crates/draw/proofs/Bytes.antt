@@ -1,4 +1,4 @@
--- A whole draw: where there are 65 bytes, each number is the one that its bytes stand for, and no 0 past the end is read (`whole`); the floats read are values of their formats (`read-held`). Assumes nothing.
+-- A whole draw: where there are 65 bytes, each number is the one that its bytes stand for, and no 0 past the end is read (`whole`); the floats read are values of their formats (`read-held`).
 use Prim.Native.Nat.{ℕ, zero, suc, _+_, _≤_}
 use mathlib.Core.Path.{_≡_, refl, sym, ap, _∙_}
 use mathlib.Core.List.{List, _∷_}

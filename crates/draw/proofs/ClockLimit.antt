@@ -1,4 +1,4 @@
--- The clock error that a draw in range gives is at most 0.1 in size (`error-within`), and so is the filter's, for every type (`filter-within`), where the settings' clock error is in range. Assumes nothing.
+-- The clock error that a draw in range gives is at most 0.1 in size (`error-within`), and so is the filter's, for every type (`filter-within`), where the settings' clock error is in range.
 use Prim.Native.Nat.{ℕ}
 use mathlib.Core.Path.{_≡_, sym, subst}
 use mathlib.Core.Bool.{Bool, true, false}

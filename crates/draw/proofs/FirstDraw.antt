@@ -1,4 +1,4 @@
--- What the first fault of draws says, and that nothing else is said (`found`, `only`): no draw has one; or draw j is the first that has one, and f is its first field at fault. Draws are counted from 0. Assumes nothing.
+-- What the first fault of draws says, and that nothing else is said (`found`, `only`): no draw has one; or draw j is the first that has one, and f is its first field at fault. Draws are counted from 0.
 use Prim.Native.Nat.{ℕ, zero, suc, _+_, _*_, _/_, _<_}
 use mathlib.Core.Path.{_≡_, refl, sym, ap, _∙_}
 use mathlib.Core.List.{List}

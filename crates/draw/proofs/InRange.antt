@@ -1,4 +1,4 @@
--- A draw has no fault just where each of its fields is in the range of SPECIFICATION 4.4 (`in-range`, `no-fault`); and a draw whose gap is not at fault has one that is finite and not negative (`gap-in-range`). Assumes nothing.
+-- A draw has no fault just where each of its fields is in the range of SPECIFICATION 4.4 (`in-range`, `no-fault`); and a draw whose gap is not at fault has one that is finite and not negative (`gap-in-range`).
 use Prim.Native.Nat.{ℕ, zero, suc}
 use mathlib.Core.Path.{_≡_, refl, sym, ap, _∙_, subst}
 use mathlib.Core.Logic.{_≢_}

@@ -1,4 +1,4 @@
--- A draw in range becomes a message of its own type: no type or reply is put in its place (`type-drawn`, `reply-drawn`). A message starts where it does before its reply's bytes are made (`start-before-bytes`). Assumes nothing.
+-- A draw in range becomes a message of its own type: no type or reply is put in its place (`type-drawn`, `reply-drawn`). A message starts where it does before its reply's bytes are made (`start-before-bytes`).
 use mathlib.Core.Path.{_≡_, refl, ap, _∙_}
 use mathlib.Core.List.{List}
 use Prim.Native.Nat.{ℕ}

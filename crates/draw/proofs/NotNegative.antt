@@ -1,4 +1,4 @@
--- A number that is finite and not negative has a plus sign or is minus zero (`not-negative`); minus zero is in range as a gap and as an amplitude (`minus-zero-fits`). Assumes nothing.
+-- A number that is finite and not negative has a plus sign or is minus zero (`not-negative`); minus zero is in range as a gap and as an amplitude (`minus-zero-fits`).
 use Prim.Native.Nat.{ℕ, zero, suc, _<_}
 use mathlib.Core.Path.{_≡_, refl, subst}
 use mathlib.Core.Bool.{true, false}

@@ -1,4 +1,4 @@
--- A draw's fault is its first field out of range, counted from 0 in the order of the tape, the 14 bytes being one field (`in-order`), whatever the draw. Assumes nothing.
+-- A draw's fault is its first field out of range, counted from 0 in the order of the tape, the 14 bytes being one field (`in-order`), whatever the draw.
 use Prim.Native.Nat.{ℕ, suc}
 use mathlib.Core.Path.{_≡_, refl, sym, _∙_, subst}
 use mathlib.Core.Bool.{Bool, true, false}

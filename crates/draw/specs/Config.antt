@@ -1,4 +1,4 @@
--- What a draw becomes at its time: the time after it, its message, and its start. Definitions only.
+-- What a draw becomes at its time: the time after it, its message, and its start.
 use Prim.Native.Nat.{ℕ}
 use mathlib.Core.List.{List}
 use lib.IntN.{ℤ}

@@ -1,4 +1,4 @@
--- A draw, read from its 65 bytes (SPECIFICATION 4.4). Definitions only.
+-- A draw, read from its 65 bytes (SPECIFICATION 4.4).
 use Prim.Native.Nat.{ℕ, zero, suc, _+_}
 use mathlib.Core.List.{List, [], _∷_}
 use lib.Dec.{T}

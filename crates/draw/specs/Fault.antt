@@ -1,4 +1,4 @@
--- Refusal 7 (SPECIFICATION 4.4): the first field of a draw that is out of range, and the first draw with one. Fields are counted from 0 in tape order, the 14 bytes being one. Definitions only.
+-- Refusal 7 (SPECIFICATION 4.4): the first field of a draw that is out of range, and the first draw with one. Fields are counted from 0 in tape order, the 14 bytes being one.
 use Prim.Native.Nat.{ℕ, zero, suc, _/_}
 use mathlib.Core.Bool.{Bool, true, _&&_, cond}
 use mathlib.Core.List.{List}

@@ -1,4 +1,4 @@
--- The message that `pending` and `completed` make, from what their calls give. Assumes nothing.
+-- The message that `pending` and `completed` make, from what their calls give.
 use Prim.Native.Nat.{ℕ}
 use mathlib.Core.Path.{_≡_, ap, _∙_}
 use mathlib.Core.List.{List}

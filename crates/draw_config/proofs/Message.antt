@@ -1,4 +1,4 @@
--- A draw's message, before its reply's bytes are made and after: it starts where the draw does (`pending-start`), and completed it is the draw's (`completed-is`). Assumes nothing.
+-- A draw's message, before its reply's bytes are made and after: it starts where the draw does (`pending-start`), and completed it is the draw's (`completed-is`).
 use mathlib.Core.Path.{_≡_, refl}
 use lib.Ieee.{Float}
 use Rattle.message_config.specs.declared.Delays.{Delays}

@@ -1,4 +1,4 @@
-// What a draw becomes at its time: its message, without its reply's bytes and then with them. Each function is equal to a definition on every input. Assumes nothing.
+// What a draw becomes at its time: its message, without its reply's bytes and then with them. Each function is equal to a definition on every input.
 ghost use mathlib.Core.Path.{_≡_};
 ghost use Rattle.message.specs.Types.{typeNumbered};
 ghost use Rattle.message.specs.Making.{kindOf};

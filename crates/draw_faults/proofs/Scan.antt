@@ -1,4 +1,4 @@
--- The search for the first draw at fault: one turn of the code's loop, and its ends. Assumes nothing.
+-- The search for the first draw at fault: one turn of the code's loop, and its ends.
 use Prim.Native.Nat.{ℕ, suc, _+_, _-_, _/_, _<_, _≤_}
 use mathlib.Core.Path.{_≡_, sym, ap, _∙_}
 use mathlib.Core.List.{List}

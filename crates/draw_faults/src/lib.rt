@@ -1,4 +1,4 @@
-// The first draw of the lent ones that has a field at fault: equal to its definition, in specs/ of `draw`, on every input. Assumes nothing.
+// The first draw of the lent ones that has a field at fault: equal to its definition, in specs/ of `draw`, on every input.
 ghost use mathlib.Core.Path.{_≡_};
 ghost use Rattle.draw.specs.Fault.{firstFault};
 use draw::Fault;

@@ -1,4 +1,4 @@
-// The first field of a draw that is out of range: equal to its definition, in specs/ of `draw`, on every input. Assumes nothing.
+// The first field of a draw that is out of range: equal to its definition, in specs/ of `draw`, on every input.
 ghost use mathlib.Core.Path.{_≡_};
 ghost use Rattle.message.specs.Types.{typeNumbered};
 ghost use Rattle.message.specs.Making.{checked};

@@ -1,4 +1,4 @@
-// Whether a draw is in the range of an accepted distribution: equal to its definition, in specs/ of `distributions`, on every input. Assumes nothing.
+// Whether a draw is in the range of an accepted distribution: equal to its definition, in specs/ of `distributions`, on every input.
 ghost use mathlib.Core.Path.{_≡_};
 ghost use Rattle.distributions.specs.Drawn.{offsetDrawFits, phaseDrawFits, clockDrawFits};
 use distributions::CarrierOffset;

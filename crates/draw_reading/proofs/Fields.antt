@@ -1,4 +1,4 @@
--- A draw's fields and its 14 bytes, from what each call reads. Assumes nothing.
+-- A draw's fields and its 14 bytes, from what each call reads.
 use Prim.Native.Nat.{ℕ}
 use mathlib.Core.Path.{_≡_}
 use mathlib.Core.List.{List, [], _∷_}

@@ -1,4 +1,4 @@
-// A draw read from its 65 bytes on a tape, 0 standing for each byte that is missing. Each function is equal to a definition of `draw` on every input. Assumes nothing.
+// A draw read from its 65 bytes on a tape, 0 standing for each byte that is missing. Each function is equal to a definition of `draw` on every input.
 ghost use mathlib.Core.Path.{_≡_};
 ghost use Rattle.draw.specs.Draw.{picksAt, drawAt, bytesAt};
 use draw::Draw;

@@ -1,5 +1,4 @@
 -- Demand 3 for f64 times and f32 samples: what is left to show of draws is that a gap in range is finite and not negative, the hold-back, the count bound and the length of a record.
--- Assumes nothing.
 use mathlib.Core.Bool.{false}
 use mathlib.Core.Logic.{_≢_}
 use mathlib.Core.Option.{none, some}

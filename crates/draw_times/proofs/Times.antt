@@ -1,5 +1,5 @@
 -- Times as f64, no NaN and not negative: their order, and that a gap in range does not take a time back.
--- Finite gaps may sum to infinity, which is a time too. Assumes nothing.
+-- Finite gaps may sum to infinity, which is a time too.
 use mathlib.Core.Bool.{Bool, true, false, cond, _||_, _&&_, true≢false}
 use mathlib.Core.Path.{_≡_, refl, sym, ap, _∙_, subst}
 use Prim.Native.Nat.{ℕ, zero, suc, _+_, _-_, _*_, _^_, _/_, _%_, _≤_, _<_, compare}

@@ -1,5 +1,4 @@
 -- A generator whose times are f64 and whose samples and noise are f32, with the numbers of the rate; what draws mean is left to whoever has their bytes.
--- Assumes nothing.
 use mathlib.Core.Bool.{Bool, false}
 use mathlib.Core.List.{List, []}
 use mathlib.Core.Option.{Option, none}

@@ -1,4 +1,4 @@
-// What a draw becomes by an accepted distribution: equal to its definition, in specs/ of `distributions`, on every input. Assumes nothing.
+// What a draw becomes by an accepted distribution: equal to its definition, in specs/ of `distributions`, on every input.
 ghost use mathlib.Core.Path.{_≡_};
 ghost use Rattle.distributions.specs.Drawn.{clamped, offsetOf, phaseOf, errorOf};
 use distributions::CarrierOffset;

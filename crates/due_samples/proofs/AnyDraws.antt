@@ -1,4 +1,4 @@
--- Samples that are due are the same whatever draws mean: `written` and `cleared` of any generator with f64 times and f32 samples at this rate. Assumes nothing.
+-- Samples that are due are the same whatever draws mean: `written` and `cleared` of any generator with f64 times and f32 samples at this rate.
 use mathlib.Core.List.{List, [], _∷_}
 use mathlib.Core.Path.{_≡_, refl, ap}
 use Prim.Native.Nat.{ℕ, zero, suc, _%_}

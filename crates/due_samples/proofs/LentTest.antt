@@ -1,4 +1,4 @@
--- The test of what is lent, from facts and to facts. Assumes nothing.
+-- The test of what is lent, from facts and to facts.
 use mathlib.Core.Bool.{Bool, true, false, _&&_, false≢true}
 use mathlib.Core.List.{List}
 use mathlib.Core.Path.{_≡_, refl, sym, ap, _∙_}

@@ -1,4 +1,4 @@
--- The loops: a number of a stretch more (`mix-next`, `clear-next`), and a stretch more (`Writing`). Assumes nothing.
+-- The loops: a number of a stretch more (`mix-next`, `clear-next`), and a stretch more (`Writing`).
 use mathlib.Core.List.{List, [], _∷_, _++_}
 use mathlib.Core.Path.{_≡_, refl, sym, ap, _∙_}
 use Prim.Native.Nat.{ℕ, _+_, _-_, _*_, _/_, _%_, _≤_, _<_, min}

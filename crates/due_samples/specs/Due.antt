@@ -1,4 +1,4 @@
--- A mirror of code: samples that are due, written at once as numbers, and working memory after them. What they come to in plain terms is the theory's (`call_lists`). Assumes nothing.
+-- A mirror of code: samples that are due, written at once as numbers, and working memory after them. What they come to in plain terms is the theory's (`call_lists`).
 use mathlib.Core.Bool.{Bool, cond, _&&_}
 use mathlib.Core.List.{List}
 use Prim.Native.Nat.{ℕ, _+_, _*_}

@@ -1,4 +1,4 @@
-// Samples that are due, written at once from working memory: the memory's numbers with their noise go to output, and their places are cleared. Assumes nothing.
+// Samples that are due, written at once from working memory: the memory's numbers with their noise go to output, and their places are cleared.
 ghost use mathlib.Core.Path.{_≡_};
 ghost use Prim.Native.Nat.{_+_, _*_, _/_, _%_, _≤_, _<_, min};
 ghost use lib.ListN.{length, drop, take};

@@ -1,4 +1,4 @@
--- At 4 samples per pulse the samples of a duration are those of SPECIFICATION 5.1. Assumes nothing.
+-- At 4 samples per pulse the samples of a duration are those of SPECIFICATION 5.1.
 use mathlib.Core.Path.{_≡_}
 use Prim.Native.Nat.{ℕ, _+_, _*_, _/_}
 use native.Mathlib.Omega.{arith}

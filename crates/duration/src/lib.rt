@@ -1,4 +1,4 @@
-// The samples of a duration, or refusal 1. Assumes nothing.
+// The samples of a duration, or refusal 1.
 ghost use mathlib.Core.Path.{_≡_};
 ghost use Rattle.constants.specs.Rate.{four};
 ghost use Rattle.duration.specs.Duration.{answerOf, durationOf};

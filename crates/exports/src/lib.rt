@@ -1,4 +1,4 @@
-// Floats and phases under C names, for the differential harness to call: each function only calls, and promises what it calls promises. Assumes nothing.
+// Floats and phases under C names, for the differential harness to call: each function only calls, and promises what it calls promises.
 ghost use mathlib.Core.Path.{_≡_};
 ghost use mathlib.Core.List.{[], _∷_};
 ghost use lib.Ieee.{toUnsigned};

@@ -1,4 +1,4 @@
--- How an answer about a duration crosses to the Rust, as a number. Definitions only.
+-- How an answer about a duration crosses to the Rust, as a number.
 use Prim.Native.Nat.{ℕ}
 use Rattle.duration.specs.Duration.{Answer, samples, refusal}
 

@@ -1,4 +1,4 @@
-// Pulse maps, lengths and durations under C names, for the differential harness to call: each function only calls, turns an answer into numbers, and promises what it calls promises. Assumes nothing.
+// Pulse maps, lengths and durations under C names, for the differential harness to call: each function only calls, turns an answer into numbers, and promises what it calls promises.
 use duration::InSamples;
 ghost use mathlib.Core.Path.{_≡_};
 ghost use Rattle.constants.specs.Rate.{four, replyLimit};

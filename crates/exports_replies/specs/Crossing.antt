@@ -1,4 +1,4 @@
--- How replies cross to the Rust, as numbers. Definitions only.
+-- How replies cross to the Rust, as numbers.
 use Prim.Native.Nat.{ℕ, zero, suc}
 use mathlib.Core.Path.{_≡_}
 use mathlib.Core.List.{List}

@@ -1,4 +1,4 @@
-// Parity, making and classing under C names, for the differential harness to call: each function only calls, turns an answer into numbers, and promises what it calls promises. Assumes nothing.
+// Parity, making and classing under C names, for the differential harness to call: each function only calls, turns an answer into numbers, and promises what it calls promises.
 use message::Field;
 use message::Made;
 use message::Picks;

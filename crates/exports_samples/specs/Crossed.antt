@@ -1,4 +1,4 @@
--- How a message's configuration crosses from the Rust, as numbers. Definitions only.
+-- How a message's configuration crosses from the Rust, as numbers.
 use Prim.Native.Nat.{ℕ, zero, suc}
 use mathlib.Core.List.{List}
 use lib.Ieee.{Float}

@@ -1,4 +1,4 @@
-// The samples of a reply under a C name, for the differential harness to call: it only calls, and promises what it calls promises. Assumes nothing.
+// The samples of a reply under a C name, for the differential harness to call: it only calls, and promises what it calls promises.
 use message::Reply;
 use message::ReplyKind;
 use message_config::Delays;

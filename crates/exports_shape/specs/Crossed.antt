@@ -1,4 +1,4 @@
--- How a crossing crosses to the Rust, as a number. Definitions only.
+-- How a crossing crosses to the Rust, as a number.
 use lib.Ieee.{Float, binary64, ofBits, neg}
 use Rattle.pulse_shape.specs.declared.Crossing.{Crossing}
 use Rattle.pulse_shape.specs.declared.Crossing.the-variants.{At, Nowhere}

@@ -1,4 +1,4 @@
-// Prototypes and group delays under C names, for the differential harness to call: each function only calls, turns an answer into numbers, and promises what it calls promises. Assumes nothing.
+// Prototypes and group delays under C names, for the differential harness to call: each function only calls, turns an answer into numbers, and promises what it calls promises.
 use pulse_shape::Crossing;
 ghost use mathlib.Core.Path.{_≡_};
 ghost use mathlib.Core.List.{[], _∷_};

@@ -1,4 +1,4 @@
--- The numbers of a message that cross to the Rust, from what `port_message` calls. Assumes nothing.
+-- The numbers of a message that cross to the Rust, from what `port_message` calls.
 use mathlib.Core.Path.{_≡_, ap, _∙_}
 use mathlib.Core.List.{[], _∷_}
 use lib.IntN.{ℤ}

@@ -1,4 +1,4 @@
--- How a distribution and what it makes of a draw cross to the Rust, as numbers. Definitions only.
+-- How a distribution and what it makes of a draw cross to the Rust, as numbers.
 use Prim.Native.Nat.{ℕ}
 use lib.Ieee.{Float, binary64, ofBits, div}
 use Rattle.distributions.specs.declared.Asked.{Asked}

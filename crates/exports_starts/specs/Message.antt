@@ -1,4 +1,4 @@
--- How a message and its delays cross from the Rust, as numbers. Definitions only.
+-- How a message and its delays cross from the Rust, as numbers.
 use mathlib.Core.Bool.{Bool, true, false}
 use lib.ListN.{replicate}
 use lib.Ieee.{Float}

@@ -1,4 +1,4 @@
-// Messages and distributions under C names, for the differential harness to call: each function only calls, turns an answer into numbers, and promises what it calls promises. Assumes nothing.
+// Messages and distributions under C names, for the differential harness to call: each function only calls, turns an answer into numbers, and promises what it calls promises.
 use distributions::Asked;
 use distributions::ClockAnswer;
 use distributions::OffsetAnswer;

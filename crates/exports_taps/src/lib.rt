@@ -1,4 +1,4 @@
-// The filterbank under C names, for the differential harness to call: each function only calls, and promises what it calls promises. Assumes nothing.
+// The filterbank under C names, for the differential harness to call: each function only calls, and promises what it calls promises.
 use filterbank::Clock;
 ghost use mathlib.Core.Path.{_≡_};
 ghost use lib.ListN.{take};

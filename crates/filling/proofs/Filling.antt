@@ -1,4 +1,4 @@
--- Loops that write a list over another and that clear one: the first part is as it is to be, one place more each turn. Assumes nothing.
+-- Loops that write a list over another and that clear one: the first part is as it is to be, one place more each turn.
 use Prim.Native.Nat.{ℕ, suc, _+_, _<_, _≤_, min}
 use mathlib.Core.Path.{_≡_, sym, ap, _∙_}
 use mathlib.Core.List.{List, _∷_, [], _++_, append-nil}

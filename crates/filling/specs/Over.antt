@@ -1,4 +1,4 @@
--- A list written over another. Definitions only.
+-- A list written over another.
 use Prim.Native.Nat.{min}
 use mathlib.Core.List.{List, _++_}
 use lib.ListN.{length, take, drop}

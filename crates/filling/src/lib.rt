@@ -1,4 +1,4 @@
-// Filling what opening is lent: two lists written over the prototypes, and working memory set to 0.0. Assumes nothing.
+// Filling what opening is lent: two lists written over the prototypes, and working memory set to 0.0.
 ghost use mathlib.Core.Bool.{cond};
 ghost use mathlib.Core.Path.{_≡_};
 ghost use lib.ListN.{length};

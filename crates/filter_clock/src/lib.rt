@@ -1,4 +1,4 @@
-// The clock of the filterbank: equal to its definitions, in specs/ of `filterbank`, on every input. Assumes nothing.
+// The clock of the filterbank: equal to its definitions, in specs/ of `filterbank`, on every input.
 ghost use mathlib.Core.Path.{_≡_};
 ghost use Rattle.constants.specs.Rate.{four};
 ghost use Rattle.filterbank.specs.Clocked.{stepOf, startClock, advance as advanced, in64};

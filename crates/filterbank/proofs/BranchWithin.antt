@@ -1,4 +1,4 @@
--- For a phase from 0 to below 1 the branch is a branch, the whole part of the scaled phase, and tau is from 0 to 1. Until the cast to f32 no operation rounds. Assumes nothing.
+-- For a phase from 0 to below 1 the branch is a branch, the whole part of the scaled phase, and tau is from 0 to 1. Until the cast to f32 no operation rounds.
 use mathlib.Core.Path.{_≡_, refl, sym, ap, _∙_, subst}
 use mathlib.Core.Logic.{_⊎_, inl, inr}
 use Prim.Native.Nat.{ℕ, zero, suc, _+_, _-_, _*_, _/_, _%_, _^_, _≤_, _<_, min, zero-le}

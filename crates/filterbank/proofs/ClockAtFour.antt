@@ -1,4 +1,4 @@
--- At 4 samples per pulse and a clock error within 0.1, a step is at least 1,843 cells of 2 ^ -13, 0.225 being 1,843.2, and at most a half. Assumes nothing.
+-- At 4 samples per pulse and a clock error within 0.1, a step is at least 1,843 cells of 2 ^ -13, 0.225 being 1,843.2, and at most a half.
 use mathlib.Core.Path.{_≡_, refl, sym, ap, _∙_, subst}
 use Prim.Native.Nat.{ℕ, _+_, _-_, _*_, _^_, _≤_, _<_, zero-le}
 use native.Mathlib.Nat.{le-trans, le-of-eq, lt-of-lt-of-le, lt-of-le-of-lt, one-mul, mul-comm, mul-assoc, mul-right-comm, mul-le-mul-right, mul-le-mul-left, zero-lt-suc}

@@ -1,4 +1,4 @@
--- A clock that keeps to a grid ends by itself: its samples are at most `most`, and fuel beyond that is idle. Assumes nothing.
+-- A clock that keeps to a grid ends by itself: its samples are at most `most`, and fuel beyond that is idle.
 use mathlib.Core.Path.{_≡_, refl, sym, ap, _∙_, subst}
 use Prim.Native.Nat.{ℕ, zero, suc, _+_, _-_, _*_, _≤_, _<_}
 use native.Mathlib.Nat.{suc-add}

@@ -1,5 +1,5 @@
 -- A reply's samples end by themselves, for every clock error within 0.1 and first phase from 0 to 2 samples, a reply's being at most 1.1: within 1,094 samples for 240 pulses, 596 for 128, 218 for 43 and 258 for 52 (`ends-240` and so on).
--- So the fuel of `sampleCount` and `applyFilterbank` is idle, for any number of pulses: more of it changes nothing (`count-fuel-idle`, `values-fuel-idle`). Assumes nothing.
+-- So the fuel of `sampleCount` and `applyFilterbank` is idle, for any number of pulses: more of it changes nothing (`count-fuel-idle`, `values-fuel-idle`).
 use mathlib.Core.Path.{_≡_}
 use Prim.Native.Nat.{ℕ, zero, suc, _+_, _*_, _≤_, zero-le}
 use native.Mathlib.Omega.{arith}

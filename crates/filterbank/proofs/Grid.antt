@@ -1,5 +1,5 @@
 -- The clock on a grid. A step of at least `least` cells and at most a half, on a grid of `cells` to a pulse that the format holds exactly, takes the phase up by that many cells each sample.
--- So the phase stays from 0 to below 1, and n samples count least * n cells. Rounding keeps order and is exact on the grid: nothing else is used. Assumes nothing.
+-- So the phase stays from 0 to below 1, and n samples count least * n cells. Rounding keeps order and is exact on the grid: nothing else is used.
 use mathlib.Core.Path.{_≡_, refl, sym, ap, _∙_, subst}
 use Prim.Native.Nat.{ℕ, zero, suc, _+_, _-_, _*_, _^_, _≤_, _<_, zero-le}
 use native.Mathlib.Nat.{le-trans, le-of-eq, le-of-lt, lt-of-lt-of-le, lt-of-le-of-lt, mul-comm, mul-assoc, mul-le-mul-right, mul-le-mul-left, lt-of-mul-lt-mul-left, lt-of-mul-lt-mul-right, add-mul, mul-sub, mul-add, mul-one}

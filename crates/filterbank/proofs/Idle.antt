@@ -1,4 +1,4 @@
--- What makes the definitions total is idle in use: an index below 2 ^ 64 - 1 does not wrap, and a prototype of 1,792 values has its own taps. Assumes nothing.
+-- What makes the definitions total is idle in use: an index below 2 ^ 64 - 1 does not wrap, and a prototype of 1,792 values has its own taps.
 use Prim.Native.Nat.{ℕ, _+_, _-_, _%_, _^_, _<_, _≤_}
 use native.Mathlib.Nat.{mod-eq-of-lt, lt-of-le-of-lt, le-refl}
 use native.Mathlib.Omega.{arith}

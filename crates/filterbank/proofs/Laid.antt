@@ -1,4 +1,4 @@
--- The loop of `lay_late` makes `late` of the first pulses. Assumes nothing.
+-- The loop of `lay_late` makes `late` of the first pulses.
 use Prim.Native.Nat.{ℕ, zero, suc, _+_, _-_, _<_, _≤_, min}
 use native.Mathlib.Nat.{add-comm, le-antisymm, le-of-eq, le-of-lt, le-trans, sub-zero}
 use mathlib.Core.Logic.{inl, inr}

@@ -1,4 +1,4 @@
--- The sum over pulses laid late is the pulse sum, for up to 240 pulses and at every index. Assumes nothing.
+-- The sum over pulses laid late is the pulse sum, for up to 240 pulses and at every index.
 use Prim.Native.Nat.{ℕ, zero, suc, _+_, _-_, _<_, _≤_}
 use mathlib.Core.Path.{_≡_, refl, sym, ap, _∙_}
 use mathlib.Core.Logic.{inl, inr}

@@ -1,4 +1,4 @@
--- What the code computes with its literals is what the definitions say. Assumes nothing.
+-- What the code computes with its literals is what the definitions say.
 use Prim.Native.Nat.{ℕ, _+_, _-_, _%_, _^_, _<_, _≤_}
 use native.Mathlib.Nat.{mod-eq-of-lt, add-zero, sub-zero}
 use mathlib.Core.Path.{_≡_, refl, sym, ap, _∙_}

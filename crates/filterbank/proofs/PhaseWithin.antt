@@ -1,4 +1,4 @@
--- The clock's phase stays from 0 to below 1, for every clock error within 0.1. Assumes nothing.
+-- The clock's phase stays from 0 to below 1, for every clock error within 0.1.
 use mathlib.Core.Path.{_≡_, refl, subst}
 use Prim.Native.Nat.{ℕ, zero, suc, _^_}
 use lib.IntN.{pos}

@@ -1,4 +1,4 @@
--- `ApplyFilterbank`: the values that a sequence of pulses becomes, and their number apart from them. Definitions only.
+-- `ApplyFilterbank`: the values that a sequence of pulses becomes, and their number apart from them.
 -- Fuel makes the recursions total. It is idle for each clock error within 0.1 and first phase from 0 to 2 samples: see proofs/EndsByItself.antt.
 use Prim.Native.Nat.{ℕ, zero, suc, _+_, _*_}
 use mathlib.Core.List.{List, [], _∷_}

@@ -1,4 +1,4 @@
--- The clock of `ApplyFilterbank`: a phase from 0 to below 1, in pulses, and the index of a pulse. Definitions only.
+-- The clock of `ApplyFilterbank`: a phase from 0 to below 1, in pulses, and the index of a pulse.
 use Prim.Native.Nat.{ℕ, _+_, _%_, _^_}
 use mathlib.Core.Bool.{Bool, true, false}
 use lib.IntN.{pos}

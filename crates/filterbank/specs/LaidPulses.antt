@@ -1,4 +1,4 @@
--- A mirror of code: pulses laid six places late, so that a sum tests no bounds, and the sum over them. proofs/LateSum says that it is the plain `pulseSum`. Definitions only.
+-- A mirror of code: pulses laid six places late, so that a sum tests no bounds, and the sum over them. proofs/LateSum says that it is the plain `pulseSum`.
 use Prim.Native.Nat.{ℕ, _+_, _-_}
 use mathlib.Core.List.{List, _++_}
 use mathlib.Core.Bool.{Bool, false, cond}

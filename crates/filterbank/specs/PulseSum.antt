@@ -1,4 +1,4 @@
--- The sum of the taps whose pulses are on: `convolve_taps_pulses` of the Rust. Definitions only.
+-- The sum of the taps whose pulses are on: `convolve_taps_pulses` of the Rust.
 use Prim.Native.Nat.{ℕ, _+_, _-_}
 use mathlib.Core.List.{List, [], _∷_}
 use mathlib.Core.Bool.{Bool, false, cond, _&&_}

@@ -1,4 +1,4 @@
--- The taps at a clock phase: `filter_taps` of the Rust, on a prototype whose branch j holds entries j, j + 256 and so on. Definitions only.
+-- The taps at a clock phase: `filter_taps` of the Rust, on a prototype whose branch j holds entries j, j + 256 and so on.
 use Prim.Native.Nat.{ℕ, _+_, _-_, _*_}
 use mathlib.Core.List.{List, [], _∷_}
 use mathlib.Core.Bool.{cond}

@@ -1,5 +1,5 @@
 // The filterbank, after pulse_shape.rs: the taps at a clock phase. The clock and the sums of taps are in crates above.
-// Each function is equal to a definition of specs/ on every input. Assumes nothing.
+// Each function is equal to a definition of specs/ on every input.
 ghost use mathlib.Core.Path.{_≡_};
 ghost use Prim.Native.Nat.{_<_, _+_};
 ghost use lib.ListN.{length, drop, getD};

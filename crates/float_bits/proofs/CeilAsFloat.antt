@@ -1,4 +1,4 @@
--- `ceil-signed`: the ceiling as an `i64` is `as i64` of the ceiling as a float; and `ceil-value`, `floor-value`: that float is the whole number exactly. Assumes nothing.
+-- `ceil-signed`: the ceiling as an `i64` is `as i64` of the ceiling as a float; and `ceil-value`, `floor-value`: that float is the whole number exactly.
 use mathlib.Core.Path.{_≡_, refl, sym, ap, _∙_, subst}
 use Prim.Native.Nat.{ℕ, zero, suc, _+_, _-_, _*_, _/_, _%_, _^_, _≤_, _<_, min, zero-le}
 use native.Mathlib.Nat.{le-trans, le-of-eq, le-of-lt, lt-of-lt-of-le, lt-of-le-of-lt, le-of-suc-le-suc, mul-one, zero-mul, zero-div, mul-assoc, mul-div-cancel, div-lt-iff-lt-mul, div-le-self, div-one, suc-mul, zero-lt-suc, mul-lt-mul-of-pos-right, add-zero}

@@ -1,4 +1,4 @@
--- Where a conversion loses nothing: a pattern that is no NaN's comes back from the value it stands for (`bits-back`), and an integer of size at most 2 ^ 53 is the value of its float (`whole-value`). Assumes nothing.
+-- Where a conversion loses nothing: a pattern that is no NaN's comes back from the value it stands for (`bits-back`), and an integer of size at most 2 ^ 53 is the value of its float (`whole-value`).
 use mathlib.Core.Path.{_≡_, refl, subst}
 use Prim.Native.Nat.{ℕ, suc, _*_, _^_, _≤_, _<_}
 use mathlib.Core.Bool.{Bool, true, false, not}

@@ -1,4 +1,4 @@
--- Narrowing keeps the order (`narrow-mono`) and the sign (`narrow-neg`). So a value within a limit that `f32` holds stays within it, finite, and one from 0 to 1 stays there. Assumes nothing.
+-- Narrowing keeps the order (`narrow-mono`) and the sign (`narrow-neg`). So a value within a limit that `f32` holds stays within it, finite, and one from 0 to 1 stays there.
 use mathlib.Core.Path.{_≡_, refl, sym, ap, _∙_, subst}
 use mathlib.Core.Logic.{_⊎_, inl, inr}
 use Prim.Native.Nat.{ℕ, _+_, _*_, _/_, _%_, _^_, _≤_, _<_}

@@ -1,4 +1,4 @@
--- The `f32` pattern of an `f64` pattern n whose sign is clear: n rounded as a whole in the normal range (`in-range`), its digits rounded below it (`subnormal-pattern`), and 0 further below (`zero-pattern`). Assumes nothing.
+-- The `f32` pattern of an `f64` pattern n whose sign is clear: n rounded as a whole in the normal range (`in-range`), its digits rounded below it (`subnormal-pattern`), and 0 further below (`zero-pattern`).
 use mathlib.Core.Path.{_≡_, refl, sym, ap, _∙_, subst}
 use mathlib.Core.Logic.{inl, inr}
 use Prim.Native.Nat.{ℕ, zero, suc, _+_, _-_, _*_, _/_, _%_, _^_, _≤_, _<_, min, zero-le}

@@ -1,4 +1,4 @@
--- An `f32` in the normal range has the `f64` pattern m + 896 * 2 ^ 23 with 29 zeros after it (`widened`). So an `f64` pattern in that range, rounded to its upper 35 bits, is a value that `f32` holds, and the nearest there (`rounded`). Assumes nothing.
+-- An `f32` in the normal range has the `f64` pattern m + 896 * 2 ^ 23 with 29 zeros after it (`widened`). So an `f64` pattern in that range, rounded to its upper 35 bits, is a value that `f32` holds, and the nearest there (`rounded`).
 use mathlib.Core.Path.{_≡_, refl, sym, ap, _∙_, subst}
 use mathlib.Core.Logic.{_⊎_, inl, inr}
 use Prim.Native.Nat.{ℕ, zero, suc, _+_, _-_, _*_, _/_, _%_, _^_, _≤_, _<_}

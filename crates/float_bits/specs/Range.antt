@@ -1,4 +1,4 @@
--- The size of a value, and whether it is at most a limit (SPECIFICATION 1.4). Definitions only.
+-- The size of a value, and whether it is at most a limit (SPECIFICATION 1.4).
 use mathlib.Core.Bool.{Bool, false}
 use lib.Ieee.{Float, nan, inf, fin, le}
 

@@ -1,4 +1,4 @@
-// Rust's `as f32` of an `f64`, which the language lacks, worked out from bits. Assumes nothing.
+// Rust's `as f32` of an `f64`, which the language lacks, worked out from bits.
 ghost use mathlib.Core.Path.{_≡_};
 ghost use Prim.Native.Nat.{_*_, _%_, _<_, _≤_};
 ghost use lib.Ieee.{binary32, binary64, ofBits};

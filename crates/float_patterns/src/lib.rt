@@ -1,4 +1,4 @@
-// Floats from their bit patterns, and bit patterns of floats: equal to `ofBits` and `toBits` of the kit's floats on every input. Assumes nothing.
+// Floats from their bit patterns, and bit patterns of floats: equal to `ofBits` and `toBits` of the kit's floats on every input.
 ghost use mathlib.Core.Path.{_≡_};
 ghost use lib.Ieee.{binary32, binary64, ofBits, toBits};
 

@@ -1,4 +1,4 @@
-// Tests of a float's range: equal to their definitions, in specs/ of `float_bits`, on every input. Assumes nothing.
+// Tests of a float's range: equal to their definitions, in specs/ of `float_bits`, on every input.
 ghost use mathlib.Core.Path.{_≡_};
 ghost use lib.Ieee.Scale.{finite as isFinite};
 ghost use Rattle.float_bits.specs.Range.{within as isWithin};

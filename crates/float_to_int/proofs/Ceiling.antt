@@ -1,4 +1,4 @@
--- What the branches of `ceil_to_i64` know of x, and that each returns the ceiling. Assumes nothing.
+-- What the branches of `ceil_to_i64` know of x, and that each returns the ceiling.
 use mathlib.Core.Path.{_≡_, refl, sym, ap, _∙_, subst}
 use Prim.Native.Nat.{ℕ, zero, suc, _+_, _-_, _*_, _/_, _%_, _^_, _≤_, _<_, min}
 use native.Mathlib.Nat.{lt-of-not-le, le-trans, le-of-eq, le-of-lt, lt-of-lt-of-le, lt-of-le-of-lt, mul-one, zero-mul, mul-right-comm, lt-of-mul-lt-mul-right, le-div-iff-mul-le, div-lt-iff-lt-mul, div-eq-of-lt-le, div-eq-of-lt, suc-mul, div-mul-le-self, zero-div, zero-add, le-of-mul-le-mul-right, le-antisymm, lt-div-mul-add}

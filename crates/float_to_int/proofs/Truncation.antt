@@ -1,4 +1,4 @@
--- What the branches of `to_u64` know of x, and that each returns `as u64` of it. Assumes nothing.
+-- What the branches of `to_u64` know of x, and that each returns `as u64` of it.
 use mathlib.Core.Path.{_≡_, refl, sym, ap}
 use Prim.Native.Nat.{ℕ, _-_, _*_, _/_, _^_, _≤_, _<_, min}
 use native.Mathlib.Nat.{le-div-iff-mul-le, div-eq-of-lt, lt-of-not-le}

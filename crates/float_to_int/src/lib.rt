@@ -1,4 +1,4 @@
-// What the language lacks: `as u64`, `as usize` and the ceiling of an `f64` as Rust has them. Assumes nothing.
+// What the language lacks: `as u64`, `as usize` and the ceiling of an `f64` as Rust has them.
 ghost use mathlib.Core.Path.{_≡_};
 ghost use mathlib.Core.Bool.{false};
 ghost use lib.IntN.{pos};

@@ -1,4 +1,4 @@
--- What the theory of calls takes from a draw in range: a gap that does not take a time back (`gap-of`), and a clock error and filter clock error within 0.1 in size, of the kind drawn (`error-of`) and of the message's (`message-error`). Assumes nothing.
+-- What the theory of calls takes from a draw in range: a gap that does not take a time back (`gap-of`), and a clock error and filter clock error within 0.1 in size, of the kind drawn (`error-of`) and of the message's (`message-error`).
 use Prim.Native.Nat.{ℕ}
 use mathlib.Core.Path.{_≡_, refl, ap}
 use mathlib.Core.Logic.{_≢_}

@@ -1,4 +1,4 @@
--- What a draw in range becomes is in range, where the distributions are: the carrier offset is within 4,000,000 in size at 4 samples per pulse (`drawn-offset`), and the phase from -PI to PI (`drawn-phase`). The clock error is `draw`'s. Assumes nothing.
+-- What a draw in range becomes is in range, where the distributions are: the carrier offset is within 4,000,000 in size at 4 samples per pulse (`drawn-offset`), and the phase from -PI to PI (`drawn-phase`). The clock error is `draw`'s.
 use mathlib.Core.Path.{_≡_, refl, sym, _∙_, subst}
 use Prim.Native.Nat.{ℕ, _+_, _*_, _^_, _≤_, zero-le}
 use native.Mathlib.Nat.{le-trans, le-of-eq}

@@ -1,4 +1,4 @@
--- A draw's field at fault is refused by the plain bench as `fieldRefusal` of `message` says, number and values: 7, the draw's place and the field (`field-refused`). Assumes nothing.
+-- A draw's field at fault is refused by the plain bench as `fieldRefusal` of `message` says, number and values: 7, the draw's place and the field (`field-refused`).
 use Prim.Native.Nat.{ℕ}
 use mathlib.Core.Path.{_≡_, refl}
 use mathlib.Core.List.{List, _∷_}

@@ -1,4 +1,4 @@
--- What opening gives: delays from 0 to 28 samples, and distributions in the ranges of SPECIFICATION 4.2 (`FiltersInRange`); settings that are accepted and prototypes with a crossing give them, and at most 2^52 samples (`opened-in-range`). Assumes nothing.
+-- What opening gives: delays from 0 to 28 samples, and distributions in the ranges of SPECIFICATION 4.2 (`FiltersInRange`); settings that are accepted and prototypes with a crossing give them, and at most 2^52 samples (`opened-in-range`).
 use Prim.Native.Nat.{ℕ, _*_, _^_, _≤_}
 use mathlib.Core.Path.{_≡_}
 use mathlib.Core.Bool.{true}

@@ -1,4 +1,4 @@
--- Demand 3 of the real generator, by filters in range and at most 2^52 samples (`real-demand3`). Assumes nothing.
+-- Demand 3 of the real generator, by filters in range and at most 2^52 samples (`real-demand3`).
 use Prim.Native.Nat.{ℕ, _^_, _≤_}
 use lib.Ieee.{Float}
 use Rattle.constants.specs.Rate.{four}

@@ -1,4 +1,4 @@
--- What the theory of calls asks of draws holds of the real ones, by filters in range and at most 2^52 samples (`real-draw-laws`): gaps, hold-back, count bound and length of a record. Assumes nothing.
+-- What the theory of calls asks of draws holds of the real ones, by filters in range and at most 2^52 samples (`real-draw-laws`): gaps, hold-back, count bound and length of a record.
 use Prim.Native.Nat.{ℕ, _+_, _^_, _≤_, _<_}
 use mathlib.Core.Path.{_≡_, ap, _∙_}
 use mathlib.Core.Bool.{false}

@@ -1,4 +1,4 @@
--- A made reply has 14 bytes, whatever the type and the picks (`made-bytes`). Assumes nothing.
+-- A made reply has 14 bytes, whatever the type and the picks (`made-bytes`).
 use Prim.Native.Nat.{ℕ, _+_, _-_, _≤_}
 use mathlib.Core.Path.{_≡_, ap, _∙_}
 use mathlib.Core.List.{List, [], _∷_}

@@ -1,4 +1,4 @@
--- What the settings and filters of a run make of draws: the generator, as plain run and plain bench take it (SPECIFICATION 10). Definitions only.
+-- What the settings and filters of a run make of draws: the generator, as plain run and plain bench take it (SPECIFICATION 10).
 use Prim.Native.Nat.{ℕ}
 use mathlib.Core.Bool.{Bool, not}
 use mathlib.Core.List.{List, map}

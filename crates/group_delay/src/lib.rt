@@ -1,4 +1,4 @@
-// Group delays of prototypes: equal to their definitions, in specs/ of `pulse_shape`, on every input. Assumes nothing.
+// Group delays of prototypes: equal to their definitions, in specs/ of `pulse_shape`, on every input.
 ghost use mathlib.Core.Path.{_≡_};
 ghost use Rattle.constants.specs.Rate.{four};
 ghost use Rattle.pulse_shape.specs.GroupDelay.{crosses, delayAt, groupDelay, modeACGroupDelay};

@@ -1,4 +1,4 @@
--- Theorem `interrogator-laws`: the table of overlays, the overlay found back, and the readings of all that is made. Assumes nothing.
+-- Theorem `interrogator-laws`: the table of overlays, the overlay found back, and the readings of all that is made.
 use mathlib.Core.Path.{_≡_, refl, sym, ap, _∙_}
 use mathlib.Core.List.{List, [], _∷_}
 use Prim.Native.Nat.{ℕ, zero, suc, _+_, _-_, _*_, _/_, _%_, _^_, _≤_, _<_}

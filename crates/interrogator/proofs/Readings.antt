@@ -1,4 +1,4 @@
--- The table of overlays and the reading of a message, case by case. Assumes nothing.
+-- The table of overlays and the reading of a message, case by case.
 use mathlib.Core.Path.{_≡_, refl, sym, ap, _∙_}
 use mathlib.Core.Bool.{Bool, true, false, cond}
 use mathlib.Core.List.{List}

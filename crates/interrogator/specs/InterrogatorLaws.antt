@@ -1,4 +1,4 @@
--- What is claimed of the interrogators that messages answer. Definitions only.
+-- What is claimed of the interrogators that messages answer.
 use Prim.Native.Nat.{ℕ, _+_, _/_, _%_, _^_, _≤_, _<_}
 use mathlib.Core.Path.{_≡_}
 use mathlib.Core.List.{List, [], _∷_, _++_}

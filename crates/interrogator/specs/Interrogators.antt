@@ -1,4 +1,4 @@
--- Which interrogator a message answers, as SPECIFICATION 7.10 says it. Definitions only.
+-- Which interrogator a message answers, as SPECIFICATION 7.10 says it.
 use Prim.Native.Nat.{ℕ, _+_, _-_, _*_, _/_}
 use mathlib.Core.Bool.{Bool, false, cond}
 use mathlib.Core.List.{List}

@@ -1,4 +1,4 @@
-// Which interrogator a message answers, read from the overlay on its parity. Assumes nothing.
+// Which interrogator a message answers, read from the overlay on its parity.
 ghost use mathlib.Core.Path.{_≡_};
 ghost use Prim.Native.Nat.{_<_};
 ghost use lib.ListN.{length};

@@ -1,4 +1,4 @@
-// A byte, and little-endian numbers, at a place in a byte slice, 0 past its end: equal to their definitions, in specs/ of `le_bytes`, on every input. Assumes nothing.
+// A byte, and little-endian numbers, at a place in a byte slice, 0 past its end: equal to their definitions, in specs/ of `le_bytes`, on every input.
 ghost use mathlib.Core.Path.{_≡_};
 ghost use lib.ListN.{getD};
 ghost use Rattle.le_bytes.specs.LeBytes.{numberAt};

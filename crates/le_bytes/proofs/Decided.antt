@@ -1,4 +1,4 @@
--- What the code's test of a place decides: which case of a read or of a write holds. Assumes nothing.
+-- What the code's test of a place decides: which case of a read or of a write holds.
 use Prim.Native.Nat.{ℕ, _+_, _-_, _≤_}
 use mathlib.Core.Path.{_≡_, refl, sym, ap, _∙_}
 use mathlib.Core.Bool.{Bool, true, false, cond}

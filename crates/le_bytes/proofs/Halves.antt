@@ -1,4 +1,4 @@
--- A number of m + n bytes is one of m bytes and, above it, one of n: for the value, for the bytes, for a read and for a write. Assumes nothing.
+-- A number of m + n bytes is one of m bytes and, above it, one of n: for the value, for the bytes, for a read and for a write.
 use Prim.Native.Nat.{ℕ, zero, suc, _+_, _*_, _/_, _%_, _^_, _≤_, _<_}
 use mathlib.Core.Path.{_≡_, refl, sym, ap, _∙_}
 use mathlib.Core.List.{List, [], _∷_, _++_, append-assoc}

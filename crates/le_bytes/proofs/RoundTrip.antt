@@ -1,4 +1,4 @@
--- Writing, then reading at the same place, gives back what was written, at every width (`back`); a write keeps the length and every other byte (`length-put`, `elsewhere`). Assumes nothing.
+-- Writing, then reading at the same place, gives back what was written, at every width (`back`); a write keeps the length and every other byte (`length-put`, `elsewhere`).
 use Prim.Native.Nat.{ℕ, zero, suc, _+_, _-_, _*_, _/_, _%_, _^_, _≤_, _<_}
 use mathlib.Core.Path.{_≡_, refl, sym, ap, _∙_, subst}
 use mathlib.Core.Bool.{Bool, true, false, cond}

@@ -1,4 +1,4 @@
--- Little-endian numbers in bytes (SPECIFICATION 1.4). One definition over the width n, in bytes; s is a list of bytes and at a place in it, counted from 0. Definitions only.
+-- Little-endian numbers in bytes (SPECIFICATION 1.4). One definition over the width n, in bytes; s is a list of bytes and at a place in it, counted from 0.
 use Prim.Native.Nat.{ℕ, zero, suc, _+_, _*_, _/_, _%_}
 use mathlib.Core.Bool.{Bool, cond}
 use mathlib.Core.List.{List, [], _∷_, _++_}

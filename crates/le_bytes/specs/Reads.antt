@@ -1,4 +1,4 @@
--- What each read of a number answers. Definitions only.
+-- What each read of a number answers.
 use Prim.Native.Nat.{ℕ}
 use mathlib.Core.List.{List}
 use Rattle.le_bytes.specs.LeBytes.{readAt}

@@ -1,4 +1,4 @@
-// Little-endian numbers at a place in a byte slice, and whether they lie within it. Assumes nothing.
+// Little-endian numbers at a place in a byte slice, and whether they lie within it.
 ghost use mathlib.Core.Path.{_≡_};
 ghost use Prim.Native.Nat.{_+_, _≤_, _<_};
 ghost use lib.Dec.{leb};

@@ -1,4 +1,4 @@
--- A float's read is made of the read of its pattern as a number. Assumes nothing.
+-- A float's read is made of the read of its pattern as a number.
 use Prim.Native.Nat.{ℕ}
 use mathlib.Core.Path.{_≡_, ap, _∙_}
 use mathlib.Core.List.{List}

@@ -1,4 +1,4 @@
--- What each read of a float answers: the value of its bytes as an IEEE 754 pattern, unless that is a NaN's. Definitions only.
+-- What each read of a float answers: the value of its bytes as an IEEE 754 pattern, unless that is a NaN's.
 use Prim.Native.Nat.{ℕ}
 use mathlib.Core.Bool.{cond}
 use mathlib.Core.List.{List}

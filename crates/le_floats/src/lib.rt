@@ -1,4 +1,4 @@
-// Little-endian floats at a place in a byte slice, read by their IEEE 754 patterns. Assumes nothing.
+// Little-endian floats at a place in a byte slice, read by their IEEE 754 patterns.
 ghost use mathlib.Core.Path.{_≡_};
 ghost use lib.Ieee.{binary32, binary64, ofBits};
 ghost use Rattle.le_bytes.specs.LeBytes.{numberAt};

@@ -1,4 +1,4 @@
-// Floats written little-endian at a place in a byte slice: equal to their definitions, in specs/ of `le_bytes`, on every input. Assumes nothing.
+// Floats written little-endian at a place in a byte slice: equal to their definitions, in specs/ of `le_bytes`, on every input.
 ghost use mathlib.Core.Path.{_≡_};
 ghost use lib.Ieee.{binary32, binary64, toBits};
 ghost use Rattle.le_bytes.specs.LeBytes.{inside, put};

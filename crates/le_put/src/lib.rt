@@ -1,4 +1,4 @@
-// Little-endian numbers written at a place in a byte slice: equal to their definitions, in specs/ of `le_bytes`, on every input. Assumes nothing.
+// Little-endian numbers written at a place in a byte slice: equal to their definitions, in specs/ of `le_bytes`, on every input.
 ghost use mathlib.Core.Path.{_≡_};
 ghost use Prim.Native.Nat.{_+_, _≤_};
 ghost use lib.ListN.{length};

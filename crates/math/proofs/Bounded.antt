@@ -1,4 +1,4 @@
--- Sine and cosine of a phase from -PI to PI are finite and at most 1 in size. Assumes nothing.
+-- Sine and cosine of a phase from -PI to PI are finite and at most 1 in size.
 use Prim.Native.Nat.{ℕ, zero, suc, _≤_}
 use native.Mathlib.Nat.{le-trans}
 use mathlib.Core.Bool.{false}

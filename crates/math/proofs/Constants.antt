@@ -1,4 +1,4 @@
--- The multiples of PI that the definitions name, in units of 2 ^ -1074: each is exact. Assumes nothing.
+-- The multiples of PI that the definitions name, in units of 2 ^ -1074: each is exact.
 use mathlib.Core.Path.{refl}
 use Prim.Native.Nat.{ℕ, _*_, _^_}
 use mathlib.Core.Bool.{true, false}

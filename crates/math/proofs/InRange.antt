@@ -1,5 +1,5 @@
 -- From -b to b by the language's comparisons is finite and at most b units in size (`within-of-tests`, `tests-of-within`), and the laws of the wraps in
--- those terms: every finite phase wraps to -PI to PI, and so does one from -2 PI to 2 PI once wrapped. Assumes nothing.
+-- those terms: every finite phase wraps to -PI to PI, and so does one from -2 PI to 2 PI once wrapped.
 use mathlib.Core.Path.{_≡_, refl}
 use Prim.Native.Nat.{ℕ, _+_, _*_, _≤_}
 use native.Mathlib.Omega.{arith}

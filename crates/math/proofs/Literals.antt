@@ -1,4 +1,4 @@
--- Each number that the definitions name is the one written in the code, computed. Assumes nothing.
+-- Each number that the definitions name is the one written in the code, computed.
 use mathlib.Core.Path.{_≡_, refl}
 use lib.Ieee.{binary64, ofBits, mul, div, neg, round}
 use Rattle.math.specs.Phase.{pi, twoPi}

@@ -1,4 +1,4 @@
--- The reduction of a phase from -PI to PI: what is left is finite and at most PI / 4 in size, which is below 0.786. Assumes nothing.
+-- The reduction of a phase from -PI to PI: what is left is finite and at most PI / 4 in size, which is below 0.786.
 use mathlib.Core.Path.{_≡_, refl, sym, subst}
 use Prim.Native.Nat.{ℕ, _+_, _*_, _^_, _≤_, _<_}
 use native.Mathlib.Nat.{le-of-lt}

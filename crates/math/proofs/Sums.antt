@@ -1,6 +1,6 @@
 -- The Horner sums of an r of at most 1 in size, in units of 2 ^ -1074: `sine-val` and `cosine-val` say which number of units S and C are, `sine-le` and
 -- `cosine-le` that it is at most 1. Each coefficient has the other sign than the one before it and is smaller, so each sum has the sign of its lowest
--- coefficient and is no larger. Assumes nothing.
+-- coefficient and is no larger.
 use mathlib.Core.Path.{_≡_, refl, sym, subst}
 use Prim.Native.Nat.{ℕ, zero, suc, _+_, _-_, _*_, _^_, _≤_, _<_}
 use native.Mathlib.Nat.{le-refl, le-trans, le-of-eq, lt-of-le-of-lt, one-mul, mul-assoc, mul-le-mul-right, mul-le-mul-left, mul-le-mul, mul-pos, sub-le, zero-lt-suc}

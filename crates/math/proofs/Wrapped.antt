@@ -1,5 +1,5 @@
 -- The wraps keep a finite phase finite and bring it within PI of 0: `wrapped` for every finite phase, `once-wrapped` for one within 2 PI.
--- PI itself is reached (`wraps-to-pi`), though math.rs says "[-pi, pi)". Assumes nothing.
+-- PI itself is reached (`wraps-to-pi`), though math.rs says "[-pi, pi)".
 use mathlib.Core.Path.{_≡_, refl, sym, subst}
 use mathlib.Core.Logic.{inl, inr}
 use Prim.Native.Nat.{ℕ, _+_, _-_, _*_, _%_, _^_, _≤_, _<_, zero-le}

@@ -1,4 +1,4 @@
--- Sine and cosine of a phase (SPECIFICATION 6.11): reduction, quadrant, Horner sums, each operation rounded once. For every `f64`. Definitions only.
+-- Sine and cosine of a phase (SPECIFICATION 6.11): reduction, quadrant, Horner sums, each operation rounded once. For every `f64`.
 use Prim.Native.Nat.{ℕ, zero, suc, _+_, _*_}
 use mathlib.Core.Bool.{Bool, false, not, cond}
 use lib.Ieee.{Float, binary64, ofBits, round, add, sub, mul, div, neg, lt}

@@ -1,4 +1,4 @@
--- The two phase wraps of math.rs, each operation rounded once in the Rust's order, for every `f64`. Definitions only.
+-- The two phase wraps of math.rs, each operation rounded once in the Rust's order, for every `f64`.
 use mathlib.Core.Bool.{cond}
 use lib.Ieee.{Float, binary64, ofBits, add, sub, mul, neg, rem, lt, le}
 

@@ -1,4 +1,4 @@
-// Mathematical routines, after math.rs: the two phase wraps. Sine and cosine, whose definitions and bounds stand here, are in a crate above. Assumes nothing.
+// Mathematical routines, after math.rs: the two phase wraps. Sine and cosine, whose definitions and bounds stand here, are in a crate above.
 ghost use mathlib.Core.Path.{_≡_};
 ghost use Rattle.math.specs.Phase.{remEuclid, twoPi, phaseWrap, phaseWrapOnce};
 

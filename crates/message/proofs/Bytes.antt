@@ -1,4 +1,4 @@
--- A draw of fourteen bytes, byte by byte, and what stores in it make. Assumes nothing.
+-- A draw of fourteen bytes, byte by byte, and what stores in it make.
 use mathlib.Core.Path.{_≡_, refl, sym, ap, ap₂, _∙_}
 use mathlib.Core.List.{List, [], _∷_, _++_}
 use Prim.Native.Nat.{ℕ, zero, suc, _+_, _/_, _%_, _<_, _≤_}

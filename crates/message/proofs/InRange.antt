@@ -1,4 +1,4 @@
--- What fields in range say of each pick, and bounds on the entries of the tables. Assumes nothing.
+-- What fields in range say of each pick, and bounds on the entries of the tables.
 use mathlib.Core.Path.{_≡_}
 use mathlib.Core.Bool.{Bool, true, false}
 use mathlib.Core.List.{List, [], _∷_}

@@ -1,4 +1,4 @@
--- A type's number names that type and no other, and numbers above 6 name none. Assumes nothing.
+-- A type's number names that type and no other, and numbers above 6 name none.
 use mathlib.Core.Path.{_≡_, refl, ap}
 use Prim.Native.Nat.{ℕ, zero, suc, _≤_}
 use native.Mathlib.Omega.{arith}

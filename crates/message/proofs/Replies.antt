@@ -1,4 +1,4 @@
--- The definition of a reply at each type, in the form in which the code writes its bytes. Assumes nothing.
+-- The definition of a reply at each type, in the form in which the code writes its bytes.
 use mathlib.Core.Path.{_≡_, sym, ap, ap₂, _∙_}
 use mathlib.Core.List.{List, [], _∷_, _++_, append-nil}
 use Prim.Native.Nat.{ℕ, _+_, _-_, _*_, _/_, _%_}

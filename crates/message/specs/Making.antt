@@ -1,5 +1,5 @@
 -- Making a reply (SPECIFICATION 7.2, 7.3): formats, CA and control; picks; byte 0; later bytes; parity; overlay.
--- Last, what is refused: the first field at fault, in the order of the tape. Definitions only.
+-- Last, what is refused: the first field at fault, in the order of the tape.
 use Prim.Native.Nat.{ℕ, _+_, _-_, _*_, _/_, _%_}
 use mathlib.Core.Bool.{Bool, true, false}
 use mathlib.Core.List.{List, [], _∷_, _++_}

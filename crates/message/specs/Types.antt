@@ -1,4 +1,4 @@
--- The numbers of the message types (SPECIFICATION 7.1), in the order of the Rust's `MessageType::ALL`. Definitions only.
+-- The numbers of the message types (SPECIFICATION 7.1), in the order of the Rust's `MessageType::ALL`.
 use Prim.Native.Nat.{ℕ}
 use mathlib.Core.List.{List, [], _∷_}
 use lib.ListN.{getD}

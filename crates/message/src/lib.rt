@@ -1,4 +1,4 @@
-// Replies: their kinds and their types, by number. Assumes nothing.
+// Replies: their kinds and their types, by number.
 ghost use mathlib.Core.Path.{_≡_};
 ghost use Rattle.message.specs.Types.{typeNumbered, typeNumber};
 

@@ -1,4 +1,4 @@
--- What each function gives, from its arm or from what its calls give. Assumes nothing.
+-- What each function gives, from its arm or from what its calls give.
 use mathlib.Core.Path.{_≡_, sym, ap, _∙_}
 use lib.IntN.{ℤ}
 use lib.Ieee.{Float, binary64, ofBits, ofInt, add, sub, mul, div}

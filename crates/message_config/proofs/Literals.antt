@@ -1,4 +1,4 @@
--- The numbers that the definitions name are those written in the code, computed. Assumes nothing.
+-- The numbers that the definitions name are those written in the code, computed.
 use mathlib.Core.Path.{_≡_, refl}
 use lib.IntN.{pos}
 use lib.Ieee.{binary64, ofBits, ofInt, div}

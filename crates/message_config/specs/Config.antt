@@ -1,4 +1,4 @@
--- A message's configuration, five floats with its reply: what follows from it, given the delays of the filters (SPECIFICATION 5.5, 6.4, 6.5, 6.10). Definitions only.
+-- A message's configuration, five floats with its reply: what follows from it, given the delays of the filters (SPECIFICATION 5.5, 6.4, 6.5, 6.10).
 use Prim.Native.Nat.{ℕ}
 use lib.IntN.{ℤ}
 use lib.Ieee.{Float}

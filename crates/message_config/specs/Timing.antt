@@ -1,4 +1,4 @@
--- Delay, start and filter clock error (SPECIFICATION 5.4, 5.5, 6.4), and the clock's phase at a reply's first sample, each operation rounded once in the Rust's order. Definitions only.
+-- Delay, start and filter clock error (SPECIFICATION 5.4, 5.5, 6.4), and the clock's phase at a reply's first sample, each operation rounded once in the Rust's order.
 use lib.IntN.{ℤ, pos}
 use lib.Ieee.{Float, binary64, ofInt, add, sub, mul, div}
 use Rattle.float_bits.specs.Ceil.{ceilSigned}

@@ -1,5 +1,5 @@
 // The configuration of a message, after `MessageConfig` of simulation.rs: when it starts, how its filter's clock runs, and how its carrier turns.
-// Each function is equal to a definition of specs/ on every input. Assumes nothing.
+// Each function is equal to a definition of specs/ on every input.
 ghost use mathlib.Core.Path.{_≡_};
 ghost use Rattle.constants.specs.Rate.{four};
 ghost use Rattle.message_config.specs.Timing.{delayOf, unroundedStart, filterClockError};

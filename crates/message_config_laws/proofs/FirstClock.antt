@@ -1,5 +1,5 @@
 -- First clock: of a reply in range, the clock's phase at the first sample is from 0 to 1.1 samples and the filter's clock error within 0.1 (`first-clock`), which is what the theorems about the filterbank's count ask: it has at most 1,094 samples (`count-at-most`).
--- The first sample lies less than one sample past the unrounded start, or one whole sample once rounded. Assumes nothing.
+-- The first sample lies less than one sample past the unrounded start, or one whole sample once rounded.
 use mathlib.Core.Path.{_≡_, refl, sym, ap, _∙_, subst}
 use mathlib.Core.Logic.{inl, inr}
 use Prim.Native.Nat.{ℕ, _+_, _-_, _*_, _^_, _≤_, _<_}

@@ -1,5 +1,5 @@
 -- Hold-back: of two draws in range, the one at a later or equal time starts at most 32 samples earlier, if it is a reply (`held-at-four`; at other rates 8 * sps samples, `held`). Mode S and Mode A/C in any combination.
--- The earlier one starts no later than its time rounded up. The later one's delay, divided by 1 + e, is at most 31.5 samples (`clocked-delay`), and times less whole or half samples are values of the format, so rounding does not go below them. Assumes nothing.
+-- The earlier one starts no later than its time rounded up. The later one's delay, divided by 1 + e, is at most 31.5 samples (`clocked-delay`), and times less whole or half samples are values of the format, so rounding does not go below them.
 use mathlib.Core.Path.{_≡_, refl, sym, ap, _∙_, subst}
 use mathlib.Core.Logic.{inl, inr}
 use Prim.Native.Nat.{ℕ, _+_, _-_, _*_, _^_, _≤_, _<_, min, zero-le}

@@ -1,4 +1,4 @@
--- What the theorems of this crate take as in range: a draw's time and clock error, and the filters' delays. Each is what the checks of SPECIFICATION 3.1, or the theorem about group delays, gives. Assumes nothing.
+-- What the theorems of this crate take as in range: a draw's time and clock error, and the filters' delays. Each is what the checks of SPECIFICATION 3.1, or the theorem about group delays, gives.
 use mathlib.Core.Path.{refl, sym, ap, _∙_}
 use Prim.Native.Nat.{ℕ, _-_, _*_, _/_, _^_, _≤_, zero-le}
 use native.Mathlib.Nat.{le-trans, le-of-eq, zero-mul, mul-one, mul-right-comm}

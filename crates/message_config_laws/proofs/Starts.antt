@@ -1,4 +1,4 @@
--- The parts of a start in units of 2 ^ -1074: 1 + e, the delay divided by it, the difference from a finite time, and its ceiling. Assumes nothing.
+-- The parts of a start in units of 2 ^ -1074: 1 + e, the delay divided by it, the difference from a finite time, and its ceiling.
 use mathlib.Core.Path.{_≡_, refl, sym, ap, _∙_, subst}
 use Prim.Native.Nat.{ℕ, zero, suc, _+_, _-_, _*_, _/_, _^_, _≤_, _<_, min}
 use native.Mathlib.Nat.{le-trans, le-of-eq, lt-of-lt-of-le, lt-of-le-of-lt, lt-of-not-le, not-le-of-lt, le-of-suc-le-suc, le-antisymm, one-mul, zero-mul, mul-comm, mul-assoc, mul-right-comm, mul-mul-mul-comm, mul-le-mul-right, mul-le-mul-left, le-of-mul-le-mul-right, mul-sub, div-lt-iff-lt-mul, lt-div-mul-add, div-mul-le-self, sub-le, suc-mul, zero-div}

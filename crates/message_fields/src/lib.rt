@@ -1,4 +1,4 @@
-// The first field at fault of what a reply is made of: equal to its definition, in specs/ of `message`, on every input. Assumes nothing.
+// The first field at fault of what a reply is made of: equal to its definition, in specs/ of `message`, on every input.
 ghost use mathlib.Core.Path.{_≡_};
 ghost use lib.Dec.{ltb};
 ghost use Rattle.message.specs.Making.{fieldFault, checked};

@@ -1,4 +1,4 @@
-// Making a reply by type: equal to its definition, in specs/ of `message`, on every input. Assumes nothing.
+// Making a reply by type: equal to its definition, in specs/ of `message`, on every input.
 ghost use mathlib.Core.Path.{_≡_};
 ghost use mathlib.Core.List.{[], _∷_};
 ghost use Prim.Native.Nat.{_+_, _*_, _/_, _%_, _<_};

@@ -1,4 +1,4 @@
--- Classing kind by kind and length by length, as the code meets them. Assumes nothing.
+-- Classing kind by kind and length by length, as the code meets them.
 use mathlib.Core.Path.{_≡_, refl, sym, ap, _∙_}
 use mathlib.Core.Bool.{true, false}
 use mathlib.Core.List.{List}

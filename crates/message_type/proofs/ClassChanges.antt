@@ -1,4 +1,4 @@
--- Theorem `class-changes`: class 7 changes the answers of long messages of DF 18 with control 2, 3 or 5, from 0, and no others. Assumes nothing.
+-- Theorem `class-changes`: class 7 changes the answers of long messages of DF 18 with control 2, 3 or 5, from 0, and no others.
 use mathlib.Core.Path.{_≡_, refl, sym, ap, _∙_}
 use mathlib.Core.Bool.{Bool, true, false, cond}
 use mathlib.Core.List.{List, [], _∷_}

@@ -1,4 +1,4 @@
--- Formats of long messages that no single equation names: 24 to 31, and those of no class. Assumes nothing.
+-- Formats of long messages that no single equation names: 24 to 31, and those of no class.
 use mathlib.Core.Path.{_≡_, refl, sym, ap, _∙_}
 use mathlib.Core.Bool.{Bool}
 use Prim.Native.Nat.{ℕ, _+_, _-_, _<_, _≤_}

@@ -1,4 +1,4 @@
--- Theorem `made-classed`: every message that is made of fields in range is of its type by length and format. Assumes nothing.
+-- Theorem `made-classed`: every message that is made of fields in range is of its type by length and format.
 use mathlib.Core.Path.{_≡_, refl, ap, _∙_}
 use mathlib.Core.Bool.{Bool, true, false}
 use mathlib.Core.List.{List, [], _∷_}

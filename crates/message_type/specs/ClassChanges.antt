@@ -1,4 +1,4 @@
--- What is claimed of class 7: which answers of the base it changes, and that it changes no others. The base's answer is the type. Definitions only.
+-- What is claimed of class 7: which answers of the base it changes, and that it changes no others. The base's answer is the type.
 use Prim.Native.Nat.{ℕ, _<_}
 use mathlib.Core.Path.{_≡_}
 use mathlib.Core.Bool.{true, false}

@@ -1,4 +1,4 @@
--- Classing, as SPECIFICATION 7.5 says it: TIS-B, class 7, or else a reply's type by its length and format. Definitions only.
+-- Classing, as SPECIFICATION 7.5 says it: TIS-B, class 7, or else a reply's type by its length and format.
 use Prim.Native.Nat.{ℕ, _/_, _%_}
 use mathlib.Core.Bool.{Bool, true, false, cond}
 use mathlib.Core.List.{List, [], _∷_}

@@ -1,4 +1,4 @@
-// Classing: TIS-B, or the message type of a reply by its length and format. Assumes nothing.
+// Classing: TIS-B, or the message type of a reply by its length and format.
 use message::MessageType;
 use message::Reply;
 use message::ReplyKind;

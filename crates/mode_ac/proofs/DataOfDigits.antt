@@ -1,4 +1,4 @@
--- Data and digits are each other's: the digits of data that digits make, and the data that the digits of data below 4096 make. Assumes nothing.
+-- Data and digits are each other's: the digits of data that digits make, and the data that the digits of data below 4096 make.
 use mathlib.Core.Path.{_≡_}
 use Prim.Native.Nat.{ℕ, _+_, _*_, _/_, _%_, _<_, _≤_}
 use mathlib.Core.Bool.{Bool}

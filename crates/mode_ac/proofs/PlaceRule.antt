@@ -1,4 +1,4 @@
--- The rule of `placeOf` by its three cases: the first six bits, the last six, and none from 12 on. Assumes nothing.
+-- The rule of `placeOf` by its three cases: the first six bits, the last six, and none from 12 on.
 use mathlib.Core.Path.{_≡_}
 use Prim.Native.Nat.{ℕ, _+_, _*_, _≤_, _<_}
 use native.Mathlib.Omega.{arith}

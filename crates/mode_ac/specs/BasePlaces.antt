@@ -1,4 +1,4 @@
--- What is claimed of the places by rule: they are the base's, which lists them. No contract cites the list. Definitions only.
+-- What is claimed of the places by rule: they are the base's, which lists them. No contract cites the list.
 use Prim.Native.Nat.{ℕ}
 use mathlib.Core.Path.{_≡_}
 use mathlib.Core.List.{List, [], _∷_}

@@ -1,4 +1,4 @@
--- What building a Mode A/C reply answers. Definitions only.
+-- What building a Mode A/C reply answers.
 use Prim.Native.Nat.{ℕ}
 use mathlib.Core.Bool.{Bool, true, false}
 use lib.Dec.{ltb}

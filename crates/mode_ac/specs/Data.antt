@@ -1,4 +1,4 @@
--- Mode A/C data: its four digits and its twelve bits. Definitions only.
+-- Mode A/C data: its four digits and its twelve bits.
 use Prim.Native.Nat.{ℕ, _+_, _*_, _/_, _%_}
 use mathlib.Core.Bool.{Bool, false}
 use mathlib.Core.List.{List, [], _∷_}

@@ -1,4 +1,4 @@
--- The places of the twelve bits of Mode A/C data, by rule. Definitions only.
+-- The places of the twelve bits of Mode A/C data, by rule.
 use Prim.Native.Nat.{ℕ, _+_, _*_}
 use mathlib.Core.Bool.{cond}
 use lib.Dec.{ltb}

@@ -1,4 +1,4 @@
-// Mode A/C replies: their data, its four digits and refusal 10. Assumes nothing.
+// Mode A/C replies: their data, its four digits and refusal 10.
 ghost use mathlib.Core.Path.{_≡_};
 ghost use Prim.Native.Nat.{_%_};
 ghost use Rattle.mode_ac.specs.Data.{digitA, digitB, digitC, digitD, digitsOf};

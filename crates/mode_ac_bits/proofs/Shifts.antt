@@ -1,4 +1,4 @@
--- Each of the twelve bits, found by shifting the data. Assumes nothing.
+-- Each of the twelve bits, found by shifting the data.
 use mathlib.Core.Path.{_≡_, refl, ap, _∙_}
 use mathlib.Core.Bool.{Bool, false}
 use mathlib.Core.List.{List, [], _∷_, map}

@@ -1,4 +1,4 @@
-// The twelve bits of Mode A/C data, in the order C1 A1 C2 A2 C4 A4 B1 D1 B2 D2 B4 D4, and their places. Assumes nothing.
+// The twelve bits of Mode A/C data, in the order C1 A1 C2 A2 C4 A4 B1 D1 B2 D2 B4 D4, and their places.
 ghost use mathlib.Core.Path.{_≡_};
 ghost use Rattle.mode_ac.specs.Data.{bitOf};
 ghost use Rattle.mode_ac.specs.Places.{placeOf};

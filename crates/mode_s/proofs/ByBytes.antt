@@ -1,4 +1,4 @@
--- The long division a byte at a time, and parity in these terms. Assumes nothing.
+-- The long division a byte at a time, and parity in these terms.
 use Prim.Native.Nat.{ℕ, _+_, _*_, _/_, _%_, _<_}
 use mathlib.Core.Path.{_≡_, refl, sym, ap, ap₂, _∙_}
 use mathlib.Core.List.{List, [], _∷_, _++_}

@@ -1,5 +1,4 @@
 -- The routine by a table: a message's parity from that of the bytes before and one looked-up parity, and the rule of the table by one computed test.
--- Assumes nothing.
 use Prim.Native.Nat.{ℕ, _+_, _*_, _/_, _%_, _<_, _≤_}
 use mathlib.Core.Path.{_≡_, refl, sym, ap, ap₂, _∙_, subst}
 use mathlib.Core.Bool.{Bool}

@@ -1,5 +1,5 @@
 -- Laws of parity, for messages of any length: below 2^24; the parity of an exclusive or; a message that ends in its parity has parity 0;
--- and one with an overlay does not. Assumes nothing.
+-- and one with an overlay does not.
 use Prim.Native.Nat.{ℕ, zero, suc, _+_, _*_, _/_, _%_, _<_}
 use mathlib.Core.Path.{_≡_, refl, sym, ap, ap₂, _∙_, subst}
 use mathlib.Core.Bool.{Bool, not}

@@ -1,4 +1,4 @@
--- Laws of the product of polynomials: its own equation, a sum times a polynomial, and that a multiple of the generator other than 0 has a degree of 24 or more. Assumes nothing.
+-- Laws of the product of polynomials: its own equation, a sum times a polynomial, and that a multiple of the generator other than 0 has a degree of 24 or more.
 use Prim.Native.Nat.{ℕ, zero, suc, _+_, _*_, _/_, _%_, _≤_, _<_}
 use mathlib.Core.Path.{_≡_, refl, sym, ap, ap₂, _∙_}
 use native.Mathlib.Nat.{zero-mul, add-zero, le-refl, not-suc-le-zero, div-eq-of-lt}

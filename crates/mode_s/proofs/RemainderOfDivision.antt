@@ -1,4 +1,4 @@
--- Parity is the remainder of the message's polynomial times x^24 by the Annex's generator, and the only one, for a message of any length (`parity-is-the-remainder`). Assumes nothing.
+-- Parity is the remainder of the message's polynomial times x^24 by the Annex's generator, and the only one, for a message of any length (`parity-is-the-remainder`).
 use Prim.Native.Nat.{ℕ, zero, suc, _+_, _*_, _/_, _%_, _^_, _<_}
 use mathlib.Core.Path.{_≡_, refl, sym, ap, ap₂, _∙_, subst}
 use mathlib.Core.List.{List, [], _∷_, _++_}

@@ -1,5 +1,5 @@
 -- Which number is the parity of a message in the Annex's terms: the remainder R(x) of M(x) times x^24 by the generator G(x).
--- A polynomial whose coefficients are 0 or 1, and add modulo 2, is written as a number: bit i is the coefficient of x^i, and the sum of two polynomials is their exclusive or. Definitions only, for a message of any length.
+-- A polynomial whose coefficients are 0 or 1, and add modulo 2, is written as a number: bit i is the coefficient of x^i, and the sum of two polynomials is their exclusive or. For a message of any length.
 use Prim.Native.Nat.{ℕ, zero, suc, _+_, _*_, _/_, _%_, _^_, _<_}
 use mathlib.Core.Path.{_≡_}
 use mathlib.Core.List.{List, [], _∷_}

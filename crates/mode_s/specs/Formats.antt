@@ -1,4 +1,4 @@
--- The lists that downlink formats, CA and the control of DF 18 come from (SPECIFICATION 7.2). Definitions only.
+-- The lists that downlink formats, CA and the control of DF 18 come from (SPECIFICATION 7.2).
 use Prim.Native.Nat.{ℕ}
 use mathlib.Core.List.{List, [], _∷_}
 

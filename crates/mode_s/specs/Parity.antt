@@ -1,4 +1,4 @@
--- Parity of Mode S: the remainder of a message's bits, as a polynomial times x^24, by 0xFFF409 (x^24 implied), start 0. Definitions only, for a message of any length.
+-- Parity of Mode S: the remainder of a message's bits, as a polynomial times x^24, by 0xFFF409 (x^24 implied), start 0. For a message of any length.
 use Prim.Native.Nat.{ℕ, _+_, _*_, _/_, _%_}
 use mathlib.Core.List.{List, [], _∷_, _++_}
 use lib.ListN.{replicate}

@@ -1,4 +1,4 @@
-// Mode S: the formats' tables, and parity. Assumes nothing.
+// Mode S: the formats' tables, and parity.
 ghost use mathlib.Core.List.{[], _∷_};
 ghost use mathlib.Core.Path.{_≡_};
 ghost use Prim.Native.Nat.{_*_, _/_, _%_, _<_};

@@ -1,4 +1,4 @@
--- Demand 3 (SPECIFICATION 2.3) for callers in C: `opened-calls`, at the end of this file, is a term of the claim `OpenedCalls`. Assumes nothing.
+-- Demand 3 (SPECIFICATION 2.3) for callers in C: `opened-calls`, at the end of this file, is a term of the claim `OpenedCalls`.
 use mathlib.Core.Path.{_≡_, refl, sym, ap, _∙_}
 use mathlib.Core.List.{List, [], _∷_, map, map-map}
 use Prim.Native.Nat.{ℕ}

@@ -1,4 +1,4 @@
--- The answers of the functions of the crate, put together from what each called. Assumes nothing.
+-- The answers of the functions of the crate, put together from what each called.
 use mathlib.Core.Path.{_≡_, sym, ap, _∙_}
 use mathlib.Core.Bool.{cond, not}
 use mathlib.Core.List.{List}

@@ -1,4 +1,4 @@
--- A refusal changes neither state nor any buffer (SPECIFICATION 3.3), for callers in C: of a state that a call returned (`refused-run`), and of opening (`refused-opening`). Assumes nothing.
+-- A refusal changes neither state nor any buffer (SPECIFICATION 3.3), for callers in C: of a state that a call returned (`refused-run`), and of opening (`refused-opening`).
 use mathlib.Core.Path.{_≡_, refl, ap, subst}
 use mathlib.Core.List.{List}
 use mathlib.Core.Option.{Option, none, some}

@@ -1,4 +1,4 @@
--- What opening a run and a run call answer, as C has it: the numbers and values of refusals (SPECIFICATION 3.1), a number for each stop (9.2), and what a call leaves in the buffers. Definitions only.
+-- What opening a run and a run call answer, as C has it: the numbers and values of refusals (SPECIFICATION 3.1), a number for each stop (9.2), and what a call leaves in the buffers.
 use Prim.Native.Nat.{ℕ}
 use mathlib.Core.List.{List, [], _∷_}
 use lib.Ieee.{Float}

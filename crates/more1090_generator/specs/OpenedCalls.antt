@@ -1,5 +1,5 @@
 -- Demand 3 (SPECIFICATION 2.3) for callers in C, hypothesis and claim in one statement: `OpenedCalls`, at the end of this file. Where `more1090_open` answers refusal 0, it opened a run of which all is claimed that `simulation/specs/OpenedRuns` claims,
--- and calls of `more1090_run`, refused ones among them, with any draws, noise and buffers, answer and leave what run calls on it do, in C's numbers. Definitions only.
+-- and calls of `more1090_run`, refused ones among them, with any draws, noise and buffers, answer and leave what run calls on it do, in C's numbers.
 use mathlib.Core.Path.{_≡_}
 use mathlib.Core.List.{List, [], _∷_, map}
 use Prim.Native.Nat.{ℕ}

@@ -1,4 +1,4 @@
--- A run's state as C has it, plain numbers: out of a state and back into one. Any numbers whatever are read as a state. Definitions only.
+-- A run's state as C has it, plain numbers: out of a state and back into one. Any numbers whatever are read as a state.
 use Prim.Native.Nat.{ℕ}
 use mathlib.Core.Bool.{Bool, cond, not}
 use lib.Dec.{eqb}

@@ -1,4 +1,4 @@
-// Opening a run and run calls under C names: the state, the answers and the refusals as plain numbers. Assumes nothing.
+// Opening a run and run calls under C names: the state, the answers and the refusals as plain numbers.
 ghost use mathlib.Core.Path.{_≡_};
 ghost use mathlib.Core.Bool.{cond};
 ghost use Rattle.constants.specs.Rate.{four};

@@ -1,4 +1,4 @@
--- How the place of a flipped bit crosses to C. Definitions only.
+-- How the place of a flipped bit crosses to C.
 use Prim.Native.Nat.{ℕ}
 use mathlib.Core.Option.{Option, none, some}
 

@@ -1,4 +1,4 @@
-// Parity, flipped bits, classing and interrogators under C names. Assumes nothing.
+// Parity, flipped bits, classing and interrogators under C names.
 ghost use mathlib.Core.Path.{_≡_};
 ghost use Rattle.mode_s.specs.Parity.{parityOf};
 ghost use Rattle.parity_change.specs.Change.{changeAt, placeOf};

@@ -1,4 +1,4 @@
--- The search for the first noise value at fault, turn by turn, and the test that there is none. Assumes nothing.
+-- The search for the first noise value at fault, turn by turn, and the test that there is none.
 use mathlib.Core.Path.{_≡_, refl, sym, ap, subst, _∙_}
 use mathlib.Core.Bool.{Bool, true, false, cond, not}
 use mathlib.Core.List.{List, [], _∷_}

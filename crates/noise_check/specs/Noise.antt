@@ -1,4 +1,4 @@
--- Refusal 8 (SPECIFICATION 3.1): a noise value not finite or above 64 in size, with the index of the first. Definitions only.
+-- Refusal 8 (SPECIFICATION 3.1): a noise value not finite or above 64 in size, with the index of the first.
 use Prim.Native.Nat.{ℕ, suc}
 use mathlib.Core.Bool.{cond}
 use mathlib.Core.List.{List, [], _∷_}

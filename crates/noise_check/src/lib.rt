@@ -1,4 +1,4 @@
-// The check of lent noise: refusal 8. Assumes nothing.
+// The check of lent noise: refusal 8.
 ghost use mathlib.Core.Path.{_≡_};
 ghost use mathlib.Core.Bool.{false, cond};
 ghost use mathlib.Core.Option.{none};

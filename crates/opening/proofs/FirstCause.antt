@@ -1,5 +1,5 @@
 -- Refusals 9, 1 to 4, 5 and 6 of opening are each given for their cause only, and for the first cause in the order of SPECIFICATION 3.2: opening's answer is one that `Answered` of specs/ allows (`answered`), and no other (`only`).
--- So a run is opened exactly where none has a cause (`opens`). Assumes nothing.
+-- So a run is opened exactly where none has a cause (`opens`).
 use Prim.Native.Nat.{ℕ, zero, suc, _+_, _<_}
 use mathlib.Core.Path.{_≡_, refl, sym, _∙_}
 use mathlib.Core.Bool.{Bool, true, false, _&&_, cond, false≢true}

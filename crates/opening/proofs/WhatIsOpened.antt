@@ -1,4 +1,4 @@
--- What an opened run tells, beside that no refusal has a cause (`FirstCause`): its delays and distributions are in range and it has at most 2^52 samples (`opened-in-range`); and it stands where the theory of lists of calls begins (`opened-first`). Assumes nothing.
+-- What an opened run tells, beside that no refusal has a cause (`FirstCause`): its delays and distributions are in range and it has at most 2^52 samples (`opened-in-range`); and it stands where the theory of lists of calls begins (`opened-first`).
 use Prim.Native.Nat.{ℕ, _^_, _≤_}
 use mathlib.Core.Path.{_≡_, refl, sym, subst}
 use mathlib.Core.Bool.{true}

@@ -1,4 +1,4 @@
--- Which answer of opening is right: refusals 9, 1 to 4, 5 and 6 each for its cause, and for the first cause in the order of SPECIFICATION 3.2. Definitions only.
+-- Which answer of opening is right: refusals 9, 1 to 4, 5 and 6 each for its cause, and for the first cause in the order of SPECIFICATION 3.2.
 use Prim.Native.Nat.{ℕ, suc, _<_}
 use mathlib.Core.Path.{_≡_}
 use mathlib.Core.Bool.{true}

@@ -1,4 +1,4 @@
--- Opening a run (SPECIFICATION 8.2): its checks in order, and what it fills. Definitions only.
+-- Opening a run (SPECIFICATION 8.2): its checks in order, and what it fills.
 use Prim.Native.Nat.{ℕ}
 use mathlib.Core.Bool.{Bool, true, false, _&&_, cond}
 use mathlib.Core.List.{List}

@@ -1,4 +1,4 @@
-// What opening a run answers: refusal 9 for the lengths of what is lent, refusals 1 to 6, or the first state; and the prototypes. It writes nothing: `run_opening` does. Assumes nothing.
+// What opening a run answers: refusal 9 for the lengths of what is lent, refusals 1 to 6, or the first state; and the prototypes. It writes nothing: `run_opening` does.
 ghost use mathlib.Core.Path.{_≡_};
 ghost use Rattle.constants.specs.Rate.{four};
 ghost use Rattle.pulse_shape.specs.Prototype.{modeSPrototype, modeACPrototype};

@@ -1,4 +1,4 @@
--- Every claim on parity and flipped bits holds (`parity-laws`). Assumes nothing.
+-- Every claim on parity and flipped bits holds (`parity-laws`).
 use Prim.Native.Nat.{ℕ, _*_, _<_, _≤_}
 use mathlib.Core.Path.{_≡_, refl, sym, ap, _∙_}
 use mathlib.Core.List.{List}

@@ -1,4 +1,4 @@
--- A flipped bit changes the parity of a message of any length by the remainder of a power of x, which depends on its place alone (`any-change`). Assumes nothing.
+-- A flipped bit changes the parity of a message of any length by the remainder of a power of x, which depends on its place alone (`any-change`).
 use Prim.Native.Nat.{ℕ, zero, suc, _+_, _-_, _*_, _/_, _%_, _^_, _<_}
 use mathlib.Core.Path.{_≡_, refl, sym, ap, ap₂, _∙_}
 use mathlib.Core.Bool.{Bool}

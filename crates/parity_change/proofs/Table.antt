@@ -1,4 +1,4 @@
--- The changes as a table: its rule, that its entries all differ, and that none is 0, each by one computed test. Assumes nothing.
+-- The changes as a table: its rule, that its entries all differ, and that none is 0, each by one computed test.
 use Prim.Native.Nat.{ℕ, zero, suc, _<_}
 use mathlib.Core.Path.{_≡_, refl, sym, ap, _∙_, subst}
 use mathlib.Core.Bool.{Bool, true, false, not}

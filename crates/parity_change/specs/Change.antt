@@ -1,4 +1,4 @@
--- What one flipped bit does to the parity of a message, from the bit's place alone. Places are counted back from 0 at the last bit, so a short message has 0 to 55 and a long one 0 to 111. Definitions only.
+-- What one flipped bit does to the parity of a message, from the bit's place alone. Places are counted back from 0 at the last bit, so a short message has 0 to 55 and a long one 0 to 111.
 use Prim.Native.Nat.{ℕ, zero, suc, _-_, _/_, _%_, _^_}
 use mathlib.Core.Bool.{cond}
 use mathlib.Core.List.{List}

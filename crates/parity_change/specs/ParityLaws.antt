@@ -1,4 +1,4 @@
--- What is claimed of parity and of flipped bits. Definitions only.
+-- What is claimed of parity and of flipped bits.
 use Prim.Native.Nat.{ℕ, _<_}
 use mathlib.Core.Path.{_≡_}
 use mathlib.Core.List.{List}

@@ -1,4 +1,4 @@
-// What one flipped bit does to the parity of a Mode S message, from its place alone, and back. Places are counted back from 0 at the last bit. Assumes nothing.
+// What one flipped bit does to the parity of a Mode S message, from its place alone, and back. Places are counted back from 0 at the last bit.
 ghost use mathlib.Core.Path.{_≡_};
 ghost use Prim.Native.Nat.{_<_};
 ghost use Rattle.parity_change.specs.Change.{changeAt, placeOf, foundOf};

@@ -1,4 +1,4 @@
--- The samples of a message at the nominal clock rate, by the samples per pulse. Definitions only.
+-- The samples of a message at the nominal clock rate, by the samples per pulse.
 use Prim.Native.Nat.{ℕ, _+_, _*_, _/_}
 use mathlib.Core.Bool.{Bool}
 use Rattle.pulses.specs.ModeS.{modeSLength}

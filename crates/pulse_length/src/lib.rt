@@ -1,4 +1,4 @@
-// How many samples a message lasts at the nominal clock rate, and the most that one can have. Assumes nothing.
+// How many samples a message lasts at the nominal clock rate, and the most that one can have.
 ghost use mathlib.Core.Path.{_≡_};
 ghost use Prim.Native.Nat.{_≤_};
 ghost use Rattle.constants.specs.Rate.{four, requiredSamples, longestPulses, replyLimit};

@@ -1,5 +1,5 @@
 -- A delay lies within its prototype: where values of at most 16 in size cross a positive level, the delay is finite, at least 0 and below 7 * sps samples, which is 28 at 4 samples per pulse.
--- The quotient is of a smaller difference by a larger one, and rounding keeps order. Assumes nothing.
+-- The quotient is of a smaller difference by a larger one, and rounding keeps order.
 use mathlib.Core.Path.{_≡_, refl, sym, ap, _∙_, subst}
 use Prim.Native.Nat.{ℕ, zero, suc, _+_, _-_, _*_, _/_, _^_, _≤_, _<_, zero-le}
 use native.Mathlib.Nat.{le-trans, le-of-eq, le-of-lt, lt-of-lt-of-le, lt-of-le-of-lt, one-mul, zero-mul, mul-comm, mul-assoc, mul-le-mul-right, mul-le-mul-left, mul-lt-mul-of-pos-right, add-mul, mul-div-cancel}

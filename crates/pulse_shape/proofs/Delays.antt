@@ -1,4 +1,4 @@
--- What `delay_at` and `mode_ac_group_delay` compute is what the definitions say. Assumes nothing.
+-- What `delay_at` and `mode_ac_group_delay` compute is what the definitions say.
 use Prim.Native.Nat.{ℕ}
 use mathlib.Core.Path.{_≡_, refl, sym, ap, _∙_}
 use mathlib.Core.List.{List}

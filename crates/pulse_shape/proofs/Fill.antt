@@ -1,4 +1,4 @@
--- A loop that stores f j at each place j of an array makes the list of the values of f. Assumes nothing.
+-- A loop that stores f j at each place j of an array makes the list of the values of f.
 use Prim.Native.Nat.{ℕ, zero, suc, _+_, _-_, _<_, _≤_}
 use mathlib.Core.Path.{_≡_, refl, sym, ap, _∙_}
 use mathlib.Core.List.{List, [], _∷_, _++_, append-nil}

@@ -1,4 +1,4 @@
--- Each value of a prototype is an f32's, whatever the lowpass holds. Assumes nothing.
+-- Each value of a prototype is an f32's, whatever the lowpass holds.
 use Prim.Native.Nat.{ℕ, zero, suc, _+_, _-_, min}
 use lib.Dec.{T}
 use mathlib.Core.List.{List, [], _∷_}

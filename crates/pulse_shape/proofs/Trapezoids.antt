@@ -1,4 +1,4 @@
--- A trapezoid by its length and its edges, as the code meets them. Assumes nothing.
+-- A trapezoid by its length and its edges, as the code meets them.
 use Prim.Native.Nat.{ℕ}
 use mathlib.Core.Path.{_≡_, ap, _∙_}
 use mathlib.Core.List.{List}

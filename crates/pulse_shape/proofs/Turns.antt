@@ -1,4 +1,4 @@
--- One turn of each loop that reads, and its end: what is left of the computation is the same. Assumes nothing.
+-- One turn of each loop that reads, and its end: what is left of the computation is the same.
 use Prim.Native.Nat.{ℕ, zero, suc, _+_, _-_, _<_, _≤_}
 use mathlib.Core.Path.{_≡_, refl, sym, ap, _∙_, subst}
 use mathlib.Core.Bool.{Bool, true, false, _&&_}

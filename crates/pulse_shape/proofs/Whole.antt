@@ -1,4 +1,4 @@
--- For a lowpass of the right length the prototype is the whole convolution. Assumes nothing.
+-- For a lowpass of the right length the prototype is the whole convolution.
 use Prim.Native.Nat.{ℕ, zero, suc, _+_, _-_}
 use mathlib.Core.Path.{_≡_, refl, sym, ap, _∙_}
 use mathlib.Core.List.{List}

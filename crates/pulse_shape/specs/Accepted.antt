@@ -1,4 +1,4 @@
--- Which taps and prototype values a run takes. A list that these do not accept is refusal 5 for taps, and 6 for a prototype (SPECIFICATION 3.1). Definitions only.
+-- Which taps and prototype values a run takes. A list that these do not accept is refusal 5 for taps, and 6 for a prototype (SPECIFICATION 3.1).
 use Prim.Native.Nat.{ℕ}
 use mathlib.Core.List.{List, [], _∷_}
 use mathlib.Core.Bool.{Bool, true, _&&_}

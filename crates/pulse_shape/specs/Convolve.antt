@@ -1,4 +1,4 @@
--- The full convolution of two lists of f32, in the Rust's order of additions: `convolve_full`. Definitions only.
+-- The full convolution of two lists of f32, in the Rust's order of additions: `convolve_full`.
 use Prim.Native.Nat.{ℕ, zero, suc, _+_, _-_, min}
 use mathlib.Core.List.{List}
 use mathlib.Core.Bool.{cond}

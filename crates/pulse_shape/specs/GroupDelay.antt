@@ -1,4 +1,4 @@
--- The delay of a prototype: `compute_group_delay`, with the level as an argument. Definitions only.
+-- The delay of a prototype: `compute_group_delay`, with the level as an argument.
 use Prim.Native.Nat.{ℕ, _+_, _/_}
 use mathlib.Core.List.{List, [], _∷_}
 use mathlib.Core.Bool.{Bool, true, false, _&&_}

@@ -1,4 +1,4 @@
--- The prototypes (SPECIFICATION 6.2): the full convolution of a trapezoid pulse and a lowpass, 1,792 values. Definitions only.
+-- The prototypes (SPECIFICATION 6.2): the full convolution of a trapezoid pulse and a lowpass, 1,792 values.
 use Prim.Native.Nat.{ℕ}
 use mathlib.Core.List.{List}
 use lib.Ieee.{Float}

@@ -1,4 +1,4 @@
--- The trapezoid pulses (SPECIFICATION 6.1), `trapezoidal_pulse` in the Rust. Definitions only.
+-- The trapezoid pulses (SPECIFICATION 6.1), `trapezoidal_pulse` in the Rust.
 use Prim.Native.Nat.{ℕ, _+_, _-_}
 use mathlib.Core.List.{List}
 use mathlib.Core.Bool.{cond}

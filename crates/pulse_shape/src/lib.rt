@@ -1,5 +1,5 @@
 // The shape of a pulse, after pulse_shape.rs: trapezoids and prototypes.
-// Each function is equal to a definition of specs/ on every input. Assumes nothing.
+// Each function is equal to a definition of specs/ on every input.
 ghost use mathlib.Core.Path.{_≡_};
 ghost use Prim.Native.Nat.{_≤_, _<_, _+_, _-_};
 ghost use lib.ListN.{length};

@@ -1,4 +1,4 @@
-// Sums of taps over pulses: equal to their definitions, in specs/ of `filterbank`, on every input. Assumes nothing.
+// Sums of taps over pulses: equal to their definitions, in specs/ of `filterbank`, on every input.
 ghost use mathlib.Core.Path.{_≡_};
 ghost use mathlib.Core.Bool.{cond};
 ghost use lib.ListN.{take};

@@ -1,5 +1,5 @@
 // Runs the bench checks of durations, lengths, Mode A/C data and pulses, every Mode A/C map beside a second one written out place by place, and
-// Mode S maps. Its stdout is what the Rust's own functions give (`harness vectors`, differential/). Assumes nothing.
+// Mode S maps. Its stdout is what the Rust's own functions give (`harness vectors`, differential/).
 use duration::InSamples;
 use libc::STDOUT_FILENO;
 use mode_ac::Built;

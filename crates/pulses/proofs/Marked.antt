@@ -1,4 +1,4 @@
--- A map in which the places of a list are marked one after the other is the map of that list, place by place and whole. Assumes nothing.
+-- A map in which the places of a list are marked one after the other is the map of that list, place by place and whole.
 use mathlib.Core.Path.{_≡_, refl, sym, ap, subst, _∙_}
 use mathlib.Core.Bool.{Bool, true, false}
 use mathlib.Core.List.{List, [], _∷_, _++_}

@@ -1,5 +1,5 @@
 -- A Mode A/C pulse stands at a place exactly where SPECIFICATION 7.7 says: at 0 and 42, at 51 for SPI, at the place of each bit that is set, and nowhere else.
--- Of `placeOf` only this is used: it rises, and lies between 0 and 42. Assumes nothing.
+-- Of `placeOf` only this is used: it rises, and lies between 0 and 42.
 use mathlib.Core.Path.{_≡_, refl, sym, ap, _∙_}
 use mathlib.Core.Bool.{Bool, true, false}
 use mathlib.Core.List.{List, [], _∷_, _++_}

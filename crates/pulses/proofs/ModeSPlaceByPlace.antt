@@ -1,5 +1,5 @@
 -- A Mode S pulse stands at a place exactly where SPECIFICATION 7.6 says: 0, 2, 7, 9; of the pair of each bit, at its first place for 1 and at its second for 0;
--- and nowhere beyond the message. Assumes nothing.
+-- and nowhere beyond the message.
 use mathlib.Core.Path.{_≡_, refl, sym, ap, _∙_}
 use mathlib.Core.Bool.{Bool, true, false}
 use mathlib.Core.List.{List, [], _∷_}

@@ -1,4 +1,4 @@
--- What is claimed of the pulse maps of Mode A/C: they are the base's, whose twelve places come from a list. No contract cites these. Definitions only.
+-- What is claimed of the pulse maps of Mode A/C: they are the base's, whose twelve places come from a list. No contract cites these.
 use Prim.Native.Nat.{ℕ, zero, suc}
 use mathlib.Core.Path.{_≡_}
 use mathlib.Core.Bool.{Bool}

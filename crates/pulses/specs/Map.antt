@@ -1,4 +1,4 @@
--- A pulse map, from the list of the places where pulses stand. Definitions only.
+-- A pulse map, from the list of the places where pulses stand.
 use Prim.Native.Nat.{ℕ, zero, suc}
 use mathlib.Core.Bool.{Bool, true, false}
 use mathlib.Core.List.{List, [], _∷_}

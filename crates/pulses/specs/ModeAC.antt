@@ -1,4 +1,4 @@
--- The pulses of a Mode A/C reply. Definitions only.
+-- The pulses of a Mode A/C reply.
 use Prim.Native.Nat.{ℕ, zero, suc}
 use mathlib.Core.Bool.{Bool, true, false}
 use mathlib.Core.List.{List, [], _∷_, _++_}

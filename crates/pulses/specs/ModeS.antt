@@ -1,4 +1,4 @@
--- The pulses of a Mode S message. Definitions only.
+-- The pulses of a Mode S message.
 use Prim.Native.Nat.{ℕ, zero, suc, _+_, _-_, _*_, _/_, _%_, _^_}
 use mathlib.Core.Bool.{Bool, true, false}
 use mathlib.Core.List.{List, [], _∷_}

@@ -1,4 +1,4 @@
-// The pulse maps of Mode S and Mode A/C replies. Assumes nothing.
+// The pulse maps of Mode S and Mode A/C replies.
 ghost use mathlib.Core.Path.{_≡_};
 ghost use Prim.Native.Nat.{_<_, _≤_};
 ghost use Rattle.pulses.specs.ModeS.{byteBit, modeSBits, modeSPulses};

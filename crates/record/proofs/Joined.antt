@@ -1,4 +1,4 @@
--- A record put behind the bytes written so far joins them, and what follows it is unchanged (`joined`, `after`). Assumes nothing.
+-- A record put behind the bytes written so far joins them, and what follows it is unchanged (`joined`, `after`).
 use Prim.Native.Nat.{ℕ, _+_, _≤_}
 use mathlib.Core.Path.{_≡_, refl, sym, ap, _∙_}
 use mathlib.Core.Bool.{true}

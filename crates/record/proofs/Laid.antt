@@ -1,4 +1,4 @@
--- Bytes laid part after part, by each of the writes: what the writes so far laid, and the next write's bytes behind them (`next`). Assumes nothing.
+-- Bytes laid part after part, by each of the writes: what the writes so far laid, and the next write's bytes behind them (`next`).
 use Prim.Native.Nat.{ℕ, _+_, _≤_, _<_}
 use mathlib.Core.Path.{_≡_, refl, sym, ap, _∙_}
 use mathlib.Core.Bool.{Bool, true, false, cond}

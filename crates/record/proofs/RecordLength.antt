@@ -1,4 +1,4 @@
--- A record has 66 bytes (`record-length`), its reply having 14. Assumes nothing.
+-- A record has 66 bytes (`record-length`), its reply having 14.
 use Prim.Native.Nat.{ℕ}
 use mathlib.Core.Path.{_≡_}
 use lib.ListN.{length, length-append}

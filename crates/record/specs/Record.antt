@@ -1,4 +1,4 @@
--- A record's 66 bytes (SPECIFICATION 4.5). Definitions only.
+-- A record's 66 bytes (SPECIFICATION 4.5).
 use Prim.Native.Nat.{ℕ}
 use mathlib.Core.Bool.{cond}
 use mathlib.Core.List.{List, [], _∷_, _++_}

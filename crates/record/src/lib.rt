@@ -1,4 +1,4 @@
-// A record of 66 bytes. Each function is equal to a definition of specs/ on every input. Assumes nothing.
+// A record of 66 bytes. Each function is equal to a definition of specs/ on every input.
 ghost use mathlib.Core.Path.{_≡_};
 ghost use mathlib.Core.List.{[], _∷_};
 ghost use Prim.Native.Nat.{_+_, _≤_, _<_};

@@ -1,4 +1,4 @@
--- What `add` leaves, from what its calls give. Assumes nothing.
+-- What `add` leaves, from what its calls give.
 use Prim.Native.Nat.{ℕ, _%_}
 use mathlib.Core.Path.{_≡_, _∙_}
 use mathlib.Core.List.{List}

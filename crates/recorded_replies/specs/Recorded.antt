@@ -1,4 +1,4 @@
--- A mirror of code: a reply added into working memory and recorded, from its message and the bytes of its draw: what is left of the two. Definitions only.
+-- A mirror of code: a reply added into working memory and recorded, from its message and the bytes of its draw: what is left of the two.
 use Prim.Native.Nat.{ℕ, _%_}
 use mathlib.Core.List.{List}
 use lib.Ieee.{Float}

@@ -1,4 +1,4 @@
-// A reply added into working memory and recorded, from its message and the bytes of its draw. Assumes nothing.
+// A reply added into working memory and recorded, from its message and the bytes of its draw.
 ghost use mathlib.Core.Path.{_≡_};
 ghost use Prim.Native.Nat.{_%_};
 ghost use Rattle.constants.specs.Rate.{four};

@@ -1,4 +1,4 @@
--- The table of refusals (SPECIFICATION 3.1): what is returned for each cause, a number and its values. Definitions only.
+-- The table of refusals (SPECIFICATION 3.1): what is returned for each cause, a number and its values.
 use Prim.Native.Nat.{ℕ}
 use mathlib.Core.List.{List, [], _∷_}
 use Rattle.refusals.specs.declared.Refusal.{Refusal}

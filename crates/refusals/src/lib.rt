@@ -1,4 +1,4 @@
-// The refusals of opening a run and of run calls. specs/ gives the number and values of SPECIFICATION 3.1 for each. Assumes nothing.
+// The refusals of opening a run and of run calls. specs/ gives the number and values of SPECIFICATION 3.1 for each.
 ghost use mathlib.Core.Path.{_≡_};
 ghost use Rattle.refusals.specs.Number.{numberOf};
 

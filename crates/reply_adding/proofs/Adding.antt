@@ -1,4 +1,4 @@
--- What adding a reply leaves and answers, from what the functions within it give. Assumes nothing.
+-- What adding a reply leaves and answers, from what the functions within it give.
 use Prim.Native.Nat.{ℕ, _^_, _≤_, _<_}
 use native.Mathlib.Omega.{arith}
 use mathlib.Core.Path.{_≡_, sym, ap, _∙_, subst}

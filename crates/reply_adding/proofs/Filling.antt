@@ -1,4 +1,4 @@
--- One turn of the loop that writes a wave's values, its beginning and its two ends. Assumes nothing.
+-- One turn of the loop that writes a wave's values, its beginning and its two ends.
 use Prim.Native.Nat.{ℕ, zero, suc, _+_, _-_, _^_, _<_, _≤_}
 use native.Mathlib.Nat.{mod-eq-of-lt, sub-zero}
 use native.Mathlib.Numerals.{add-one}

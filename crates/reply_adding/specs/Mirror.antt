@@ -1,4 +1,4 @@
--- What functions within this crate give, as their contracts name it. No public contract cites this file. Definitions only.
+-- What functions within this crate give, as their contracts name it. No public contract cites this file.
 use Prim.Native.Nat.{ℕ}
 use mathlib.Core.Path.{_≡_}
 use mathlib.Core.Bool.{Bool, true, false}

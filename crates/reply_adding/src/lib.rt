@@ -1,5 +1,5 @@
 // The samples of a reply added into working memory, by the prototype of its kind: the pulses, the filterbank's values at each clock, and their turning by the carrier.
-// The public function is equal to definitions of `reply_samples` on every input. Assumes nothing.
+// The public function is equal to definitions of `reply_samples` on every input.
 ghost use mathlib.Core.Path.{_≡_};
 ghost use Prim.Native.Nat.{_≤_};
 ghost use lib.ListN.{length, take};

@@ -1,4 +1,4 @@
--- A Mode A/C reply that was made from a draw's data and SPI has their pulses: the two bytes hold both. Assumes nothing.
+-- A Mode A/C reply that was made from a draw's data and SPI has their pulses: the two bytes hold both.
 use Prim.Native.Nat.{ℕ, _+_, _*_, _/_, _%_, _<_}
 use native.Mathlib.Omega.{arith}
 use mathlib.Core.Path.{_≡_, ap, _∙_}

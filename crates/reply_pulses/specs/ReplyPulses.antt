@@ -1,4 +1,4 @@
--- The pulses of a reply by its kind: `message_to_pulses` of the Rust. Definitions only.
+-- The pulses of a reply by its kind: `message_to_pulses` of the Rust.
 use Prim.Native.Nat.{ℕ, _+_, _*_, _/_, _%_}
 use mathlib.Core.Bool.{Bool, true, false}
 use mathlib.Core.List.{List}

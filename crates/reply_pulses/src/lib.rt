@@ -1,5 +1,5 @@
 // A reply's pulses and the samples that it lasts, after `message_to_pulses` and `message_num_samples` of simulation.rs.
-// Each function is equal to a definition of specs/ on every input. Assumes nothing.
+// Each function is equal to a definition of specs/ on every input.
 ghost use mathlib.Core.Path.{_≡_};
 ghost use Prim.Native.Nat.{_<_};
 ghost use Rattle.constants.specs.Rate.{four};

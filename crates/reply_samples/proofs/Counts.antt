@@ -1,4 +1,4 @@
--- A reply has as many samples as its count says, at any rate; and for a clock error of its filter within 0.1 and a first phase from 0 to 2 samples at most 1,094, a short message 596, Mode A/C 218 and with SPI 258. Assumes nothing.
+-- A reply has as many samples as its count says, at any rate; and for a clock error of its filter within 0.1 and a first phase from 0 to 2 samples at most 1,094, a short message 596, Mode A/C 218 and with SPI 258.
 use Prim.Native.Nat.{ℕ, suc, _*_, _≤_}
 use mathlib.Core.Path.{_≡_, refl, sym, ap, _∙_, subst}
 use mathlib.Core.Bool.{true, false}

@@ -1,4 +1,4 @@
--- The ring: the place after that of sample s is that of sample s + 1, a place being the sample's number modulo the places; and adding keeps the memory's length. Assumes nothing.
+-- The ring: the place after that of sample s is that of sample s + 1, a place being the sample's number modulo the places; and adding keeps the memory's length.
 use Prim.Native.Nat.{ℕ, _+_, _-_, _%_, _<_, _≤_}
 use native.Mathlib.Nat.{mod-lt, mod-self, mod-eq-of-lt, mod-add-mod}
 use native.Mathlib.Omega.{arith}

@@ -1,4 +1,4 @@
--- One turn of the loop that adds values turned by the carrier, and its end; what the functions that it calls give; and what is no place. Assumes nothing.
+-- One turn of the loop that adds values turned by the carrier, and its end; what the functions that it calls give; and what is no place.
 use Prim.Native.Nat.{ℕ, suc, _+_, _*_, _<_, _≤_}
 use native.Mathlib.Numerals.{add-one}
 use native.Mathlib.Omega.{arith}

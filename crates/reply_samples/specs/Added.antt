@@ -1,4 +1,4 @@
--- A mirror of code: samples added into working memory, a flat list of f32, two for each place of a ring, real part first. Plain run has sums instead. Definitions only.
+-- A mirror of code: samples added into working memory, a flat list of f32, two for each place of a ring, real part first. Plain run has sums instead.
 use Prim.Native.Nat.{ℕ, _+_, _-_, _*_}
 use mathlib.Core.Bool.{Bool, cond, _&&_}
 use mathlib.Core.List.{List, [], _∷_}

@@ -1,4 +1,4 @@
--- The samples that a reply adds, from its first one on: `MessageConfig::samples` of the Rust, which knows not where they are added. Their number is a definition apart from their values. Definitions only.
+-- The samples that a reply adds, from its first one on: `MessageConfig::samples` of the Rust, which knows not where they are added. Their number is a definition apart from their values.
 use Prim.Native.Nat.{ℕ}
 use mathlib.Core.List.{List, [], _∷_}
 use lib.ListN.{length}

@@ -1,5 +1,5 @@
 // A reply's samples, after `MessageConfig::samples` of simulation.rs: the filterbank's values turned by the carrier, and their addition into working memory that is used as a ring.
-// The public function is equal to definitions of specs/ on every input; what it is made of has what it asks tested before. Assumes nothing.
+// The public function is equal to definitions of specs/ on every input; what it is made of has what it asks tested before.
 ghost use mathlib.Core.Path.{_≡_};
 ghost use Prim.Native.Nat.{_≤_, _<_};
 ghost use lib.ListN.{length, getD, set};

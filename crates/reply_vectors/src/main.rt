@@ -1,4 +1,4 @@
-// Replays the vectors of parity, making and classing: a line for each record of standard input. What it writes is held to the Rust's answers in the file stdout; `harness vectors` (differential/) makes both. Assumes nothing.
+// Replays the vectors of parity, making and classing: a line for each record of standard input. What it writes is held to the Rust's answers in the file stdout; `harness vectors` (differential/) makes both.
 use libc::STDIN_FILENO;
 use libc::STDOUT_FILENO;
 use message::Field;

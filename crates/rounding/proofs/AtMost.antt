@@ -1,4 +1,4 @@
--- A float that is finite and at most l in size, l a whole number, and how sums and products in either format keep to such bounds: what is rounded is no larger than what its bound rounds to. Assumes nothing.
+-- A float that is finite and at most l in size, l a whole number, and how sums and products in either format keep to such bounds: what is rounded is no larger than what its bound rounds to.
 use mathlib.Core.Path.{_≡_, sym, ap, _∙_, subst}
 use Prim.Native.Nat.{ℕ, _+_, _-_, _*_, _^_, _≤_, _<_}
 use native.Mathlib.Nat.{le-trans, le-of-eq, add-mul, mul-one, mul-assoc, mul-comm, mul-right-comm, mul-mul-mul-comm, mul-le-mul, mul-le-mul-right, mul-pos, le-of-mul-le-mul-right, zero-lt-suc}

@@ -1,4 +1,4 @@
--- Comparisons of finite values in units of 2 ^ -1074, and what a test that passed or failed says of them. Assumes nothing.
+-- Comparisons of finite values in units of 2 ^ -1074, and what a test that passed or failed says of them.
 use mathlib.Core.Path.{_≡_, refl, sym, ap, _∙_, subst}
 use Prim.Native.Nat.{ℕ, _+_, _*_, _^_, _<_}
 use native.Mathlib.Nat.{le-of-eq, lt-of-lt-of-le, lt-of-le-of-lt, zero-mul, mul-assoc, mul-right-comm, mul-lt-mul-of-pos-right, lt-of-mul-lt-mul-right, mul-pos, add-mul, eq-of-mul-eq-mul-right, lt-irrefl}

@@ -1,4 +1,4 @@
--- A fraction rounded to the nearest whole number, a tie to the even one: it is off by a half at most (`closest-off`), its three cases by the remainder, and one division that does it (`closest-half`). Assumes nothing.
+-- A fraction rounded to the nearest whole number, a tie to the even one: it is off by a half at most (`closest-off`), its three cases by the remainder, and one division that does it (`closest-half`).
 use mathlib.Core.Path.{_≡_, refl, sym, ap, _∙_, subst}
 use mathlib.Core.Logic.{_⊎_, inl, inr}
 use Prim.Native.Nat.{ℕ, zero, suc, _+_, _-_, _*_, _/_, _%_, _≤_, _<_, compare, Ordering, Ordering·lt, Ordering·eq, Ordering·gt}

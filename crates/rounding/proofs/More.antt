@@ -1,4 +1,4 @@
--- More on units: differences and products with no condition on zeros, negative differences, casts, exact results, and the error of a rounding. Assumes nothing.
+-- More on units: differences and products with no condition on zeros, negative differences, casts, exact results, and the error of a rounding.
 use mathlib.Core.Path.{_≡_, refl, sym, ap, _∙_, subst}
 use mathlib.Core.Logic.{inl, inr}
 use Prim.Native.Nat.{ℕ, zero, suc, _+_, _-_, _*_, _/_, _%_, _^_, _≤_, _<_, min}

@@ -1,4 +1,4 @@
--- Comparison by sign and size: what `le` says of two finite values, that a negation turns it round, and that rounding keeps the sign. For either format. Assumes nothing.
+-- Comparison by sign and size: what `le` says of two finite values, that a negation turns it round, and that rounding keeps the sign. For either format.
 use mathlib.Core.Path.{_≡_, refl, sym, ap, _∙_}
 use mathlib.Core.Logic.{_⊎_, inl, inr}
 use Prim.Native.Nat.{ℕ, zero, suc, _+_, _-_, _*_, _/_, _%_, _^_, _≤_, _<_, compare, zero-le}

@@ -1,4 +1,4 @@
--- The remainder of two finite values, in units of 2 ^ -1074: that of their units, rounded. Assumes nothing.
+-- The remainder of two finite values, in units of 2 ^ -1074: that of their units, rounded.
 use mathlib.Core.Path.{_≡_, refl, sym, ap, _∙_, subst}
 use Prim.Native.Nat.{ℕ, _+_, _-_, _*_, _/_, _%_, _^_, _≤_, _<_}
 use native.Mathlib.Nat.{le-of-eq, lt-of-lt-of-le, lt-of-le-of-lt, mul-comm, mul-assoc, mul-right-comm, mul-pos, div-add-mod', add-mul, mul-sub, mul-lt-mul-of-pos-right, lt-of-mul-lt-mul-right, le-of-mul-le-mul-right, mul-add-mod-self-right, mod-eq-of-lt, mod-lt}

@@ -1,4 +1,4 @@
--- A float that is finite and at most b units of 2 ^ -1074 in size, and how sums, differences and remainders keep to such bounds. Assumes nothing.
+-- A float that is finite and at most b units of 2 ^ -1074 in size, and how sums, differences and remainders keep to such bounds.
 use mathlib.Core.Path.{_≡_, refl, sym, ap, _∙_, subst}
 use mathlib.Core.Logic.{_⊎_, inl, inr}
 use Prim.Native.Nat.{ℕ, zero, suc, _+_, _-_, _*_, _%_, _^_, _≤_, _<_, zero-le}

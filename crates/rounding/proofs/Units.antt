@@ -1,5 +1,5 @@
 -- A finite `f64` that is not negative as a whole number of units of 2 ^ -1074, and the operations on such numbers: `G a c` is a / c rounded, in units.
--- It keeps the order, and it is exact at q * 2 ^ j for a q of at most 53 digits. Assumes nothing.
+-- It keeps the order, and it is exact at q * 2 ^ j for a q of at most 53 digits.
 use mathlib.Core.Path.{_≡_, refl, sym, ap, _∙_, subst}
 use mathlib.Core.Logic.{inl, inr}
 use Prim.Native.Nat.{ℕ, zero, suc, _+_, _-_, _*_, _/_, _%_, _^_, _≤_, _<_, zero-le}

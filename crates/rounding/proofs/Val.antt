@@ -1,4 +1,4 @@
--- Signed values: `Val x s n` says that x is finite, has the sign s, and is n units of 2 ^ -1074 in size. Each operation is exact and then rounded by `G`, and comparison goes by sign and size. Assumes nothing.
+-- Signed values: `Val x s n` says that x is finite, has the sign s, and is n units of 2 ^ -1074 in size. Each operation is exact and then rounded by `G`, and comparison goes by sign and size.
 use mathlib.Core.Path.{_≡_, refl, sym, ap, _∙_, subst}
 use mathlib.Core.Logic.{inl, inr}
 use Prim.Native.Nat.{ℕ, zero, suc, _+_, _-_, _*_, _%_, _^_, _≤_, _<_}

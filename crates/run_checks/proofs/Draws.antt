@@ -1,4 +1,4 @@
--- Refusal 7 is the plain bench's: a first draw that jumps back, or the first draw and field at fault. Assumes nothing.
+-- Refusal 7 is the plain bench's: a first draw that jumps back, or the first draw and field at fault.
 use mathlib.Core.Path.{_≡_, refl, sym, ap, _∙_}
 use mathlib.Core.Bool.{Bool, true, false, cond, false≢true}
 use mathlib.Core.List.{List, _∷_}

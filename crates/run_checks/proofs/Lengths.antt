@@ -1,4 +1,4 @@
--- Refusal 9, test by test, as the code meets it. Assumes nothing.
+-- Refusal 9, test by test, as the code meets it.
 use mathlib.Core.Path.{_≡_, refl, sym}
 use mathlib.Core.Bool.{Bool, true, false, not, _||_, false≢true}
 use Prim.Native.Nat.{ℕ, _%_}

@@ -1,4 +1,4 @@
--- Refusals 9 and 7 of a run call: what is lent has a wrong length, or a draw is at fault, in the code's own tests; the plain bench has them as `wrongLengths` and `drawRefusal`. Definitions only.
+-- Refusals 9 and 7 of a run call: what is lent has a wrong length, or a draw is at fault, in the code's own tests; the plain bench has them as `wrongLengths` and `drawRefusal`.
 use Prim.Native.Nat.{ℕ, _%_}
 use mathlib.Core.Bool.{Bool, false, cond, not, _||_}
 use mathlib.Core.List.{List, []}

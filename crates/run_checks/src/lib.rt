@@ -1,4 +1,4 @@
-// The checks of a run call on lengths and draws: refusals 9 and 7. Assumes nothing.
+// The checks of a run call on lengths and draws: refusals 9 and 7.
 ghost use mathlib.Core.Path.{_≡_};
 ghost use mathlib.Core.Bool.{_||_};
 ghost use mathlib.Core.Option.{some};

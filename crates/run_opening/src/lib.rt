@@ -1,4 +1,4 @@
-// Opening a run: what `opening` answers and, accepted, the prototypes filled and working memory set to 0.0. Assumes nothing.
+// Opening a run: what `opening` answers and, accepted, the prototypes filled and working memory set to 0.0.
 ghost use mathlib.Core.Path.{_≡_};
 ghost use Rattle.constants.specs.Rate.{four};
 ghost use Rattle.opening.specs.Opening.{half, openedOf, isRun, leftBy};

@@ -1,4 +1,4 @@
--- A start, as the machine reads it: its sign, and its number where it is not negative. Assumes nothing.
+-- A start, as the machine reads it: its sign, and its number where it is not negative.
 use mathlib.Core.Path.{_≡_, refl, sym, ap, _∙_, subst}
 use mathlib.Core.Bool.{Bool, true, false}
 use Prim.Native.Nat.{ℕ, _<_, _^_}

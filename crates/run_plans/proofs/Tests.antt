@@ -1,4 +1,4 @@
--- The plan, test by test, as the code meets it. Assumes nothing.
+-- The plan, test by test, as the code meets it.
 use mathlib.Core.Path.{_≡_, refl, sym, ap, _∙_}
 use mathlib.Core.Bool.{Bool, true, false}
 use Prim.Native.Nat.{ℕ, _+_, _-_, _≤_, _<_}

@@ -1,4 +1,4 @@
--- What comes next in a run call, read as the mirror of the code in `call_lists` has it. Definitions only.
+-- What comes next in a run call, read as the mirror of the code in `call_lists` has it.
 use Prim.Native.Nat.{ℕ}
 use mathlib.Core.Bool.{Bool, true, false}
 use lib.IntN.{ℤ, pos, negsuc}

@@ -1,4 +1,4 @@
-// What comes next in a run call, from counts and the next draw's message alone: a stop, samples that are due, or a draw. Assumes nothing.
+// What comes next in a run call, from counts and the next draw's message alone: a stop, samples that are due, or a draw.
 ghost use mathlib.Core.Bool.{false};
 ghost use mathlib.Core.Path.{_≡_};
 ghost use Prim.Native.Nat.{_-_, _<_, _^_, min};

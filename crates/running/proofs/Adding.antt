@@ -1,4 +1,4 @@
--- A reply added place by place is the theory's `put`, and its record the theory's `entry`. Assumes nothing.
+-- A reply added place by place is the theory's `put`, and its record the theory's `entry`.
 use mathlib.Core.Path.{_≡_, refl, ap, _∙_}
 use mathlib.Core.Bool.{Bool, true, cond}
 use mathlib.Core.List.{List, [], _∷_, map, append-assoc}

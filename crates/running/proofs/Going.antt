@@ -1,4 +1,4 @@
--- The invariant of a call's loop, the rest of the call being the whole call, and what each end of a step does to it. Assumes nothing.
+-- The invariant of a call's loop, the rest of the call being the whole call, and what each end of a step does to it.
 use mathlib.Core.Path.{_≡_, refl, sym, ap, _∙_, subst}
 use mathlib.Core.List.{List}
 use Prim.Native.Nat.{ℕ, suc, _+_, _-_, _*_, _/_, _≤_, _<_}

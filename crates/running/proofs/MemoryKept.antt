@@ -1,4 +1,4 @@
--- The theory's machine keeps the length of working memory (`run-kept`). Assumes nothing.
+-- The theory's machine keeps the length of working memory (`run-kept`).
 use mathlib.Core.Path.{_≡_, refl, ap, _∙_}
 use mathlib.Core.List.{List, [], _∷_}
 use mathlib.Core.Option.{Option, none, some}

@@ -1,4 +1,4 @@
--- The checks of a run call are the theory's, and each answer is what the definition gives. Assumes nothing.
+-- The checks of a run call are the theory's, and each answer is what the definition gives.
 use mathlib.Core.Path.{_≡_, refl, sym, ap, _∙_}
 use mathlib.Core.Bool.{Bool, true, false, cond, _||_, false≢true}
 use mathlib.Core.List.{List, [], _∷_}

@@ -1,4 +1,4 @@
--- `run-is`: with working memory and prototypes of their lengths, a run call is the theory's `machineRun`, refused or not, on the flat buffers. Assumes nothing.
+-- `run-is`: with working memory and prototypes of their lengths, a run call is the theory's `machineRun`, refused or not, on the flat buffers.
 use mathlib.Core.Path.{_≡_, refl, ap, _∙_}
 use mathlib.Core.Bool.{Bool, false, cond}
 use mathlib.Core.List.{List}

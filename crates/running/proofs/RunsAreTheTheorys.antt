@@ -1,4 +1,4 @@
--- `runs-are`: a list of run calls, from any state with working memory and prototypes of their lengths, is the theory's list of calls. Assumes nothing.
+-- `runs-are`: a list of run calls, from any state with working memory and prototypes of their lengths, is the theory's list of calls.
 use mathlib.Core.Path.{_≡_, refl, ap, _∙_}
 use mathlib.Core.List.{List, [], _∷_}
 use lib.ListN.{length}

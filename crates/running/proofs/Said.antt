@@ -1,4 +1,4 @@
--- What the plan of a turn tells of the buffers, and what doing it leaves of the rest of the call: each arm of `step`. Assumes nothing.
+-- What the plan of a turn tells of the buffers, and what doing it leaves of the rest of the call: each arm of `step`.
 use mathlib.Core.Path.{_≡_, refl, sym, ap, _∙_, subst}
 use mathlib.Core.Bool.{Bool, true, false}
 use mathlib.Core.List.{List}

@@ -1,4 +1,4 @@
--- What writing due samples leaves, where they fit. Assumes nothing.
+-- What writing due samples leaves, where they fit.
 use mathlib.Core.Path.{_≡_, sym, ap, _∙_}
 use mathlib.Core.Bool.{Bool, cond}
 use mathlib.Core.List.{List}

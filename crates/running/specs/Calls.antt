@@ -1,4 +1,4 @@
--- A run call, refused or not: its checks in the order of SPECIFICATION 3.2, and what it answers and leaves, by the mirror of its turns (`Ended`). Definitions only.
+-- A run call, refused or not: its checks in the order of SPECIFICATION 3.2, and what it answers and leaves, by the mirror of its turns (`Ended`).
 use Prim.Native.Nat.{ℕ}
 use mathlib.Core.Bool.{cond}
 use mathlib.Core.List.{List}

@@ -1,4 +1,4 @@
--- A mirror of code: what a call leaves and answers, from what the theory's turns come to; and stops by number. From an opened run `simulation/specs/OpenedRuns` says it in plain terms. Definitions only.
+-- A mirror of code: what a call leaves and answers, from what the theory's turns come to; and stops by number. From an opened run `simulation/specs/OpenedRuns` says it in plain terms.
 use Prim.Native.Nat.{ℕ, _*_}
 use mathlib.Core.List.{List}
 use lib.Ieee.{Float, nan}

@@ -1,4 +1,4 @@
--- The generator of a state and its prototypes, as plain run and plain bench take it. Definitions only.
+-- The generator of a state and its prototypes, as plain run and plain bench take it.
 use mathlib.Core.List.{List}
 use lib.Ieee.{Float}
 use Rattle.call_lists.specs.Generator.{Generator}

@@ -1,4 +1,4 @@
--- Run calls one after the other (`runsLeft`); and a run call as the theory of lists of calls has it: what a call's result and the state after it stand for. Definitions only.
+-- Run calls one after the other (`runsLeft`); and a run call as the theory of lists of calls has it: what a call's result and the state after it stand for.
 use Prim.Native.Nat.{ℕ}
 use mathlib.Core.List.{List, [], _∷_}
 use lib.Ieee.{Float, nan}

@@ -1,4 +1,4 @@
--- The code's turns, as the theory of lists of calls has them, which only contracts within this crate cite. Definitions only.
+-- The code's turns, as the theory of lists of calls has them, which only contracts within this crate cite.
 use Prim.Native.Nat.{ℕ, _+_, _*_, _≤_, _<_}
 use mathlib.Core.List.{List}
 use mathlib.Core.Path.{_≡_}

@@ -1,4 +1,4 @@
-// Run calls: the checks, and the turns, each a stop, samples that are due, or a draw. Each function is tied to the theory of lists of calls. Assumes nothing.
+// Run calls: the checks, and the turns, each a stop, samples that are due, or a draw. Each function is tied to the theory of lists of calls.
 ghost use mathlib.Core.Path.{_≡_};
 ghost use Prim.Native.Nat.{_+_, _*_, _≤_, _<_, _^_};
 ghost use lib.ListN.{length};

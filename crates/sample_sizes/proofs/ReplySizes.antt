@@ -1,4 +1,4 @@
--- What a reply adds to a sample is at most 336 times 2 ^ 20 in each part, where its amplitude is at most 2 ^ 20 and its clock, rate and phase are in range (`reply-sized`). Assumes nothing.
+-- What a reply adds to a sample is at most 336 times 2 ^ 20 in each part, where its amplitude is at most 2 ^ 20 and its clock, rate and phase are in range (`reply-sized`).
 use mathlib.Core.Path.{_≡_, refl}
 use Prim.Native.Nat.{ℕ, _*_, _^_}
 use mathlib.Core.Bool.{true}

@@ -1,4 +1,4 @@
--- Every number of a sample that a list of run calls writes is finite and at most 2 ^ 53 in size, however many replies overlap and however long the run (`samples-sized`): from 2 ^ 53 on, what a reply or noise adds is less than half of a step of the format. Assumes nothing.
+-- Every number of a sample that a list of run calls writes is finite and at most 2 ^ 53 in size, however many replies overlap and however long the run (`samples-sized`): from 2 ^ 53 on, what a reply or noise adds is less than half of a step of the format.
 use mathlib.Core.Path.{_≡_, refl, subst}
 use Prim.Native.Nat.{ℕ, _+_, _*_, _^_, _≤_}
 use mathlib.Core.Bool.{Bool, true, false, not}

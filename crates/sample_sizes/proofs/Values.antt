@@ -1,4 +1,4 @@
--- A value of the filterbank is at most 336 in size, where the prototype's values are at most 16: a tap is at most 48, and seven are summed (`values-sized`). The bounds are coarse; what counts is that they hold. Assumes nothing.
+-- A value of the filterbank is at most 336 in size, where the prototype's values are at most 16: a tap is at most 48, and seven are summed (`values-sized`). The bounds are coarse; what counts is that they hold.
 use mathlib.Core.Path.{_≡_, refl, sym, ap, subst}
 use Prim.Native.Nat.{ℕ, zero, suc, _+_, _-_, _*_, _^_, _≤_, _<_, zero-le}
 use native.Mathlib.Nat.{le-trans, le-of-eq, mul-le-mul-left}

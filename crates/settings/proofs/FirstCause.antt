@@ -1,5 +1,5 @@
 -- Refusals 1 to 4 are each given for their cause only, and for the first cause in the order of SPECIFICATION 3.2: the answer to settings is one that `Answered` of specs/ allows (`answered`), and no other (`only`).
--- So settings with no cause are accepted, and settings with a cause are refused. Assumes nothing.
+-- So settings with no cause are accepted, and settings with a cause are refused.
 use Prim.Native.Nat.{ℕ, _≤_, _<_}
 use mathlib.Core.Path.{_≡_, refl, sym, ap, _∙_, subst}
 use mathlib.Core.Bool.{Bool, true, false, cond}

@@ -1,4 +1,4 @@
--- Accepted settings give at most 2^52 samples and distributions in the ranges of SPECIFICATION 4.2 (`accepted-in-range`); a constant phase, wrapped, lies from -PI to PI. Assumes nothing.
+-- Accepted settings give at most 2^52 samples and distributions in the ranges of SPECIFICATION 4.2 (`accepted-in-range`); a constant phase, wrapped, lies from -PI to PI.
 use Prim.Native.Nat.{ℕ, zero, suc, _≤_}
 use mathlib.Core.Path.{_≡_, refl, sym, subst}
 use mathlib.Core.Bool.{Bool, true, false, _&&_, cond}

@@ -1,4 +1,4 @@
--- A number whose bytes are all there is the one that they stand for. Assumes nothing.
+-- A number whose bytes are all there is the one that they stand for.
 use Prim.Native.Nat.{ℕ, _+_, _≤_}
 use mathlib.Core.Path.{_≡_, refl, sym}
 use mathlib.Core.List.{List}

@@ -1,4 +1,4 @@
--- Whole settings: where there are 119 bytes, each number is the one that its bytes stand for, and no 0 past the end is read (`whole`). Assumes nothing.
+-- Whole settings: where there are 119 bytes, each number is the one that its bytes stand for, and no 0 past the end is read (`whole`).
 use Prim.Native.Nat.{ℕ, _+_, _≤_}
 use mathlib.Core.Path.{_≡_, ap}
 use mathlib.Core.List.{List}

@@ -1,4 +1,4 @@
--- Settings worked out from their bytes, computed: the worked tape (SPECIFICATION 11.3) is accepted with 8,000 samples, and each of refusals 1 to 4 is met while all that comes after it is wrong too. Assumes nothing.
+-- Settings worked out from their bytes, computed: the worked tape (SPECIFICATION 11.3) is accepted with 8,000 samples, and each of refusals 1 to 4 is met while all that comes after it is wrong too.
 use Prim.Native.Nat.{ℕ}
 use mathlib.Core.Path.{_≡_, refl}
 use mathlib.Core.List.{List, [], _∷_, _++_}

@@ -1,4 +1,4 @@
--- Refusals 1 to 4 of settings, in that order (SPECIFICATION 3.2), or what is accepted: the run's samples and its distributions. Definitions only.
+-- Refusals 1 to 4 of settings, in that order (SPECIFICATION 3.2), or what is accepted: the run's samples and its distributions.
 use Prim.Native.Nat.{ℕ, suc}
 use mathlib.Core.Bool.{Bool, _&&_, cond}
 use mathlib.Core.List.{List, [], _∷_}

@@ -1,4 +1,4 @@
--- Which answer to settings is right: refusals 1 to 4 each for its cause, and for the first cause in the order of SPECIFICATION 3.2. Definitions only.
+-- Which answer to settings is right: refusals 1 to 4 each for its cause, and for the first cause in the order of SPECIFICATION 3.2.
 use Prim.Native.Nat.{ℕ, _<_}
 use mathlib.Core.Path.{_≡_}
 use mathlib.Core.Bool.{Bool, true, false}

@@ -1,4 +1,4 @@
--- Settings, read from their 119 bytes (SPECIFICATION 4.1). Definitions only.
+-- Settings, read from their 119 bytes (SPECIFICATION 4.1).
 use Prim.Native.Nat.{ℕ, _+_}
 use mathlib.Core.List.{List, [], _∷_}
 use lib.ListN.{getD}

@@ -1,4 +1,4 @@
-// A run's settings, read from their bytes, and the rate of a type. Each function is equal to a definition of specs/ on every input. Assumes nothing.
+// A run's settings, read from their bytes, and the rate of a type. Each function is equal to a definition of specs/ on every input.
 ghost use mathlib.Core.Path.{_≡_};
 ghost use Prim.Native.Nat.{_≤_};
 ghost use Rattle.settings.specs.Settings.{settingsLength, ratesAt, askedAt, settingsOf, rateOf};

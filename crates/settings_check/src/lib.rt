@@ -1,4 +1,4 @@
-// Checks of settings: equal to their definitions, in specs/ of `settings`, on every input. Assumes nothing.
+// Checks of settings: equal to their definitions, in specs/ of `settings`, on every input.
 ghost use mathlib.Core.Path.{_≡_};
 ghost use Rattle.constants.specs.Rate.{four};
 ghost use Rattle.settings.specs.Settings.{ratesOf};

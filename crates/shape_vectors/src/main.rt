@@ -1,4 +1,4 @@
-// Prints digests of prototypes, delays, taps and pulse sums of made-up filters. The file `stdout` holds those of the Rust: `harness vectors` (differential/) makes it. Assumes nothing.
+// Prints digests of prototypes, delays, taps and pulse sums of made-up filters. The file `stdout` holds those of the Rust: `harness vectors` (differential/) makes it.
 use filterbank::Clock;
 use libc::STDOUT_FILENO;
 use pulse_shape::Crossing;

@@ -1,4 +1,4 @@
--- Demand 3 (SPECIFICATION 2.3) on the contracts of opening and of run calls: `opened-runs`, at the end of this file, is a term of the claim `OpenedRuns`. Assumes nothing.
+-- Demand 3 (SPECIFICATION 2.3) on the contracts of opening and of run calls: `opened-runs`, at the end of this file, is a term of the claim `OpenedRuns`.
 use Prim.Native.Nat.{ℕ, zero, suc, _*_}
 use mathlib.Core.Bool.{Bool, true, false, _||_}
 use mathlib.Core.List.{List, [], _∷_, _++_, map}

@@ -1,4 +1,4 @@
--- No sample is ever infinite or a NaN: every number that a list of run calls on an opened run writes is finite and at most 2^53 in size, however long the run and however many replies overlap (`opened-finite`). Assumes nothing.
+-- No sample is ever infinite or a NaN: every number that a list of run calls on an opened run writes is finite and at most 2^53 in size, however long the run and however many replies overlap (`opened-finite`).
 use mathlib.Core.Path.{_≡_}
 use Prim.Native.Nat.{ℕ, _*_, _^_}
 use native.Mathlib.Nat.{mul-one, le-trans, le-of-eq}

@@ -1,4 +1,4 @@
--- Two openings alike in settings and filters, whatever buffers they are given, open the same run: the same state, the same prototypes, the same working memory (`same-run`). Assumes nothing.
+-- Two openings alike in settings and filters, whatever buffers they are given, open the same run: the same state, the same prototypes, the same working memory (`same-run`).
 use Prim.Native.Nat.{ℕ}
 use mathlib.Core.Path.{_≡_, sym, _∙_}
 use mathlib.Core.List.{List}

@@ -1,5 +1,5 @@
 -- Demand 3 (SPECIFICATION 2.3), hypothesis and claim in one statement: `OpenedRuns`, at the end of this file. If opening answers a run, then (a) to (e) hold of every list of run calls on it, refused calls among them, with any draws, noise and buffers;
--- the state that comes back is the plain bench's, and every number written is finite. Definitions only.
+-- the state that comes back is the plain bench's, and every number written is finite.
 use Prim.Native.Nat.{ℕ, _*_}
 use mathlib.Core.Bool.{true, false}
 use mathlib.Core.List.{List, [], _∷_, _++_, map}

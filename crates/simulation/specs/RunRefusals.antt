@@ -1,4 +1,4 @@
--- The cause of each refusal of a run call on any state, with any buffers, in the order of SPECIFICATION 3.2: 9 for its buffers, then 7, then 8. Definitions only.
+-- The cause of each refusal of a run call on any state, with any buffers, in the order of SPECIFICATION 3.2: 9 for its buffers, then 7, then 8.
 use mathlib.Core.Bool.{true, false, _||_}
 use mathlib.Core.List.{List}
 use mathlib.Core.Option.{some}

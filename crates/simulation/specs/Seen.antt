@@ -1,4 +1,4 @@
--- What a caller sees of a run call: its counts, its answer in the specification's numbers, and the two buffers after it; as the contract of `run` has it, and as the plain bench has it. Definitions only.
+-- What a caller sees of a run call: its counts, its answer in the specification's numbers, and the two buffers after it; as the contract of `run` has it, and as the plain bench has it.
 use Prim.Native.Nat.{ℕ}
 use mathlib.Core.List.{List, _∷_}
 use lib.Ieee.{Float}

@@ -1,4 +1,4 @@
-// Replays answers of the Rust that are stored in the file stdin: a line is a letter for the function, its argument and its answer, both as 16 hexadecimal digits. Prints how many lines were read and how many answers differ. Assumes nothing.
+// Replays answers of the Rust that are stored in the file stdin: a line is a letter for the function, its argument and its answer, both as 16 hexadecimal digits. Prints how many lines were read and how many answers differ.
 ghost use mathlib.Core.Path.{_≡_};
 ghost use Prim.Native.Nat.{_<_};
 ghost use lib.ListN.{length};

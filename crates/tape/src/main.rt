@@ -1,5 +1,5 @@
 // The tape program: a tape on standard input; a header, a line for each record and the samples written on standard output, or `refused` and a number.
-// What it prints is worked out by tape_run and tape_text; here it is written, and a write that fails is reported on standard error. Assumes nothing but the kit's io, os and libc.
+// What it prints is worked out by tape_run and tape_text; here it is written, and a write that fails is reported on standard error.
 use libc::STDOUT_FILENO;
 use tape_verdict::Outcome;
 

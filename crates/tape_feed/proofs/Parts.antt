@@ -1,4 +1,4 @@
--- The parts that a call is lent are the rest of the draws and of the room, and what it leaves joins the records (`called`). Assumes nothing.
+-- The parts that a call is lent are the rest of the draws and of the room, and what it leaves joins the records (`called`).
 use Prim.Native.Nat.{ℕ, _+_, _-_, _*_, _/_, _%_, _^_, _≤_, _<_, min}
 use mathlib.Core.Path.{_≡_, refl, sym, ap, _∙_}
 use mathlib.Core.Bool.{Bool, true, false}

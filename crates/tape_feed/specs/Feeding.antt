@@ -1,4 +1,4 @@
--- A run that is fed its noise chunk by chunk, as the code does it: each chunk is a run call, lent the draws that are not taken and the room behind the records written. Definitions only.
+-- A run that is fed its noise chunk by chunk, as the code does it: each chunk is a run call, lent the draws that are not taken and the room behind the records written.
 use Prim.Native.Nat.{ℕ, _+_, _*_, _%_, _^_}
 use mathlib.Core.List.{List, _++_}
 use lib.ListN.{take, drop}

@@ -1,4 +1,4 @@
-// A run that is fed a chunk of its noise. The public function is equal to a definition of specs/ on every input. Assumes nothing.
+// A run that is fed a chunk of its noise. The public function is equal to a definition of specs/ on every input.
 ghost use mathlib.Core.Path.{_≡_};
 ghost use Prim.Native.Nat.{_*_, _≤_, _<_, min};
 ghost use Rattle.tape_feed.specs.Feeding.{feedAfter, calledOf, fedOf};

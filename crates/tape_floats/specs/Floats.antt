@@ -1,4 +1,4 @@
--- Rows of f32 values in little-endian bytes, as a tape has its taps and its noise, and as samples are written for other tools. Definitions only.
+-- Rows of f32 values in little-endian bytes, as a tape has its taps and its noise, and as samples are written for other tools.
 use Prim.Native.Nat.{ℕ, zero, suc}
 use mathlib.Core.List.{List, [], _∷_, _++_}
 use lib.ListN.{drop}

@@ -1,4 +1,4 @@
-// Rows of f32 values in bytes, read and written. Each public function is equal to a definition of specs/ on every input. Assumes nothing.
+// Rows of f32 values in bytes, read and written. Each public function is equal to a definition of specs/ on every input.
 ghost use mathlib.Core.Path.{_≡_};
 ghost use mathlib.Core.List.{_++_};
 ghost use Prim.Native.Nat.{_/_, min};

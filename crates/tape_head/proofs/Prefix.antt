@@ -1,4 +1,4 @@
--- A tape's beginning depends on the bytes before its noise alone (`head-of-prefix`), and the first 12,135 tell how many those are (`length-of-prefix`): reading a tape as it comes is the same as having it whole. Assumes nothing.
+-- A tape's beginning depends on the bytes before its noise alone (`head-of-prefix`), and the first 12,135 tell how many those are (`length-of-prefix`): reading a tape as it comes is the same as having it whole.
 use Prim.Native.Nat.{ℕ, zero, suc, _+_, _-_, _*_, _≤_, min}
 use mathlib.Core.Path.{_≡_, refl, sym, ap, _∙_, subst}
 use mathlib.Core.Bool.{Bool, true, false, cond, _&&_}

@@ -1,4 +1,4 @@
--- How the parts of a tape's beginning join. Assumes nothing.
+-- How the parts of a tape's beginning join.
 use Prim.Native.Nat.{ℕ, _+_, _-_, _*_, _/_, _≤_, min}
 use mathlib.Core.Path.{_≡_, refl, sym, ap, _∙_, subst}
 use mathlib.Core.Bool.{Bool, true, false, cond, false≢true}

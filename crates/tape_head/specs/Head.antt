@@ -1,4 +1,4 @@
--- A tape up to its noise (SPECIFICATION 4.6), its faults in the order of SPECIFICATION 11.2. Definitions only.
+-- A tape up to its noise (SPECIFICATION 4.6), its faults in the order of SPECIFICATION 11.2.
 use Prim.Native.Nat.{ℕ, _+_, _*_}
 use mathlib.Core.Bool.{Bool, true, false}
 use mathlib.Core.List.{List}

@@ -1,4 +1,4 @@
-// A tape up to its noise: its sections in tape order, each section's count and length before its values. Each public function is equal to a definition of specs/ on every input. Assumes nothing.
+// A tape up to its noise: its sections in tape order, each section's count and length before its values. Each public function is equal to a definition of specs/ on every input.
 ghost use mathlib.Core.Path.{_≡_};
 ghost use Prim.Native.Nat.{_+_, _*_, _≤_};
 ghost use lib.ListN.{length};

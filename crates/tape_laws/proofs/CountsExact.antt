@@ -1,5 +1,5 @@
 -- From a run that nothing has been fed, over any chunks, no more draws are taken than the tape has, and no more records written than draws taken (`in-tape`).
--- So the counts of a run, which `feedAfter` keeps modulo 2^64, are plain sums (`counts-exact`). Assumes nothing but that the bytes of a tape's draws are fewer than 2^64, as those of any slice are.
+-- So the counts of a run, which `feedAfter` keeps modulo 2^64, are plain sums (`counts-exact`). The bytes of a tape's draws are taken to be fewer than 2^64, as those of any slice are.
 use Prim.Native.Nat.{ℕ, zero, suc, _+_, _-_, _*_, _/_, _^_, _≤_, _<_}
 use mathlib.Core.Path.{_≡_, ap}
 use mathlib.Core.List.{List, [], _∷_}

@@ -1,5 +1,5 @@
 -- A bench that is fed a tape: each call is lent every draw that is not taken, the next noise, room for more samples than that noise has, and room for a record of each of those draws.
--- Then no call stops for room (`fed-on`), and however the noise was cut the bench is Done exactly where the tape has the end draw and noise for every sample (`fed-end`), with the plain run of the whole tape written (`fed-done`). Assumes nothing.
+-- Then no call stops for room (`fed-on`), and however the noise was cut the bench is Done exactly where the tape has the end draw and noise for every sample (`fed-end`), with the plain run of the whole tape written (`fed-done`).
 use Prim.Native.Nat.{ℕ, zero, suc, _+_, _-_, _≤_, _<_}
 use mathlib.Core.Bool.{Bool, true, false, cond, _&&_}
 use mathlib.Core.List.{List, [], _∷_, _++_, map, append-nil, append-assoc}

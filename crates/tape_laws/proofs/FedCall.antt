@@ -1,5 +1,5 @@
 -- One chunk of a tape's noise, fed to a run that stands where the machine and the plain bench do: it is refused for its noise alone (`loud`), and else the run stands where they do after the call (`quiet`).
--- So what holds at the end, over a chunk and at a refusal holds of any chunks from what opening leaves (`all-fed`). Assumes nothing.
+-- So what holds at the end, over a chunk and at a refusal holds of any chunks from what opening leaves (`all-fed`).
 use Prim.Native.Nat.{ℕ, zero, suc, _+_, _-_, _*_, _/_, _%_, _^_, _≤_, _<_}
 use mathlib.Core.Bool.{Bool, true, false, cond, _||_}
 use mathlib.Core.List.{List, [], _∷_, _++_, map, append-nil, append-assoc}

@@ -1,5 +1,5 @@
 -- Feeding a run its noise in any chunks makes a list of run calls from where it stands, each given state, prototypes and memory as the last left them (`fed-runs`), and the run comes to what those calls leave (`fed-all`).
--- So an opened run, fed in any chunks, is a list of calls of which `simulation/specs/OpenedRuns` speaks (`fed-opened`). Assumes nothing.
+-- So an opened run, fed in any chunks, is a list of calls of which `simulation/specs/OpenedRuns` speaks (`fed-opened`).
 use Prim.Native.Nat.{ℕ}
 use mathlib.Core.Path.{_≡_, refl, sym, ap, _∙_}
 use mathlib.Core.List.{List, [], _∷_, map}

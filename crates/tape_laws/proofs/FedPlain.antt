@@ -1,4 +1,4 @@
--- A tape whose noise is fed in chunks, however it is cut, ends as the plain run on all its draws and noise does (`fed-ending`), and prints its text (`fed-text`). Assumes nothing.
+-- A tape whose noise is fed in chunks, however it is cut, ends as the plain run on all its draws and noise does (`fed-ending`), and prints its text (`fed-text`).
 use Prim.Native.Nat.{ℕ, zero, suc}
 use mathlib.Core.Bool.{Bool, cond, _&&_, _||_}
 use mathlib.Core.List.{List, [], _∷_, _++_, append-nil, append-assoc}

@@ -1,4 +1,4 @@
--- The samples of a tape whose noise is fed in chunks, however it is cut: they are a first part of the plain run on all its draws and noise, and all of it where the run is Done (`fed-samples`). Assumes nothing.
+-- The samples of a tape whose noise is fed in chunks, however it is cut: they are a first part of the plain run on all its draws and noise, and all of it where the run is Done (`fed-samples`).
 use Prim.Native.Nat.{ℕ, _-_, _*_}
 use mathlib.Core.List.{List, [], _∷_, _++_, append-nil, append-assoc}
 use mathlib.Core.Option.{Option, none, some}

@@ -1,5 +1,5 @@
 -- `plain-tape`: what is claimed of a tape holds of each tape whose head begins a run: fed its noise in any cut, it ends, prints and gives what the plain run on all its draws and noise does (`PlainTape` of specs/).
--- `text-alike`, `samples-alike`: so two ways of cutting print and give the same. `section-ends`: so what `tape_stream::feed_section` leaves ends as the plain run does. Assumes nothing.
+-- `text-alike`, `samples-alike`: so two ways of cutting print and give the same. `section-ends`: so what `tape_stream::feed_section` leaves ends as the plain run does.
 use Prim.Native.Nat.{ℕ, _+_, _*_, _/_, _≤_}
 use mathlib.Core.Bool.{Bool, true, false, cond}
 use mathlib.Core.List.{List, [], _∷_}

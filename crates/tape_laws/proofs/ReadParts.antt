@@ -1,4 +1,4 @@
--- The values of a noise section, read in parts: parts of a whole number of values that joined are the section's bytes, give its values (`parts-values`). Assumes nothing.
+-- The values of a noise section, read in parts: parts of a whole number of values that joined are the section's bytes, give its values (`parts-values`).
 use Prim.Native.Nat.{ℕ, zero, suc, _+_, _*_, _/_, _%_, _≤_}
 use mathlib.Core.List.{List, [], _∷_, _++_, append-assoc}
 use mathlib.Core.Path.{_≡_, refl, sym, ap, _∙_}

@@ -1,5 +1,5 @@
 -- What a head and the section that is fed behind it give is right to report (`reported-refused`, `reported-run`); what a report says in the plain run's terms (`reported-plainly`); that only a run that is done writes records (`others-leave`), 400 at most (`few-reported`);
--- and that what the program lends to opening, with settings of their length, has the lengths that opening asks for (`lent-fits`). Assumes nothing.
+-- and that what the program lends to opening, with settings of their length, has the lengths that opening asks for (`lent-fits`).
 use Prim.Native.Nat.{ℕ, zero, suc, _+_, _*_, _/_, _≤_}
 use mathlib.Core.Bool.{Bool, true, false, cond}
 use mathlib.Core.List.{List}

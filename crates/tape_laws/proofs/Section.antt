@@ -1,4 +1,4 @@
--- Chunks fed one after the other: while more are to come each has an even number of values, so that with the last one the noise is cut as `PlainTape` asks (`going-end`); and so it is as a program reads it, 16,384 values at a time (`next-turn`). Assumes nothing.
+-- Chunks fed one after the other: while more are to come each has an even number of values, so that with the last one the noise is cut as `PlainTape` asks (`going-end`); and so it is as a program reads it, 16,384 values at a time (`next-turn`).
 use Prim.Native.Nat.{ℕ, _+_, _-_, _*_, _/_, _%_, _≤_, _<_, min}
 use mathlib.Core.Bool.{Bool, true, false, cond, true≢false}
 use mathlib.Core.Logic.{_⊎_, inl, inr}

@@ -1,4 +1,4 @@
--- `tape-text`: a tape prints its text (SPECIFICATION 11.1): a refused head its number (`refused-text`); a short noise section 11 (`short-text`); and a head that begins a run, fed the bytes of its noise section in parts, however they are cut, the plain run's text. Assumes nothing.
+-- `tape-text`: a tape prints its text (SPECIFICATION 11.1): a refused head its number (`refused-text`); a short noise section 11 (`short-text`); and a head that begins a run, fed the bytes of its noise section in parts, however they are cut, the plain run's text.
 use Prim.Native.Nat.{ℕ, _*_, _/_, _≤_, _<_}
 use mathlib.Core.Bool.{Bool, true, false, cond}
 use mathlib.Core.List.{List, _∷_}

@@ -1,4 +1,4 @@
--- A run fed chunk by chunk: the run after all of them, the run calls that it makes, what each of them leaves, and the samples that they give. Definitions only.
+-- A run fed chunk by chunk: the run after all of them, the run calls that it makes, what each of them leaves, and the samples that they give.
 use Prim.Native.Nat.{ℕ, _-_, _*_}
 use mathlib.Core.List.{List, [], _∷_, _++_}
 use lib.ListN.{take, drop}

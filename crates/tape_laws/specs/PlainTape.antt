@@ -1,4 +1,4 @@
--- How a tape ends whose head is accepted, and its text: by the plain run on the tape's draws and all its noise, which knows no chunks (`plainEnding`, `plainText`); of a run that was fed its noise in chunks (`fedEnding`, `fedText`); and the claim that they are the same (`PlainTape`). Definitions only.
+-- How a tape ends whose head is accepted, and its text: by the plain run on the tape's draws and all its noise, which knows no chunks (`plainEnding`, `plainText`); of a run that was fed its noise in chunks (`fedEnding`, `fedText`); and the claim that they are the same (`PlainTape`).
 use Prim.Native.Nat.{ℕ, zero, suc, _*_, _/_, _%_, _≤_, _<_}
 use mathlib.Core.Bool.{Bool, true, false, cond, _&&_, _||_}
 use mathlib.Core.Path.{_≡_}

@@ -1,4 +1,4 @@
--- What may be reported of a tape that is read from somewhere, with record bytes lent before and left after (`Reported`, the contract of `tape_run::run_tape`); and the same in the plain run's terms (`PlainlyReported`). Definitions only.
+-- What may be reported of a tape that is read from somewhere, with record bytes lent before and left after (`Reported`, the contract of `tape_run::run_tape`); and the same in the plain run's terms (`PlainlyReported`).
 use Prim.Native.Nat.{ℕ, _*_}
 use mathlib.Core.Bool.{Bool, cond}
 use mathlib.Core.Path.{_≡_}

@@ -1,4 +1,4 @@
--- The tape program (SPECIFICATION 11.1) as a function of the tape's bytes: the text that it prints. Definitions only.
+-- The tape program (SPECIFICATION 11.1) as a function of the tape's bytes: the text that it prints.
 use Prim.Native.Nat.{ℕ, _+_, _*_, _/_, _%_}
 use mathlib.Core.Bool.{cond}
 use mathlib.Core.Path.{_≡_}

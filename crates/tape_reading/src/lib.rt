@@ -1,4 +1,4 @@
-// A tape from standard input: its bytes before the noise, and values of its noise. What is read is not stated, since it is not known; how much is counted is. Assumes nothing but the kit's io and libc.
+// A tape from standard input: its bytes before the noise, and values of its noise. What is read is not stated, since it is not known; how much is counted is.
 ghost use mathlib.Core.Path.{_≡_};
 ghost use Prim.Native.Nat.{_≤_, _<_};
 ghost use lib.ListN.{length};

@@ -1,5 +1,5 @@
 // A tape on standard input, run to its end: what is reported of it, its records where its run is done, and its samples, on standard output where they are asked for.
-// What is read is not stated, since it is not known; that what is reported is right for some tape, is. Assumes nothing but the kit's io and libc.
+// What is read is not stated, since it is not known; that what is reported is right for some tape, is.
 ghost use mathlib.Core.Path.{_≡_};
 ghost use mathlib.Core.Bool.{cond};
 ghost use lib.ListN.{length};

@@ -1,4 +1,4 @@
--- What the code's tests of a section decide, and what a section's answer tells. Assumes nothing.
+-- What the code's tests of a section decide, and what a section's answer tells.
 use Prim.Native.Nat.{ℕ, _+_, _-_, _*_, _≤_, _<_, _^_}
 use mathlib.Core.Path.{_≡_, refl, sym, ap, _∙_, subst}
 use mathlib.Core.Bool.{Bool, true, false, cond, _&&_}

@@ -1,4 +1,4 @@
--- The four sections of a tape (SPECIFICATION 4.6): where the counts stand, when a section is right, and what stands before the noise. Definitions only.
+-- The four sections of a tape (SPECIFICATION 4.6): where the counts stand, when a section is right, and what stands before the noise.
 use Prim.Native.Nat.{ℕ, _+_, _*_}
 use mathlib.Core.Bool.{cond, _&&_}
 use mathlib.Core.List.{List}

@@ -1,4 +1,4 @@
-// The counts of a tape's sections: a section's count and length, and how many bytes stand before the noise. Each public function is equal to a definition of specs/ on every input. Assumes nothing.
+// The counts of a tape's sections: a section's count and length, and how many bytes stand before the noise. Each public function is equal to a definition of specs/ on every input.
 ghost use mathlib.Core.Path.{_≡_};
 ghost use Prim.Native.Nat.{_+_, _*_, _≤_, _<_};
 ghost use mathlib.Core.Bool.{_&&_};

@@ -1,5 +1,5 @@
 // The noise section of a tape on standard input, fed to its run in chunks, with the samples that come of it on standard output where they are asked for (cf32: interleaved little-endian f32).
-// What is read and written is not stated, since it is not known; that the noise is cut as tape_laws/specs/PlainTape asks, is. Assumes nothing but the kit's io and libc.
+// What is read and written is not stated, since it is not known; that the noise is cut as tape_laws/specs/PlainTape asks, is.
 ghost use mathlib.Core.Path.{_≡_};
 ghost use mathlib.Core.Bool.{true, cond};
 ghost use Prim.Native.Nat.{_-_, _≤_, min};

@@ -1,4 +1,4 @@
--- The decimal of a number has no bound on its digits (`decimal-is`), and is the number's fewest digits (`decimal-fewest`). Assumes nothing.
+-- The decimal of a number has no bound on its digits (`decimal-is`), and is the number's fewest digits (`decimal-fewest`).
 use Prim.Native.Nat.{ℕ, zero, suc, _+_, _-_, _*_, _/_, _%_, _^_, _≤_, _<_}
 use mathlib.Core.Path.{_≡_, refl, sym, ap, _∙_, subst}
 use mathlib.Core.Bool.{Bool, true, false, cond}

@@ -1,4 +1,4 @@
--- The parts of a line, each put behind the last, make the line; and lines make the text. Assumes nothing.
+-- The parts of a line, each put behind the last, make the line; and lines make the text.
 use Prim.Native.Nat.{ℕ, zero, suc, _+_, _-_, _*_, _/_, _≤_, _<_, _^_, min}
 use mathlib.Core.Path.{_≡_, refl, sym, ap, _∙_, subst}
 use mathlib.Core.Bool.{Bool, true, false, cond}

@@ -1,4 +1,4 @@
--- Text put part after part, and the bytes of a hexadecimal text. Assumes nothing.
+-- Text put part after part, and the bytes of a hexadecimal text.
 use Prim.Native.Nat.{ℕ, zero, suc, _+_, _*_, _/_, _%_, _≤_, _<_}
 use mathlib.Core.Path.{_≡_, refl, sym, ap, _∙_}
 use mathlib.Core.List.{List, [], _∷_, _++_}

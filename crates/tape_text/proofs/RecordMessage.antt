@@ -1,5 +1,5 @@
 -- What a line prints of a record that is not Mode A/C is its reply, whole: as many bytes as the reply's kind has (`record-message`), which are 14 at most (`at-most-14`).
--- Assumes nothing but that a reply has its 14 bytes.
+-- A reply is taken to have its 14 bytes.
 use Prim.Native.Nat.{ℕ, _≤_}
 use mathlib.Core.Path.{_≡_, sym, ap, _∙_}
 use mathlib.Core.Bool.{Bool, cond}

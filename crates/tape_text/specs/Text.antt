@@ -1,4 +1,4 @@
--- What the tape program prints (SPECIFICATION 11.1). Text is a list of ASCII codes. Definitions only.
+-- What the tape program prints (SPECIFICATION 11.1). Text is a list of ASCII codes.
 use Prim.Native.Nat.{ℕ, zero, suc, _+_, _/_, _%_, min}
 use mathlib.Core.Bool.{cond}
 use mathlib.Core.Path.{_≡_}

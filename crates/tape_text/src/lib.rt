@@ -1,4 +1,4 @@
-// The text that the tape program prints, put into a lent buffer. Each public function is equal to a definition of specs/ on every input. Assumes nothing.
+// The text that the tape program prints, put into a lent buffer. Each public function is equal to a definition of specs/ on every input.
 ghost use mathlib.Core.Path.{_≡_};
 ghost use Prim.Native.Nat.{_+_, _*_, _/_, _≤_, _<_};
 ghost use lib.ListN.{length, getD, take};

@@ -1,4 +1,4 @@
--- Where the noise section was not short, the verdict is its answer's. Assumes nothing.
+-- Where the noise section was not short, the verdict is its answer's.
 use Prim.Native.Nat.{ℕ}
 use mathlib.Core.Path.{_≡_, sym, ap, _∙_}
 use mathlib.Core.Bool.{Bool, false, cond}

@@ -1,4 +1,4 @@
--- The run of a tape before its noise, the verdict on it once its noise is read, and what is reported of it. Definitions only.
+-- The run of a tape before its noise, the verdict on it once its noise is read, and what is reported of it.
 use Prim.Native.Nat.{ℕ}
 use mathlib.Core.Bool.{Bool, true, false, cond}
 use lib.Dec.{eqb}

@@ -1,4 +1,4 @@
-// The run of a tape, fed its noise chunk by chunk: how it begins, the verdict on it, and what is reported of it. Each public function is equal to a definition of specs/ on every input. Assumes nothing.
+// The run of a tape, fed its noise chunk by chunk: how it begins, the verdict on it, and what is reported of it. Each public function is equal to a definition of specs/ on every input.
 ghost use mathlib.Core.Path.{_≡_};
 ghost use mathlib.Core.Bool.{cond};
 ghost use Rattle.tape_verdict.specs.Verdict.{startOf, stopThen, verdictOf, judgedOf, outcomeOf, outcomeDone};

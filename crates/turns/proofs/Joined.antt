@@ -1,4 +1,4 @@
--- The turn that `wrote` and `took` make of their sums, and that `moved` makes by its plan. Assumes nothing.
+-- The turn that `wrote` and `took` make of their sums, and that `moved` makes by its plan.
 use mathlib.Core.Path.{_≡_, sym, ap, _∙_}
 use mathlib.Core.Bool.{Bool}
 use Prim.Native.Nat.{ℕ, _+_, _%_, _^_}

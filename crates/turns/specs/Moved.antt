@@ -1,4 +1,4 @@
--- The turn of a run call after its plan was carried out. Counts are modulo 2^64, which no call reaches. Definitions only.
+-- The turn of a run call after its plan was carried out. Counts are modulo 2^64, which no call reaches.
 use Prim.Native.Nat.{ℕ, _+_, _%_, _^_}
 use mathlib.Core.Bool.{Bool, true, cond}
 use lib.Ieee.{Float, lt}

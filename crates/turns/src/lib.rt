@@ -1,4 +1,4 @@
-// The turns of a run call: what carrying out a plan makes of the counts, and of what of the state moves. Counts are modulo 2^64, which no call reaches. Assumes nothing.
+// The turns of a run call: what carrying out a plan makes of the counts, and of what of the state moves. Counts are modulo 2^64, which no call reaches.
 ghost use mathlib.Core.Path.{_≡_};
 ghost use mathlib.Core.Bool.{cond};
 ghost use lib.Ieee.{lt};

@@ -1,4 +1,4 @@
--- `backward` meets its contract. Nine places are counted. Assumes nothing.
+-- `backward` meets its contract. Nine places are counted.
 use Prim.Native.Nat.{_-_, _≤_}
 use borrow.Author.Needs.{needs}
 use Rattle.byte_vectors.proofs.backward.Statement.{statement}

@@ -1,4 +1,4 @@
--- `carrier::cosine_sum` meets its contract: each of its numbers is the coefficient. Assumes nothing.
+-- `carrier::cosine_sum` meets its contract: each of its numbers is the coefficient.
 use mathlib.Core.Path.{sym}
 use lib.Ieee.{binary64, mul}
 use Rattle.math.specs.Carrier.{cosineCoefficient, cosineSum}

@@ -1,4 +1,4 @@
--- `carrier::reduce` meets its contract. Assumes nothing.
+-- `carrier::reduce` meets its contract.
 use mathlib.Core.Path.{refl}
 use Rattle.math.specs.Carrier.{reduced}
 use Rattle.math.proofs.Literals.{pi-is, halfPi-is, outerLimit-is, innerLimit-is}

@@ -1,4 +1,4 @@
--- `carrier::sin_cos` meets its contract. Assumes nothing.
+-- `carrier::sin_cos` meets its contract.
 use borrow.Author.Needs.{needs}
 use Rattle.math.specs.Carrier.{sinCos}
 use Rattle.carrier.proofs.sin_cos.Statement.{statement}

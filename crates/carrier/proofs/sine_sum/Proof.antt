@@ -1,4 +1,4 @@
--- `carrier::sine_sum` meets its contract: each of its numbers is the coefficient. Assumes nothing.
+-- `carrier::sine_sum` meets its contract: each of its numbers is the coefficient.
 use mathlib.Core.Path.{sym, ap}
 use lib.Ieee.{binary64, mul}
 use Rattle.math.specs.Carrier.{sineCoefficient, sineSum}

@@ -1,4 +1,4 @@
--- `carrier::turned` meets its contract. Assumes nothing.
+-- `carrier::turned` meets its contract.
 use mathlib.Core.Path.{_≡_, refl}
 use Prim.Native.Nat.{ℕ, zero, suc}
 use lib.Ieee.{Float, neg}

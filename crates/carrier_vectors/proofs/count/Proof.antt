@@ -1,4 +1,4 @@
--- `carrier_vectors::count` is safe and ends. The loop's invariant: at most as many agree as rows were tried. Assumes nothing.
+-- `carrier_vectors::count` is safe and ends. The loop's invariant: at most as many agree as rows were tried.
 use Prim.Native.Nat.{_-_, _≤_}
 use borrow.Author.Needs.{needs}
 use Rattle.carrier_vectors.proofs.count.Statement.{statement}

@@ -1,4 +1,4 @@
--- `carrier_vectors::same` is safe: what equals itself is no NaN. Assumes nothing.
+-- `carrier_vectors::same` is safe: what equals itself is no NaN.
 use mathlib.Core.Path.{_≡_}
 use mathlib.Core.Bool.{true, not, true≢false}
 use mathlib.Core.Path.{sym}

@@ -1,4 +1,4 @@
--- `carrier_vectors::value` is safe: a pattern whose lower 63 bits are at most those of the infinity is no NaN. Assumes nothing.
+-- `carrier_vectors::value` is safe: a pattern whose lower 63 bits are at most those of the infinity is no NaN.
 use mathlib.Core.Path.{sym, subst}
 use mathlib.Core.Bool.{Bool, not}
 use Prim.Native.Nat.{ℕ, _%_, _≤_}

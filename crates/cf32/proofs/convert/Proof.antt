@@ -1,4 +1,4 @@
--- `cf32::convert` is safe: a tape has no more records than there is room for. Assumes nothing.
+-- `cf32::convert` is safe: a tape has no more records than there is room for.
 use Prim.Native.Nat.{ℕ, _≤_}
 use mathlib.Core.List.{List}
 use mathlib.Core.Path.{_≡_, ap}

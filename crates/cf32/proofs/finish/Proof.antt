@@ -1,4 +1,4 @@
--- `cf32::finish` is safe. Assumes nothing.
+-- `cf32::finish` is safe.
 use borrow.Author.Needs.{needs}
 use native.Mathlib.Omega.{arith}
 use lib.ListN.{length-take}

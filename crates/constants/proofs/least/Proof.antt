@@ -1,4 +1,4 @@
--- `least` meets its contract: the one that is less, and the second where neither is. Assumes nothing.
+-- `least` meets its contract: the one that is less, and the second where neither is.
 use Prim.Native.Nat.{ℕ, _<_, _≤_, min}
 use mathlib.Core.Path.{_≡_, refl}
 use native.Mathlib.Omega.{arith}

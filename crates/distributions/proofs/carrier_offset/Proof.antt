@@ -1,4 +1,4 @@
--- `distributions::carrier_offset` meets its contract. Assumes nothing.
+-- `distributions::carrier_offset` meets its contract.
 use borrow.Author.Needs.{needs}
 use Rattle.distributions.specs.Asked.{clampedNormal, carrierOffset}
 use Rattle.distributions.proofs.ByKind.{kind-0, kind-1, kind-other}

@@ -1,4 +1,4 @@
--- `distributions::carrier_phase` meets its contract. Assumes nothing.
+-- `distributions::carrier_phase` meets its contract.
 use borrow.Author.Needs.{needs}
 use Rattle.distributions.specs.Asked.{carrierPhase}
 use Rattle.distributions.proofs.ByKind.{kind-0, kind-1, kind-other}

@@ -1,4 +1,4 @@
--- `distributions::clamped_normal` meets its contract. Assumes nothing.
+-- `distributions::clamped_normal` meets its contract.
 use mathlib.Core.Path.{_≡_}
 use lib.Ieee.{binary64, ofBits}
 use borrow.Author.Needs.{needs}

@@ -1,4 +1,4 @@
--- `distributions::clock_error` meets its contract. Assumes nothing.
+-- `distributions::clock_error` meets its contract.
 use borrow.Author.Needs.{needs}
 use Rattle.distributions.specs.Asked.{clockError}
 use Rattle.distributions.proofs.ByKind.{kind-0, kind-1, kind-other}

@@ -1,4 +1,4 @@
--- `distributions::finite_not_negative` meets its contract. Assumes nothing.
+-- `distributions::finite_not_negative` meets its contract.
 use mathlib.Core.Bool.{Bool, _&&_}
 use mathlib.Core.Path.{_≡_, sym, ap, _∙_}
 use lib.Ieee.Scale.{finite}

@@ -1,4 +1,4 @@
--- `draw::time_after` meets its contract. Assumes nothing.
+-- `draw::time_after` meets its contract.
 use borrow.Author.Needs.{needs}
 use mathlib.Core.Path.{ap}
 use lib.Ieee.{binary64, add}

@@ -1,4 +1,4 @@
--- `draw_config::completed` meets its contract. Assumes nothing.
+-- `draw_config::completed` meets its contract.
 use borrow.Author.Needs.{needs}
 use Rattle.draw_config.proofs.Joined.{completed-by}
 use Rattle.draw_config.proofs.completed.Statement.{statement}

@@ -1,4 +1,4 @@
--- `draw_config::kind_of` meets its contract. Assumes nothing.
+-- `draw_config::kind_of` meets its contract.
 use borrow.Author.Needs.{needs}
 use Rattle.message.specs.Making.{kindOf}
 use Rattle.draw_config.proofs.kind_of.Statement.{statement}

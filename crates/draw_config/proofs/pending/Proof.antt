@@ -1,4 +1,4 @@
--- `draw_config::pending` meets its contract. Assumes nothing.
+-- `draw_config::pending` meets its contract.
 use borrow.Author.Needs.{needs}
 use Rattle.draw_config.proofs.Joined.{pending-is}
 use Rattle.draw_config.proofs.pending.Statement.{statement}

@@ -1,4 +1,4 @@
--- `draw_config::type_drawn` meets its contract. Assumes nothing.
+-- `draw_config::type_drawn` meets its contract.
 use borrow.Author.Needs.{needs}
 use mathlib.Core.Path.{sym, ap, _∙_}
 use Rattle.draw.specs.Config.{typeDrawn}

@@ -1,4 +1,4 @@
--- `draw_faults::first_fault` meets its contract. The loop's invariant: the draws passed are counted, and the first fault of the rest is that of all. Assumes nothing.
+-- `draw_faults::first_fault` meets its contract. The loop's invariant: the draws passed are counted, and the first fault of the rest is that of all.
 use Prim.Native.Nat.{_+_, _*_, _/_}
 use mathlib.Core.Path.{_≡_, refl, sym, ap, _∙_}
 use native.Mathlib.Omega.{arith}

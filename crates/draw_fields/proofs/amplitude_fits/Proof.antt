@@ -1,4 +1,4 @@
--- `draw_fields::amplitude_fits` meets its contract. Assumes nothing.
+-- `draw_fields::amplitude_fits` meets its contract.
 use Rattle.draw.specs.Fault.{amplitudeFits}
 use Rattle.draw_fields.proofs.amplitude_fits.Statement.{statement}
 use Rattle.draw_fields.proofs.amplitude_fits.Tie as tie

@@ -1,4 +1,4 @@
--- `draw_fields::clock_fits` meets its contract. Assumes nothing.
+-- `draw_fields::clock_fits` meets its contract.
 use borrow.Author.Needs.{needs}
 use mathlib.Core.Path.{sym, ap, _∙_}
 use Rattle.draw.specs.Fault.{modeACLimit}

@@ -1,4 +1,4 @@
--- `draw_fields::fault_or` meets its contract. Assumes nothing.
+-- `draw_fields::fault_or` meets its contract.
 use Rattle.draw_fields.proofs.fault_or.Statement.{statement}
 use Rattle.draw_fields.proofs.fault_or.Tie as tie
 

@@ -1,4 +1,4 @@
--- `draw_fields::field_fault` meets its contract. Assumes nothing.
+-- `draw_fields::field_fault` meets its contract.
 use borrow.Author.Needs.{needs}
 use Rattle.draw.specs.Fault.{drawFault}
 use Rattle.draw_fields.proofs.field_fault.Statement.{statement}

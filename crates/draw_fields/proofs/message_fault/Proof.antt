@@ -1,4 +1,4 @@
--- `draw_fields::message_fault` meets its contract. Assumes nothing.
+-- `draw_fields::message_fault` meets its contract.
 use borrow.Author.Needs.{needs}
 use mathlib.Core.Path.{sym, ap, _∙_}
 use Rattle.message.specs.declared.TypeFound.{TypeFound}

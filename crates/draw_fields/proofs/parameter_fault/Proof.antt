@@ -1,4 +1,4 @@
--- `draw_fields::parameter_fault` meets its contract. Assumes nothing.
+-- `draw_fields::parameter_fault` meets its contract.
 use borrow.Author.Needs.{needs}
 use Rattle.draw.specs.Fault.{parameterFault}
 use Rattle.draw_fields.proofs.parameter_fault.Statement.{statement}

@@ -1,4 +1,4 @@
--- `draw_fields::type_fits` meets its contract. Assumes nothing.
+-- `draw_fields::type_fits` meets its contract.
 use mathlib.Core.Path.{refl}
 use borrow.Author.Needs.{needs}
 use Rattle.draw.specs.Fault.{typeFits}

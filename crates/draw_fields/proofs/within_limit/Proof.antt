@@ -1,4 +1,4 @@
--- `draw_fields::within_limit` meets its contract. Assumes nothing.
+-- `draw_fields::within_limit` meets its contract.
 use native.Mathlib.Omega.{arith}
 use borrow.Author.Needs.{needs}
 use mathlib.Core.Path.{_≡_, sym, _∙_}

@@ -1,4 +1,4 @@
--- `draw_limits::clock_draw_fits` meets its contract. Assumes nothing.
+-- `draw_limits::clock_draw_fits` meets its contract.
 use mathlib.Core.Path.{_≡_, sym, ap, _∙_}
 use borrow.Author.Needs.{needs}
 use Rattle.distributions.specs.declared.ClockError.{ClockError}

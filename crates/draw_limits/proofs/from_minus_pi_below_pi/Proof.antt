@@ -1,4 +1,4 @@
--- `draw_limits::from_minus_pi_below_pi` meets its contract. Assumes nothing.
+-- `draw_limits::from_minus_pi_below_pi` meets its contract.
 use mathlib.Core.Path.{refl}
 use Rattle.distributions.specs.Drawn.{fromMinusPiBelowPi}
 use Rattle.math.proofs.Literals.{pi-is}

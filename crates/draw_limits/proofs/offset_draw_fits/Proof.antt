@@ -1,4 +1,4 @@
--- `draw_limits::offset_draw_fits` meets its contract. Assumes nothing.
+-- `draw_limits::offset_draw_fits` meets its contract.
 use mathlib.Core.Path.{_≡_, sym, ap, _∙_}
 use lib.Ieee.Scale.{finite}
 use borrow.Author.Needs.{needs}

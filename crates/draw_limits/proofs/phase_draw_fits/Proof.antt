@@ -1,4 +1,4 @@
--- `draw_limits::phase_draw_fits` meets its contract. Assumes nothing.
+-- `draw_limits::phase_draw_fits` meets its contract.
 use mathlib.Core.Path.{sym, ap}
 use borrow.Author.Needs.{needs}
 use Rattle.distributions.specs.declared.CarrierPhase.{CarrierPhase}

@@ -1,4 +1,4 @@
--- `draw_reading::message_bytes` meets its contract. Assumes nothing.
+-- `draw_reading::message_bytes` meets its contract.
 use borrow.Author.Needs.{needs}
 use Rattle.draw_reading.proofs.Fields.{bytes-are}
 use Rattle.draw_reading.proofs.message_bytes.Statement.{statement}

@@ -1,4 +1,4 @@
--- `draw_reading::picks` meets its contract. Assumes nothing.
+-- `draw_reading::picks` meets its contract.
 use borrow.Author.Needs.{needs}
 use Rattle.draw_reading.proofs.Fields.{picks-are}
 use Rattle.draw_reading.proofs.picks.Statement.{statement}

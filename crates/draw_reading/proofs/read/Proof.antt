@@ -1,4 +1,4 @@
--- `draw_reading::read` meets its contract. Assumes nothing.
+-- `draw_reading::read` meets its contract.
 use borrow.Author.Needs.{needs}
 use Rattle.draw_reading.proofs.Fields.{draw-is}
 use Rattle.draw_reading.proofs.read.Statement.{statement}

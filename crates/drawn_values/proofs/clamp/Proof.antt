@@ -1,4 +1,4 @@
--- `drawn_values::clamp` meets its contract. Assumes nothing.
+-- `drawn_values::clamp` meets its contract.
 use Rattle.distributions.specs.Drawn.{clamped}
 use Rattle.drawn_values.proofs.clamp.Statement.{statement}
 use Rattle.drawn_values.proofs.clamp.Tie as tie

@@ -1,4 +1,4 @@
--- `drawn_values::error_of` meets its contract. Assumes nothing.
+-- `drawn_values::error_of` meets its contract.
 use mathlib.Core.Path.{sym, ap}
 use borrow.Author.Needs.{needs}
 use Rattle.distributions.specs.declared.ClockError.{ClockError}

@@ -1,4 +1,4 @@
--- `drawn_values::offset_of` meets its contract. Assumes nothing.
+-- `drawn_values::offset_of` meets its contract.
 use mathlib.Core.Path.{_≡_, sym, ap, _∙_}
 use lib.Ieee.{binary64, mul}
 use borrow.Author.Needs.{needs}

@@ -1,4 +1,4 @@
--- `drawn_values::phase_of` meets its contract. Assumes nothing.
+-- `drawn_values::phase_of` meets its contract.
 use mathlib.Core.Path.{sym, ap}
 use borrow.Author.Needs.{needs}
 use Rattle.distributions.specs.declared.CarrierPhase.{CarrierPhase}

@@ -1,4 +1,4 @@
--- `fits` meets its contract: each test is one fact of `Fits`. Assumes nothing.
+-- `fits` meets its contract: each test is one fact of `Fits`.
 use Rattle.due_samples.proofs.LentTest.{fits-if, fits-not}
 use borrow.Author.Needs.{needs}
 use native.Mathlib.Omega.{arith}

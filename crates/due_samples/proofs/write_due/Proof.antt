@@ -1,4 +1,4 @@
--- `write_due` meets its contract: nothing is changed where the test fails, else `write_all` writes. Assumes nothing.
+-- `write_due` meets its contract: nothing is changed where the test fails, else `write_all` writes.
 use mathlib.Core.Path.{sym, _∙_}
 use lib.ListN.{length}
 use borrow.Author.Tests.{not-true, not-false}

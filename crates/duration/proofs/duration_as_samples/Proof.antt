@@ -1,4 +1,4 @@
--- `duration::duration_as_samples` meets its contract. Assumes nothing.
+-- `duration::duration_as_samples` meets its contract.
 use borrow.Author.Tests.{lt-ltb, le-ltb, le-leb, lt-leb}
 use Prim.Native.Nat.{_*_, _+_, _/_}
 use mathlib.Core.Path.{_≡_, ap}

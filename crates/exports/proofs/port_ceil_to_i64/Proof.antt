@@ -1,4 +1,4 @@
--- `exports::port_ceil_to_i64` meets its contract: it hands on what it calls. Assumes nothing.
+-- `exports::port_ceil_to_i64` meets its contract: it hands on what it calls.
 use mathlib.Core.Path.{_∙_}
 use mir.Facts.{toZ-ofZ}
 use Rattle.exports.proofs.port_ceil_to_i64.Statement.{statement}

@@ -1,4 +1,4 @@
--- `exports::port_narrow` meets its contract: it hands on what it calls. Assumes nothing.
+-- `exports::port_narrow` meets its contract: it hands on what it calls.
 use Rattle.exports.proofs.port_narrow.Statement.{statement}
 use Rattle.exports.proofs.port_narrow.Tie as tie
 

@@ -1,4 +1,4 @@
--- `exports::port_phase` meets its contract. Assumes nothing.
+-- `exports::port_phase` meets its contract.
 use mathlib.Core.Path.{refl}
 use borrow.Author.Needs.{needs}
 use Rattle.exports.proofs.port_phase.Statement.{statement}

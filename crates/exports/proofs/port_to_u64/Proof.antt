@@ -1,4 +1,4 @@
--- `exports::port_to_u64` meets its contract: it hands on what it calls. Assumes nothing.
+-- `exports::port_to_u64` meets its contract: it hands on what it calls.
 use Rattle.exports.proofs.port_to_u64.Statement.{statement}
 use Rattle.exports.proofs.port_to_u64.Tie as tie
 

@@ -1,4 +1,4 @@
--- `exports_pulses::port_duration_as_samples` meets its contract. Assumes nothing.
+-- `exports_pulses::port_duration_as_samples` meets its contract.
 use mathlib.Core.Path.{refl}
 use borrow.Author.Needs.{needs}
 use Rattle.exports_pulses.proofs.port_duration_as_samples.Statement.{statement}

@@ -1,4 +1,4 @@
--- `port_reply_limit` meets its contract. Assumes nothing.
+-- `port_reply_limit` meets its contract.
 use borrow.Author.Needs.{needs}
 use Rattle.exports_pulses.proofs.port_reply_limit.Statement.{statement}
 use Rattle.exports_pulses.proofs.port_reply_limit.Tie as tie

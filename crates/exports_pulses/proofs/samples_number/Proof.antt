@@ -1,4 +1,4 @@
--- `exports_pulses::samples_number` meets its contract. Assumes nothing.
+-- `exports_pulses::samples_number` meets its contract.
 use mathlib.Core.Path.{sym, ap}
 use Rattle.duration.specs.Duration.{answerOf}
 use Rattle.duration.specs.declared.InSamples.{InSamples}

@@ -1,4 +1,4 @@
--- `exports_replies::field_number` meets its contract. Assumes nothing.
+-- `exports_replies::field_number` meets its contract.
 use mathlib.Core.Path.{sym, ap}
 use Rattle.exports_replies.specs.Crossing.{fieldNumber}
 use borrow.Author.Needs.{needs}

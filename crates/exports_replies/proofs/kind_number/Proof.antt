@@ -1,4 +1,4 @@
--- `exports_replies::kind_number` meets its contract, kind by kind. Assumes nothing.
+-- `exports_replies::kind_number` meets its contract, kind by kind.
 use mathlib.Core.Path.{sym, ap}
 use Rattle.exports_replies.specs.Crossing.{kindNumber}
 use borrow.Author.Needs.{needs}

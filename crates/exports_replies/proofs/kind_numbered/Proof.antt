@@ -1,4 +1,4 @@
--- `exports_replies::kind_numbered` meets its contract, number by number. Assumes nothing.
+-- `exports_replies::kind_numbered` meets its contract, number by number.
 use mathlib.Core.Path.{_≡_, refl}
 use Prim.Native.Nat.{ℕ, zero, suc}
 use Rattle.message.specs.declared.ReplyKind.{ReplyKind}

@@ -1,4 +1,4 @@
--- `exports_replies::make` meets its contract. Assumes nothing.
+-- `exports_replies::make` meets its contract.
 use mathlib.Core.Path.{sym, ap, _∙_}
 use Rattle.message.specs.declared.TypeFound.{TypeFound}
 use Rattle.exports_replies.specs.Crossing.{madeFor}

@@ -1,4 +1,4 @@
--- `exports_replies::port_from_message` meets its contract. Assumes nothing.
+-- `exports_replies::port_from_message` meets its contract.
 use Rattle.exports_replies.specs.Crossing.{replyWith}
 use borrow.Author.Needs.{needs}
 use Rattle.exports_replies.proofs.port_from_message.Statement.{statement}

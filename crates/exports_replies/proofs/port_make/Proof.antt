@@ -1,4 +1,4 @@
--- `exports_replies::port_make` meets its contract. Assumes nothing.
+-- `exports_replies::port_make` meets its contract.
 use mathlib.Core.Path.{refl, ap}
 use Rattle.message.specs.declared.Made.{Made}
 use Rattle.exports_replies.specs.Crossing.{picksOf}

@@ -1,4 +1,4 @@
--- `exports_samples::config_at` meets its contract. Assumes nothing.
+-- `exports_samples::config_at` meets its contract.
 use borrow.Author.Needs.{needs}
 use Rattle.exports_samples.specs.Crossed.{configAt}
 use Rattle.exports_samples.proofs.config_at.Statement.{statement}

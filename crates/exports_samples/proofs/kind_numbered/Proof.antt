@@ -1,4 +1,4 @@
--- `exports_samples::kind_numbered` meets its contract. Assumes nothing.
+-- `exports_samples::kind_numbered` meets its contract.
 use mathlib.Core.Path.{_≡_, refl}
 use Prim.Native.Nat.{ℕ, zero, suc}
 use Rattle.exports_samples.specs.Crossed.{kindNumbered}

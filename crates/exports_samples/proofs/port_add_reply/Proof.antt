@@ -1,4 +1,4 @@
--- `exports_samples::port_add_reply` meets its contract: it hands on what it calls. Assumes nothing.
+-- `exports_samples::port_add_reply` meets its contract: it hands on what it calls.
 use borrow.Author.Needs.{needs}
 use mathlib.Core.Path.{refl, _∙_}
 use Rattle.exports_samples.proofs.port_add_reply.Statement.{statement}

@@ -1,4 +1,4 @@
--- `exports_shape::delay_number` meets its contract. Assumes nothing.
+-- `exports_shape::delay_number` meets its contract.
 use mathlib.Core.Path.{sym, ap}
 use Rattle.exports_shape.specs.Crossed.{delayNumber}
 use borrow.Author.Needs.{needs}

@@ -1,4 +1,4 @@
--- `exports_shape::port_group_delays` meets its contract. Assumes nothing.
+-- `exports_shape::port_group_delays` meets its contract.
 use mathlib.Core.Path.{refl}
 use borrow.Author.Needs.{needs}
 use Rattle.exports_shape.proofs.port_group_delays.Statement.{statement}

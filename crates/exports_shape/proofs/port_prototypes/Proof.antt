@@ -1,4 +1,4 @@
--- `exports_shape::port_prototypes` meets its contract: it hands on what it calls. Assumes nothing.
+-- `exports_shape::port_prototypes` meets its contract: it hands on what it calls.
 use Rattle.exports_shape.proofs.port_prototypes.Statement.{statement}
 use Rattle.exports_shape.proofs.port_prototypes.Tie as tie
 

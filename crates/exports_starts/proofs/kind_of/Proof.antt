@@ -1,4 +1,4 @@
--- `exports_starts::kind_of` meets its contract. Assumes nothing.
+-- `exports_starts::kind_of` meets its contract.
 use Rattle.exports_starts.specs.Message.{kindOf}
 use Rattle.exports_starts.proofs.kind_of.Statement.{statement}
 use Rattle.exports_starts.proofs.kind_of.Tie as tie

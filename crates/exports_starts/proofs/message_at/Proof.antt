@@ -1,4 +1,4 @@
--- `exports_starts::message_at` meets its contract. Assumes nothing.
+-- `exports_starts::message_at` meets its contract.
 use Rattle.exports_starts.specs.Message.{messageAt}
 use borrow.Author.Needs.{needs}
 use Rattle.exports_starts.proofs.message_at.Statement.{statement}

@@ -1,4 +1,4 @@
--- `exports_starts::offset_drawn` meets its contract. Assumes nothing.
+-- `exports_starts::offset_drawn` meets its contract.
 use mathlib.Core.Path.{sym, ap, _∙_}
 use Rattle.distributions.specs.declared.OffsetAnswer.{OffsetAnswer}
 use Rattle.exports_starts.specs.Drawn.{offsetDrawn, noNumber}

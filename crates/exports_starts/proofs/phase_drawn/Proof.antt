@@ -1,4 +1,4 @@
--- `exports_starts::phase_drawn` meets its contract. Assumes nothing.
+-- `exports_starts::phase_drawn` meets its contract.
 use mathlib.Core.Path.{sym, ap, _∙_}
 use Rattle.distributions.specs.declared.PhaseAnswer.{PhaseAnswer}
 use Rattle.exports_starts.specs.Drawn.{phaseDrawn, noNumber}

@@ -1,4 +1,4 @@
--- `exports_starts::port_drawn` meets its contract. Assumes nothing.
+-- `exports_starts::port_drawn` meets its contract.
 use Rattle.exports_starts.specs.Drawn.{askedOf}
 use mathlib.Core.Path.{refl}
 use borrow.Author.Needs.{needs}

@@ -1,4 +1,4 @@
--- `exports_starts::port_message` meets its contract. Assumes nothing.
+-- `exports_starts::port_message` meets its contract.
 use mathlib.Core.Path.{_∙_}
 use mir.Facts.{toZ-ofZ}
 use Rattle.exports_starts.specs.Message.{delaysAt}

@@ -1,4 +1,4 @@
--- `exports_taps::port_filter_taps` meets its contract: it hands on what it calls. Assumes nothing.
+-- `exports_taps::port_filter_taps` meets its contract: it hands on what it calls.
 use Rattle.exports_taps.proofs.port_filter_taps.Statement.{statement}
 use Rattle.exports_taps.proofs.port_filter_taps.Tie as tie
 

@@ -1,4 +1,4 @@
--- `exports_taps::port_next_clock` meets its contract. Assumes nothing.
+-- `exports_taps::port_next_clock` meets its contract.
 use mathlib.Core.Path.{refl, ap}
 use borrow.Author.Needs.{needs}
 use native.Mathlib.Omega.{arith}

@@ -1,4 +1,4 @@
--- `exports_taps::port_pulse_sum` meets its contract. Assumes nothing.
+-- `exports_taps::port_pulse_sum` meets its contract.
 use mathlib.Core.Path.{_≡_, refl}
 use lib.ListN.{take}
 use Rattle.filterbank.specs.LaidPulses.{late}

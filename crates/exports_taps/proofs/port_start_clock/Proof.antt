@@ -1,4 +1,4 @@
--- `exports_taps::port_start_clock` meets its contract. Assumes nothing.
+-- `exports_taps::port_start_clock` meets its contract.
 use mathlib.Core.Path.{refl}
 use borrow.Author.Needs.{needs}
 use Rattle.exports_taps.proofs.port_start_clock.Statement.{statement}

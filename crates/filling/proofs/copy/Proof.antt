@@ -1,4 +1,4 @@
--- `copy` meets its contract: so many places are written over. Assumes nothing.
+-- `copy` meets its contract: so many places are written over.
 use Prim.Native.Nat.{_-_, _≤_, min}
 use mathlib.Core.Path.{_≡_, refl}
 use mathlib.Core.List.{_++_}

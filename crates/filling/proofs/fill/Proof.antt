@@ -1,4 +1,4 @@
--- `fill` meets its contract. Assumes nothing.
+-- `fill` meets its contract.
 use mathlib.Core.Path.{_≡_, refl, sym, ap, _∙_}
 use mathlib.Core.Bool.{Bool, true, false, cond}
 use mathlib.Core.List.{List}

@@ -1,4 +1,4 @@
--- `advance` meets its contract. Assumes nothing.
+-- `advance` meets its contract.
 use borrow.Author.Needs.{needs}
 use Rattle.filterbank.proofs.Literals.{advance-wraps, advance-on}
 use Rattle.filter_clock.proofs.advance.Statement.{statement}

@@ -1,4 +1,4 @@
--- `clock_step` meets its contract. Assumes nothing.
+-- `clock_step` meets its contract.
 use Rattle.filterbank.proofs.Literals.{step-is}
 use Rattle.filter_clock.proofs.clock_step.Statement.{statement}
 use Rattle.filter_clock.proofs.clock_step.Tie as tie

@@ -1,4 +1,4 @@
--- `start_clock` meets its contract. Assumes nothing.
+-- `start_clock` meets its contract.
 use Rattle.filterbank.proofs.Literals.{start-is}
 use Rattle.filter_clock.proofs.start_clock.Statement.{statement}
 use Rattle.filter_clock.proofs.start_clock.Tie as tie

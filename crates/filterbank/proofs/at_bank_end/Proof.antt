@@ -1,4 +1,4 @@
--- `at_bank_end` meets its contract. Assumes nothing.
+-- `at_bank_end` meets its contract.
 use borrow.Author.Needs.{needs}
 use Rattle.filterbank.proofs.Literals.{rolled-taps}
 use Rattle.filterbank.proofs.at_bank_end.Statement.{statement}

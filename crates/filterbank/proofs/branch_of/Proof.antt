@@ -1,4 +1,4 @@
--- `branch_of` meets its contract. Assumes nothing.
+-- `branch_of` meets its contract.
 use borrow.Author.Needs.{needs}
 use Rattle.filterbank.proofs.Literals.{branch-own, branch-none}
 use Rattle.filterbank.proofs.branch_of.Statement.{statement}

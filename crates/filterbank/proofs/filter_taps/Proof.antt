@@ -1,4 +1,4 @@
--- `filter_taps` meets its contract. Assumes nothing.
+-- `filter_taps` meets its contract.
 use borrow.Author.Needs.{needs}
 use borrow.Author.Tests.{ne-eqb}
 use Rattle.filterbank.proofs.Literals.{taps-within, taps-rolled}

@@ -1,4 +1,4 @@
--- `tau_of` meets its contract. Assumes nothing.
+-- `tau_of` meets its contract.
 use borrow.Author.Needs.{needs}
 use Rattle.filterbank.proofs.Literals.{tau-is}
 use Rattle.filterbank.proofs.tau_of.Statement.{statement}

@@ -1,4 +1,4 @@
--- `within_bank` meets its contract. Assumes nothing.
+-- `within_bank` meets its contract.
 use borrow.Author.Needs.{needs}
 use Rattle.filterbank.proofs.Literals.{seven-taps}
 use Rattle.filterbank.proofs.within_bank.Statement.{statement}

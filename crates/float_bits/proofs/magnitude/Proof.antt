@@ -1,4 +1,4 @@
--- `float_bits::magnitude` meets its contract: below the normal range by `narrow_small`, and above it by `in-range`. Assumes nothing.
+-- `float_bits::magnitude` meets its contract: below the normal range by `narrow_small`, and above it by `in-range`.
 use mathlib.Core.Path.{refl}
 use Prim.Native.Nat.{_+_, _-_, _/_, _%_}
 use native.Mathlib.Omega.{arith}

@@ -1,4 +1,4 @@
--- `float_bits::narrow` meets its contract. Assumes nothing.
+-- `float_bits::narrow` meets its contract.
 use mathlib.Core.Path.{sym, ap, subst, _∙_}
 use lib.Dec.{T}
 use lib.Ieee.{binary64, fits}

@@ -1,4 +1,4 @@
--- `float_bits::narrow_any` meets its contract: the pattern of the size, with the sign put before it. Assumes nothing.
+-- `float_bits::narrow_any` meets its contract: the pattern of the size, with the sign put before it.
 use mathlib.Core.Path.{sym, ap, subst}
 use Prim.Native.Nat.{_+_, _*_, _/_}
 use native.Mathlib.Omega.{arith}

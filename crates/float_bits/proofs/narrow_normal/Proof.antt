@@ -1,4 +1,4 @@
--- `float_bits::narrow_normal` meets its contract, by `rounded`. Assumes nothing.
+-- `float_bits::narrow_normal` meets its contract, by `rounded`.
 use mathlib.Core.Path.{subst}
 use mathlib.Core.Bool.{Bool, not}
 use Prim.Native.Nat.{_%_, _<_}

@@ -1,4 +1,4 @@
--- `float_bits::narrow_small` meets its contract. Assumes nothing.
+-- `float_bits::narrow_small` meets its contract.
 use native.Mathlib.Omega.{arith}
 use Prim.Native.Nat.{_/_}
 use Rattle.float_bits.proofs.Narrowing.{half-shl, subnormal-pattern, zero-pattern}

@@ -1,4 +1,4 @@
--- `float_bits::nearest` meets its contract: one division does it (`closest-half`). Assumes nothing.
+-- `float_bits::nearest` meets its contract: one division does it (`closest-half`).
 use native.Mathlib.Omega.{arith}
 use Rattle.rounding.proofs.Half.{closest-half}
 use borrow.Author.Needs.{needs}

@@ -1,4 +1,4 @@
--- `float_range::finite` meets its contract: the two comparisons are with the two infinities. Assumes nothing.
+-- `float_range::finite` meets its contract: the two comparisons are with the two infinities.
 use lib.Ieee.{div, neg, ofBits}
 use Rattle.float_bits.proofs.Ranges.{finite-test}
 use Rattle.float_range.proofs.finite.Statement.{statement}

@@ -1,4 +1,4 @@
--- `ceil_small` meets its contract: the whole part, or the next where x is above it. Assumes nothing.
+-- `ceil_small` meets its contract: the whole part, or the next where x is above it.
 use mathlib.Core.Path.{sym, _∙_, subst}
 use mathlib.Core.Bool.{Bool, not}
 use Prim.Native.Nat.{_^_, _<_}

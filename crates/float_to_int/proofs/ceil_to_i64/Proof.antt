@@ -1,4 +1,4 @@
--- `ceil_to_i64` meets its contract: each branch is a case of `proofs/Ceiling.antt`. Assumes nothing.
+-- `ceil_to_i64` meets its contract: each branch is a case of `proofs/Ceiling.antt`.
 use mathlib.Core.Path.{_≡_, sym, ap, _∙_, subst}
 use mathlib.Core.Bool.{Bool, true, false, not}
 use lib.Dec.{T}

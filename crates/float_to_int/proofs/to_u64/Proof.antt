@@ -1,4 +1,4 @@
--- `to_u64` meets its contract: each branch is a case of `proofs/Truncation.antt`. Assumes nothing.
+-- `to_u64` meets its contract: each branch is a case of `proofs/Truncation.antt`.
 use mathlib.Core.Path.{sym, subst}
 use mathlib.Core.Bool.{Bool, not}
 use lib.Dec.{T}

@@ -1,4 +1,4 @@
--- `crosses_level` meets its contract. Assumes nothing.
+-- `crosses_level` meets its contract.
 use mathlib.Core.Bool.{Bool, _&&_}
 use mathlib.Core.Path.{sym, ap}
 use lib.Ieee.{lt}

@@ -1,4 +1,4 @@
--- `delay_at` meets its contract. Assumes nothing.
+-- `delay_at` meets its contract.
 use borrow.Author.Needs.{needs}
 use Rattle.pulse_shape.proofs.Delays.{delay-computed}
 use Rattle.group_delay.proofs.delay_at.Statement.{statement}

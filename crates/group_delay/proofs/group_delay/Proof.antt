@@ -1,4 +1,4 @@
--- `group_delay` meets its contract: the first crossing of what is left is that of the whole. Assumes nothing.
+-- `group_delay` meets its contract: the first crossing of what is left is that of the whole.
 use borrow.Author.Needs.{needs}
 use Prim.Native.Nat.{_≤_, _-_}
 use mathlib.Core.Path.{_≡_, sym, ap, _∙_}

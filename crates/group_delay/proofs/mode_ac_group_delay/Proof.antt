@@ -1,4 +1,4 @@
--- `mode_ac_group_delay` meets its contract. Assumes nothing.
+-- `mode_ac_group_delay` meets its contract.
 use borrow.Author.Needs.{needs}
 use Rattle.pulse_shape.proofs.Delays.{mode-ac-at, mode-ac-nowhere}
 use Rattle.group_delay.proofs.mode_ac_group_delay.Statement.{statement}

@@ -1,4 +1,4 @@
--- `interrogator::code` meets its contract. Assumes nothing.
+-- `interrogator::code` meets its contract.
 use borrow.Author.Needs.{needs}
 use mathlib.Core.Path.{refl, sym, _∙_}
 use native.Mathlib.Omega.{arith}

@@ -1,4 +1,4 @@
--- `interrogator::code_number` meets its contract. Assumes nothing.
+-- `interrogator::code_number` meets its contract.
 use mathlib.Core.Path.{sym, ap}
 use borrow.Author.Needs.{needs}
 use Rattle.interrogator.specs.Interrogators.{codeNumber}

@@ -1,4 +1,4 @@
--- `interrogator::of_bytes` meets its contract. Assumes nothing.
+-- `interrogator::of_bytes` meets its contract.
 use borrow.Author.Needs.{needs}
 use native.Mathlib.Omega.{arith}
 use Rattle.interrogator.proofs.Readings.{reading, another-format, another-length}

@@ -1,4 +1,4 @@
--- `interrogator::overlay` meets its contract. Assumes nothing.
+-- `interrogator::overlay` meets its contract.
 use borrow.Author.Needs.{needs}
 use mathlib.Core.Path.{_≡_, sym}
 use mathlib.Core.List.{List}

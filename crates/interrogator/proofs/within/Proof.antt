@@ -1,4 +1,4 @@
--- `interrogator::within` meets its contract. Assumes nothing.
+-- `interrogator::within` meets its contract.
 use borrow.Author.Tests.{le-leb, lt-leb}
 use Rattle.interrogator.specs.Interrogators.{within}
 use Rattle.interrogator.proofs.within.Statement.{statement}

@@ -1,4 +1,4 @@
--- `byte_at` meets its contract. Assumes nothing.
+-- `byte_at` meets its contract.
 use native.Mathlib.Omega.{arith}
 use borrow.Author.Needs.{needs}
 use mathlib.Core.Path.{refl, sym}

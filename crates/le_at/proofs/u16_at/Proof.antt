@@ -1,4 +1,4 @@
--- `u16_at` meets its contract: its answer is made of `le_u16`'s. Assumes nothing.
+-- `u16_at` meets its contract: its answer is made of `le_u16`'s.
 use mathlib.Core.Path.{sym, ap, _∙_}
 use Rattle.le_bytes.proofs.Numbers.{number16, is-number16}
 use borrow.Author.Needs.{needs}

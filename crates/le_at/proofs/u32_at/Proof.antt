@@ -1,4 +1,4 @@
--- `u32_at` meets its contract: its answer is made of `le_u32`'s. Assumes nothing.
+-- `u32_at` meets its contract: its answer is made of `le_u32`'s.
 use mathlib.Core.Path.{sym, ap, _∙_}
 use Rattle.le_bytes.proofs.Numbers.{number32, is-number32}
 use borrow.Author.Needs.{needs}

@@ -1,4 +1,4 @@
--- `u64_at` meets its contract: its answer is made of `le_u64`'s. Assumes nothing.
+-- `u64_at` meets its contract: its answer is made of `le_u64`'s.
 use mathlib.Core.Path.{sym, ap, _∙_}
 use Rattle.le_bytes.proofs.Numbers.{number64, is-number64}
 use borrow.Author.Needs.{needs}

@@ -1,4 +1,4 @@
--- `eight` meets its contract. Two numbers of four bytes are the halves of one. Assumes nothing.
+-- `eight` meets its contract. Two numbers of four bytes are the halves of one.
 use Rattle.le_bytes.proofs.Halves.{joined}
 use native.Mathlib.Omega.{arith}
 use borrow.Author.Needs.{needs}

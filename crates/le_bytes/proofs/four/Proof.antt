@@ -1,4 +1,4 @@
--- `four` meets its contract. Two numbers of two bytes are the halves of one. Assumes nothing.
+-- `four` meets its contract. Two numbers of two bytes are the halves of one.
 use Rattle.le_bytes.proofs.Halves.{joined}
 use native.Mathlib.Omega.{arith}
 use borrow.Author.Needs.{needs}

@@ -1,4 +1,4 @@
--- `two` meets its contract. Two bytes are the halves of a number. Assumes nothing.
+-- `two` meets its contract. Two bytes are the halves of a number.
 use Rattle.le_bytes.proofs.Halves.{le-one, joined}
 use Prim.Native.Nat.{_+_}
 use mathlib.Core.Path.{sym, _∙_}

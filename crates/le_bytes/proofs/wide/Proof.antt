@@ -1,4 +1,4 @@
--- `wide` meets its contract: the byte, which is below 256. Assumes nothing.
+-- `wide` meets its contract: the byte, which is below 256.
 use mathlib.Core.Path.{refl}
 use borrow.Author.Needs.{needs}
 use Rattle.le_bytes.proofs.wide.Statement.{statement}

@@ -1,4 +1,4 @@
--- `le_f64` meets its contract: its answer is made of the number's. Assumes nothing.
+-- `le_f64` meets its contract: its answer is made of the number's.
 use mathlib.Core.Path.{sym, ap, _∙_}
 use Rattle.le_floats.proofs.Answers.{made64, answer64}
 use borrow.Author.Needs.{needs}

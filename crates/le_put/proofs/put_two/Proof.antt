@@ -1,4 +1,4 @@
--- `put_two` meets its contract. Two bytes stored are two bytes laid. Assumes nothing.
+-- `put_two` meets its contract. Two bytes stored are two bytes laid.
 use lib.ListN.{length-set}
 use Rattle.le_bytes.proofs.Halves.{laid-two}
 use borrow.Author.Needs.{needs}

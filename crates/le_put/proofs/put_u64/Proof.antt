@@ -1,4 +1,4 @@
--- `put_u64` meets its contract. The test decides which case of the definition holds. Assumes nothing.
+-- `put_u64` meets its contract. The test decides which case of the definition holds.
 use mathlib.Core.Path.{sym, _∙_}
 use Rattle.le_bytes.proofs.Decided.{there, put-there, put-past}
 use borrow.Author.Needs.{needs}

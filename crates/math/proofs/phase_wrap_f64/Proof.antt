@@ -1,4 +1,4 @@
--- `math::phase_wrap_f64` meets its contract. Assumes nothing.
+-- `math::phase_wrap_f64` meets its contract.
 use borrow.Author.Needs.{needs}
 use Rattle.math.specs.Phase.{phaseWrap}
 use Rattle.math.proofs.Literals.{pi-is}

@@ -1,4 +1,4 @@
--- `math::phase_wrap_once_f64` meets its contract. Assumes nothing.
+-- `math::phase_wrap_once_f64` meets its contract.
 use mathlib.Core.Path.{refl}
 use Rattle.math.specs.Phase.{phaseWrapOnce}
 use Rattle.math.proofs.Literals.{pi-is, twoPi-is}

@@ -1,4 +1,4 @@
--- `math::rem_two_pi` meets its contract. Assumes nothing.
+-- `math::rem_two_pi` meets its contract.
 use mathlib.Core.Path.{refl}
 use Rattle.math.specs.Phase.{remEuclid}
 use Rattle.math.proofs.Literals.{twoPi-is}

@@ -1,4 +1,4 @@
--- `message::message_type` meets its contract, number by number. Assumes nothing.
+-- `message::message_type` meets its contract, number by number.
 use mathlib.Core.Path.{_≡_, sym, ap}
 use borrow.Author.Needs.{needs}
 use Prim.Native.Nat.{ℕ, suc, _≤_}

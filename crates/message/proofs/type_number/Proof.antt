@@ -1,4 +1,4 @@
--- `message::type_number` meets its contract, type by type. Assumes nothing.
+-- `message::type_number` meets its contract, type by type.
 use mathlib.Core.Path.{sym, ap}
 use borrow.Author.Needs.{needs}
 use Rattle.message.specs.Types.{typeNumber}

@@ -1,4 +1,4 @@
--- `message_config::filter_clock_error` meets its contract. Assumes nothing.
+-- `message_config::filter_clock_error` meets its contract.
 use borrow.Author.Needs.{needs}
 use Rattle.message_config.proofs.Joined.{error-short, error-long, error-mode-ac}
 use Rattle.message_config.proofs.filter_clock_error.Statement.{statement}

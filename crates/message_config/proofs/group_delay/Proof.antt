@@ -1,4 +1,4 @@
--- `message_config::group_delay` meets its contract. Assumes nothing.
+-- `message_config::group_delay` meets its contract.
 use borrow.Author.Needs.{needs}
 use Rattle.message_config.proofs.Joined.{delay-short, delay-long, delay-mode-ac}
 use Rattle.message_config.proofs.group_delay.Statement.{statement}

@@ -1,4 +1,4 @@
--- `message_config::unrounded_start` meets its contract. Assumes nothing.
+-- `message_config::unrounded_start` meets its contract.
 use Rattle.message_config.proofs.Joined.{unrounded-is}
 use Rattle.message_config.proofs.unrounded_start.Statement.{statement}
 use Rattle.message_config.proofs.unrounded_start.Tie as tie

@@ -1,4 +1,4 @@
--- `message_fields::all_call_reply_fault` meets its contract. Assumes nothing.
+-- `message_fields::all_call_reply_fault` meets its contract.
 use borrow.Author.Tests.{lt-ltb, le-ltb}
 use borrow.Author.Needs.{needs}
 use native.Mathlib.Omega.{arith}

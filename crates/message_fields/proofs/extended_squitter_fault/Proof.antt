@@ -1,4 +1,4 @@
--- `message_fields::extended_squitter_fault` meets its contract: the format picked decides the list of the second pick. Assumes nothing.
+-- `message_fields::extended_squitter_fault` meets its contract: the format picked decides the list of the second pick.
 use mathlib.Core.Path.{_≡_}
 use borrow.Author.Tests.{le-ltb}
 use borrow.Author.Needs.{needs}

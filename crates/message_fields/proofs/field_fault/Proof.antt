@@ -1,4 +1,4 @@
--- `message_fields::field_fault` meets its contract: each arm is the definition at its type. Assumes nothing.
+-- `message_fields::field_fault` meets its contract: each arm is the definition at its type.
 use mathlib.Core.Path.{_≡_, sym, ap, _∙_}
 use lib.Dec.{ltb}
 use borrow.Author.Needs.{needs}

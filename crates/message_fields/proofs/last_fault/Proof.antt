@@ -1,4 +1,4 @@
--- `message_fields::last_fault` meets its contract. Assumes nothing.
+-- `message_fields::last_fault` meets its contract.
 use borrow.Author.Tests.{lt-ltb, le-ltb}
 use Rattle.message_fields.proofs.last_fault.Statement.{statement}
 use Rattle.message_fields.proofs.last_fault.Tie as tie

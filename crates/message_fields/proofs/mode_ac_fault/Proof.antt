@@ -1,4 +1,4 @@
--- `message_fields::mode_ac_fault` meets its contract. Assumes nothing.
+-- `message_fields::mode_ac_fault` meets its contract.
 use mathlib.Core.Path.{refl}
 use borrow.Author.Tests.{lt-ltb, le-ltb}
 use borrow.Author.Needs.{needs}

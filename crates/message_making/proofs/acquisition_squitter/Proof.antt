@@ -1,4 +1,4 @@
--- `message_making::acquisition_squitter` meets its contract. Assumes nothing.
+-- `message_making::acquisition_squitter` meets its contract.
 use mathlib.Core.Path.{_≡_}
 use borrow.Author.Needs.{needs}
 use native.Mathlib.Omega.{arith}

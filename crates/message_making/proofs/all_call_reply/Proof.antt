@@ -1,4 +1,4 @@
--- `message_making::all_call_reply` meets its contract. Assumes nothing.
+-- `message_making::all_call_reply` meets its contract.
 use borrow.Author.Needs.{needs}
 use native.Mathlib.Omega.{arith}
 use lib.Dec.{lit<}

@@ -1,4 +1,4 @@
--- `message_making::extended_squitter` meets its contract: the format picked decides the table of the second pick. Assumes nothing.
+-- `message_making::extended_squitter` meets its contract: the format picked decides the table of the second pick.
 use mathlib.Core.Path.{_≡_, _∙_}
 use borrow.Author.Needs.{needs}
 use native.Mathlib.Omega.{arith}

@@ -1,4 +1,4 @@
--- `message_making::long_ap` meets its contract. Assumes nothing.
+-- `message_making::long_ap` meets its contract.
 use mathlib.Core.Path.{_≡_, _∙_}
 use borrow.Author.Needs.{needs}
 use native.Mathlib.Omega.{arith}

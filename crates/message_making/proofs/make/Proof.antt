@@ -1,4 +1,4 @@
--- `message_making::make` meets its contract. Assumes nothing.
+-- `message_making::make` meets its contract.
 use mathlib.Core.Path.{sym, ap, _∙_}
 use borrow.Author.Needs.{needs}
 use Rattle.message.specs.Making.{replyOf, madeWhere, made}

@@ -1,4 +1,4 @@
--- `message_making::military_extended_squitter` meets its contract. Assumes nothing.
+-- `message_making::military_extended_squitter` meets its contract.
 use mathlib.Core.Path.{_≡_, _∙_}
 use borrow.Author.Needs.{needs}
 use lib.ListN.{length}

@@ -1,4 +1,4 @@
--- `message_making::mode_ac` meets its contract. Assumes nothing.
+-- `message_making::mode_ac` meets its contract.
 use borrow.Author.Needs.{needs}
 use native.Mathlib.Omega.{arith}
 use Rattle.message.specs.Making.{replyOf, kindOf, messageBytes, filled}

@@ -1,4 +1,4 @@
--- `message_making::reply_of` meets its contract: each arm is the definition at its type. Assumes nothing.
+-- `message_making::reply_of` meets its contract: each arm is the definition at its type.
 use mathlib.Core.Path.{sym, ap, _∙_}
 use borrow.Author.Needs.{needs}
 use Rattle.message.specs.declared.MessageType.{MessageType}

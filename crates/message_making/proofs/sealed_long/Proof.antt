@@ -1,4 +1,4 @@
--- `message_making::sealed_long` meets its contract. Assumes nothing.
+-- `message_making::sealed_long` meets its contract.
 use mathlib.Core.Path.{_≡_, sym, ap}
 use borrow.Author.Needs.{needs}
 use native.Mathlib.Omega.{arith}

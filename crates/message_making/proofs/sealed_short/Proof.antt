@@ -1,4 +1,4 @@
--- `message_making::sealed_short` meets its contract. Assumes nothing.
+-- `message_making::sealed_short` meets its contract.
 use borrow.Author.Needs.{needs}
 use Rattle.message.proofs.Replies.{sealed-reply}
 use Rattle.message_making.proofs.sealed_short.Statement.{statement}

@@ -1,4 +1,4 @@
--- `message_making::unsealed_long` meets its contract. Assumes nothing.
+-- `message_making::unsealed_long` meets its contract.
 use mathlib.Core.Path.{_≡_, ap}
 use borrow.Author.Needs.{needs}
 use lib.ListN.{length}

@@ -1,4 +1,4 @@
--- `message_type::class_number` meets its contract. Assumes nothing.
+-- `message_type::class_number` meets its contract.
 use borrow.Author.Needs.{needs}
 use mathlib.Core.Path.{sym, ap, _∙_}
 use Rattle.message_type.specs.Classing.{classNumber}

@@ -1,4 +1,4 @@
--- `message_type::classed` meets its contract. Assumes nothing.
+-- `message_type::classed` meets its contract.
 use borrow.Author.Needs.{needs}
 use Rattle.message_type.proofs.classed.Statement.{statement}
 use Rattle.message_type.proofs.classed.Tie as tie

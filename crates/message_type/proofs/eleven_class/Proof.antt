@@ -1,4 +1,4 @@
--- `message_type::eleven_class` meets its contract. Assumes nothing.
+-- `message_type::eleven_class` meets its contract.
 use borrow.Author.Needs.{needs}
 use mathlib.Core.Path.{sym, _∙_}
 use borrow.Author.Tests.{eq-eqb, ne-eqb}

@@ -1,4 +1,4 @@
--- `message_type::first_of` meets its contract. Assumes nothing.
+-- `message_type::first_of` meets its contract.
 use borrow.Author.Needs.{needs}
 use mathlib.Core.Path.{sym, ap}
 use Rattle.message_type.specs.declared.Class.{Class}

@@ -1,4 +1,4 @@
--- `message_type::from_message` meets its contract. Assumes nothing.
+-- `message_type::from_message` meets its contract.
 use borrow.Author.Needs.{needs}
 use Rattle.message_type.specs.Classing.{classOf}
 use Rattle.message_type.proofs.ClassArms.{short-arm, long-arm, mode-ac-arm}

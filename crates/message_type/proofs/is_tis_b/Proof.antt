@@ -1,4 +1,4 @@
--- `message_type::is_tis_b` meets its contract. Assumes nothing.
+-- `message_type::is_tis_b` meets its contract.
 use mathlib.Core.Path.{_≡_, refl}
 use mathlib.Core.Bool.{Bool, true, false}
 use borrow.Author.Tests.{eq-eqb, ne-eqb}

@@ -1,4 +1,4 @@
--- `message_type::long_class` meets its contract. Assumes nothing.
+-- `message_type::long_class` meets its contract.
 use mathlib.Core.Path.{sym, ap}
 use Prim.Native.Nat.{_/_, _<_}
 use borrow.Author.Needs.{needs}

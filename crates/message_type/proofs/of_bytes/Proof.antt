@@ -1,4 +1,4 @@
--- `message_type::of_bytes` meets its contract. Assumes nothing.
+-- `message_type::of_bytes` meets its contract.
 use borrow.Author.Needs.{needs}
 use native.Mathlib.Omega.{arith}
 use Rattle.message_type.proofs.ClassArms.{seven, fourteen, two, another}

@@ -1,4 +1,4 @@
--- `message_type::short_class` meets its contract. Assumes nothing.
+-- `message_type::short_class` meets its contract.
 use mathlib.Core.Path.{sym, ap, _∙_}
 use Prim.Native.Nat.{ℕ}
 use borrow.Author.Tests.{ne-eqb}

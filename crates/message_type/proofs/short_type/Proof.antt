@@ -1,4 +1,4 @@
--- `message_type::short_type` meets its contract. Assumes nothing.
+-- `message_type::short_type` meets its contract.
 use borrow.Author.Needs.{needs}
 use mathlib.Core.Path.{sym}
 use lib.Seq.{length-take-le}

@@ -1,4 +1,4 @@
--- `octal` meets its contract. Assumes nothing.
+-- `octal` meets its contract.
 use mathlib.Core.Path.{refl}
 use borrow.Author.Needs.{needs}
 use Rattle.mode_ac.proofs.octal.Statement.{statement}

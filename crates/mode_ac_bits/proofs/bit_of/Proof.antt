@@ -1,4 +1,4 @@
--- `bit_of` meets its contract. Assumes nothing.
+-- `bit_of` meets its contract.
 use borrow.Author.Needs.{needs}
 use mathlib.Core.Path.{sym}
 use mathlib.Core.Bool.{false}

@@ -1,4 +1,4 @@
--- `place_of` meets its contract: each branch is a case of the rule. Assumes nothing.
+-- `place_of` meets its contract: each branch is a case of the rule.
 use borrow.Author.Needs.{needs}
 use native.Mathlib.Omega.{arith}
 use Rattle.mode_ac.proofs.PlaceRule.{first-six, last-six, no-bit}

@@ -1,4 +1,4 @@
--- `mode_s::parity` meets its contract. The loop's invariant: going on from here over the bytes left gives the parity of all. Assumes nothing.
+-- `mode_s::parity` meets its contract. The loop's invariant: going on from here over the bytes left gives the parity of all.
 use mathlib.Core.Path.{_≡_}
 use Prim.Native.Nat.{_<_, _≤_, _-_}
 use borrow.Author.Needs.{needs}

@@ -1,4 +1,4 @@
--- `mode_s::with_byte` meets its contract: the place is below 256, and the table's rule says what stands there. Assumes nothing.
+-- `mode_s::with_byte` meets its contract: the place is below 256, and the table's rule says what stands there.
 use mathlib.Core.Path.{sym, subst}
 use Prim.Native.Nat.{ℕ, _<_}
 use borrow.Author.Needs.{needs}

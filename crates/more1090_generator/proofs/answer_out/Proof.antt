@@ -1,4 +1,4 @@
--- `answer_out` meets its contract. Assumes nothing.
+-- `answer_out` meets its contract.
 use borrow.Author.Needs.{needs}
 use Rattle.more1090_generator.proofs.Joined.{answered-stopped, answered-refused}
 use Rattle.more1090_generator.proofs.answer_out.Statement.{statement}

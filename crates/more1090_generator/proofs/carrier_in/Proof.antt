@@ -1,4 +1,4 @@
--- `carrier_in` meets its contract. Assumes nothing.
+-- `carrier_in` meets its contract.
 use borrow.Author.Tests.{eq-eqb, ne-eqb}
 use Rattle.more1090_generator.specs.States.{carrierFrom}
 use Rattle.more1090_generator.proofs.carrier_in.Statement.{statement}

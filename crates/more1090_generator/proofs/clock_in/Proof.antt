@@ -1,4 +1,4 @@
--- `clock_in` meets its contract. Assumes nothing.
+-- `clock_in` meets its contract.
 use borrow.Author.Tests.{eq-eqb, ne-eqb}
 use Rattle.more1090_generator.specs.States.{clockFrom}
 use Rattle.more1090_generator.proofs.clock_in.Statement.{statement}

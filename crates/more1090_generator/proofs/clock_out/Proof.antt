@@ -1,4 +1,4 @@
--- `clock_out` meets its contract. Assumes nothing.
+-- `clock_out` meets its contract.
 use mathlib.Core.Path.{sym, ap}
 use borrow.Author.Needs.{needs}
 use Rattle.more1090_generator.specs.States.{distributionOf, clockFlat}

@@ -1,4 +1,4 @@
--- `distributions_in` meets its contract. Assumes nothing.
+-- `distributions_in` meets its contract.
 use borrow.Author.Needs.{needs}
 use Rattle.more1090_generator.proofs.distributions_in.Statement.{statement}
 use Rattle.more1090_generator.proofs.distributions_in.Tie as tie

@@ -1,4 +1,4 @@
--- `more1090_open` meets its contract. Assumes nothing.
+-- `more1090_open` meets its contract.
 use borrow.Author.Needs.{needs}
 use Rattle.more1090_generator.proofs.Joined.{open-flat}
 use Rattle.more1090_generator.proofs.more1090_open.Statement.{statement}

@@ -1,4 +1,4 @@
--- `more1090_run` meets its contract. Assumes nothing.
+-- `more1090_run` meets its contract.
 use borrow.Author.Needs.{needs}
 use Rattle.more1090_generator.proofs.Joined.{run-flat}
 use Rattle.more1090_generator.proofs.more1090_run.Statement.{statement}

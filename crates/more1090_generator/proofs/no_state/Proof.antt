@@ -1,4 +1,4 @@
--- `no_state` meets its contract. Assumes nothing.
+-- `no_state` meets its contract.
 use mathlib.Core.Path.{refl}
 use Rattle.more1090_generator.specs.States.{distributionOf, noRates, noState}
 use Rattle.more1090_generator.proofs.no_state.Statement.{statement}

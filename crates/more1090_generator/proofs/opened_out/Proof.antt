@@ -1,4 +1,4 @@
--- `opened_out` meets its contract. Assumes nothing.
+-- `opened_out` meets its contract.
 use borrow.Author.Needs.{needs}
 use Rattle.more1090_generator.proofs.Joined.{opened-run, opened-refused}
 use Rattle.more1090_generator.proofs.opened_out.Statement.{statement}

@@ -1,4 +1,4 @@
--- `phase_in` meets its contract. Assumes nothing.
+-- `phase_in` meets its contract.
 use borrow.Author.Tests.{eq-eqb, ne-eqb}
 use Rattle.more1090_generator.specs.States.{phaseFrom}
 use Rattle.more1090_generator.proofs.phase_in.Statement.{statement}

@@ -1,4 +1,4 @@
--- `ran_out` meets its contract. Assumes nothing.
+-- `ran_out` meets its contract.
 use borrow.Author.Needs.{needs}
 use Rattle.more1090_generator.proofs.Joined.{ran-flat}
 use Rattle.more1090_generator.proofs.ran_out.Statement.{statement}

@@ -1,4 +1,4 @@
--- `state_in` meets its contract. Assumes nothing.
+-- `state_in` meets its contract.
 use borrow.Author.Needs.{needs}
 use Rattle.more1090_generator.specs.States.{ratesFrom}
 use Rattle.more1090_generator.proofs.Joined.{state-read}

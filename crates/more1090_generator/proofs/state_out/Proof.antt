@@ -1,4 +1,4 @@
--- `state_out` meets its contract. Assumes nothing.
+-- `state_out` meets its contract.
 use borrow.Author.Needs.{needs}
 use Rattle.more1090_generator.specs.States.{ratesFlat}
 use Rattle.more1090_generator.proofs.Joined.{state-flat}

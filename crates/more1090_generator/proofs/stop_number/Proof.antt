@@ -1,4 +1,4 @@
--- `stop_number` meets its contract. Assumes nothing.
+-- `stop_number` meets its contract.
 use borrow.Author.Needs.{needs}
 use Rattle.running.specs.Ended.{stopNumber}
 use Rattle.more1090_generator.proofs.stop_number.Statement.{statement}

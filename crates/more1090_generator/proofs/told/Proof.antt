@@ -1,4 +1,4 @@
--- `told` meets its contract. Assumes nothing.
+-- `told` meets its contract.
 use mathlib.Core.Path.{refl}
 use Rattle.more1090_generator.specs.Answers.{told}
 use Rattle.more1090_generator.proofs.told.Statement.{statement}

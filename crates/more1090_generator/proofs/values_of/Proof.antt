@@ -1,4 +1,4 @@
--- `values_of` meets its contract. Assumes nothing.
+-- `values_of` meets its contract.
 use borrow.Author.Needs.{needs}
 use mathlib.Core.Path.{sym, ap}
 use Rattle.refusals.specs.Number.{valuesOf}

@@ -1,4 +1,4 @@
--- `more1090_class` meets its contract. Assumes nothing.
+-- `more1090_class` meets its contract.
 use mathlib.Core.Path.{ap, _∙_}
 use borrow.Author.Needs.{needs}
 use Rattle.message_type.specs.Classing.{classNumber}

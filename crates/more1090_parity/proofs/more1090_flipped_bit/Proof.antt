@@ -1,4 +1,4 @@
--- `more1090_flipped_bit` meets its contract. Assumes nothing.
+-- `more1090_flipped_bit` meets its contract.
 use Prim.Native.Nat.{ℕ}
 use mathlib.Core.Path.{_≡_, sym, ap, _∙_}
 use mathlib.Core.Option.{Option}

@@ -1,4 +1,4 @@
--- `all_quiet` meets its contract. The loop's invariant: while all were quiet, the first fault of the rest is that of all. Assumes nothing.
+-- `all_quiet` meets its contract. The loop's invariant: while all were quiet, the first fault of the rest is that of all.
 use mathlib.Core.Path.{_≡_, refl}
 use mathlib.Core.Bool.{cond}
 use mathlib.Core.Option.{none}

@@ -1,4 +1,4 @@
--- `check_noise` meets its contract. Assumes nothing.
+-- `check_noise` meets its contract.
 use mathlib.Core.Path.{_≡_, sym, ap, _∙_}
 use mathlib.Core.Bool.{Bool, cond}
 use mathlib.Core.Option.{none}

@@ -1,4 +1,4 @@
--- `first_loud` meets its contract. The loop's invariant: the first fault of the rest is that of all. Assumes nothing.
+-- `first_loud` meets its contract. The loop's invariant: the first fault of the rest is that of all.
 use mathlib.Core.Path.{_≡_, refl, sym, _∙_}
 use Prim.Native.Nat.{_-_, _≤_}
 use lib.ListN.{length, drop}

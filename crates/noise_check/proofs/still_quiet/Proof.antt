@@ -1,4 +1,4 @@
--- `still_quiet` meets its contract. Assumes nothing.
+-- `still_quiet` meets its contract.
 use mathlib.Core.Path.{sym, _∙_}
 use Rattle.noise_check.proofs.Quiet.{quiet-value, loud-value}
 use borrow.Author.Needs.{needs}

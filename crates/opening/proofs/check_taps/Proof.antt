@@ -1,4 +1,4 @@
--- `check_taps` meets its contract. Assumes nothing.
+-- `check_taps` meets its contract.
 use mathlib.Core.Path.{sym, _∙_}
 use borrow.Author.Tests.{not-true, not-false}
 use Rattle.opening.proofs.Decided.{mode-s-taps-refused, mode-ac-taps-refused, taps-given}

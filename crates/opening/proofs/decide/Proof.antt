@@ -1,4 +1,4 @@
--- `decide` meets its contract. Assumes nothing.
+-- `decide` meets its contract.
 use mathlib.Core.Path.{_≡_, ap, _∙_}
 use Rattle.opening.specs.declared.Opened.the-variants.{Run}
 use Rattle.opening.specs.Opening.{firstState}

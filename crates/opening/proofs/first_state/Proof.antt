@@ -1,4 +1,4 @@
--- `first_state` meets its contract. Assumes nothing.
+-- `first_state` meets its contract.
 use lib.Ieee.{ofBits}
 use mathlib.Core.Path.{refl}
 use Rattle.opening.specs.Opening.{firstState}

@@ -1,4 +1,4 @@
--- `judge` meets its contract. Assumes nothing.
+-- `judge` meets its contract.
 use mathlib.Core.Path.{sym, _∙_}
 use borrow.Author.Tests.{not-true, not-false}
 use Rattle.opening.proofs.Decided.{lent-refused, settings-refused, settings-given}

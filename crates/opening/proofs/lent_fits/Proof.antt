@@ -1,4 +1,4 @@
--- `lent_fits` meets its contract: each test is one fact of `Fits`. Assumes nothing.
+-- `lent_fits` meets its contract: each test is one fact of `Fits`.
 use Rattle.opening.proofs.Decided.{fits-if, fits-not}
 use borrow.Author.Needs.{needs}
 use native.Mathlib.Omega.{arith}

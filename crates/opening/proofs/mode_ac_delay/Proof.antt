@@ -1,4 +1,4 @@
--- `mode_ac_delay` meets its contract. Assumes nothing.
+-- `mode_ac_delay` meets its contract.
 use mathlib.Core.Path.{sym, _∙_}
 use Rattle.opening.proofs.Decided.{mode-ac-delay-of, mode-ac-nowhere}
 use borrow.Author.Needs.{needs}

@@ -1,4 +1,4 @@
--- `mode_s_delay` meets its contract. Assumes nothing.
+-- `mode_s_delay` meets its contract.
 use mathlib.Core.Path.{sym, _∙_}
 use Rattle.opening.proofs.Decided.{mode-s-delay-of, mode-s-nowhere}
 use borrow.Author.Needs.{needs}

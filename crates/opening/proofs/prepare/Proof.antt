@@ -1,4 +1,4 @@
--- `prepare` meets its contract. Assumes nothing.
+-- `prepare` meets its contract.
 use Rattle.opening.specs.Opening.{half}
 use Rattle.opening.proofs.Decided.{prepared}
 use borrow.Author.Needs.{needs}

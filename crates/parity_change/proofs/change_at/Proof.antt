@@ -1,4 +1,4 @@
--- `parity_change::change_at` meets its contract: the table's rule says what stands at a place. Assumes nothing.
+-- `parity_change::change_at` meets its contract: the table's rule says what stands at a place.
 use borrow.Author.Needs.{needs}
 use Rattle.parity_change.proofs.Table.{changes, looked-up}
 use Rattle.parity_change.proofs.change_at.Statement.{statement}

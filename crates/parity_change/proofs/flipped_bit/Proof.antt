@@ -1,4 +1,4 @@
--- `parity_change::flipped_bit` meets its contract. The loop's invariant: the search from here on finds what that of all places finds. Assumes nothing.
+-- `parity_change::flipped_bit` meets its contract. The loop's invariant: the search from here on finds what that of all places finds.
 use mathlib.Core.Path.{_≡_, refl, sym, _∙_}
 use Prim.Native.Nat.{_-_, _≤_}
 use borrow.Author.Needs.{needs}

@@ -1,4 +1,4 @@
--- `parity_change::parity_change` meets its contract. Assumes nothing.
+-- `parity_change::parity_change` meets its contract.
 use mathlib.Core.Path.{sym}
 use borrow.Author.Needs.{needs}
 use Rattle.parity_change.proofs.ParityLaws.{beyond}

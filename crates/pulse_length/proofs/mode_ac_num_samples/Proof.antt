@@ -1,4 +1,4 @@
--- `pulse_length::mode_ac_num_samples` meets its contract. Assumes nothing.
+-- `pulse_length::mode_ac_num_samples` meets its contract.
 use mathlib.Core.Path.{refl}
 use Rattle.pulses.specs.ModeAC.{modeACLength}
 use Rattle.pulse_length.specs.Length.{modeACNumSamples}

@@ -1,4 +1,4 @@
--- `pulse_length::mode_s_num_samples` meets its contract. Assumes nothing.
+-- `pulse_length::mode_s_num_samples` meets its contract.
 use mathlib.Core.Path.{refl}
 use Rattle.pulses.specs.ModeS.{modeSBits, modeSLength}
 use Rattle.pulse_length.specs.Length.{modeSNumSamples}

@@ -1,4 +1,4 @@
--- `pulse_length::reply_limit` meets its contract. Assumes nothing.
+-- `pulse_length::reply_limit` meets its contract.
 use borrow.Author.Needs.{needs}
 use Rattle.pulse_length.proofs.reply_limit.Statement.{statement}
 use Rattle.pulse_length.proofs.reply_limit.Tie as tie

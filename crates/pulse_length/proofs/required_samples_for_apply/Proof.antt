@@ -1,4 +1,4 @@
--- `pulse_length::required_samples_for_apply` meets its contract. Assumes nothing.
+-- `pulse_length::required_samples_for_apply` meets its contract.
 use mathlib.Core.Path.{_≡_, refl}
 use Prim.Native.Nat.{ℕ, zero, suc, _+_, _*_, _/_}
 use Rattle.constants.specs.Rate.{four, requiredSamples}

@@ -1,4 +1,4 @@
--- `convolve_at` meets its contract. Assumes nothing.
+-- `convolve_at` meets its contract.
 use borrow.Author.Needs.{needs}
 use mathlib.Core.Path.{_∙_}
 use Rattle.pulse_shape.specs.Convolve.{convolveAt}

@@ -1,4 +1,4 @@
--- `first_term` meets its contract. Assumes nothing.
+-- `first_term` meets its contract.
 use borrow.Author.Needs.{needs}
 use borrow.Author.Tests.{le-leb, lt-leb}
 use Rattle.pulse_shape.proofs.first_term.Statement.{statement}

@@ -1,4 +1,4 @@
--- `mode_ac_prototype` meets its contract. Assumes nothing.
+-- `mode_ac_prototype` meets its contract.
 use borrow.Author.Needs.{needs}
 use Rattle.pulse_shape.proofs.mode_ac_prototype.Statement.{statement}
 use Rattle.pulse_shape.proofs.mode_ac_prototype.Tie as tie

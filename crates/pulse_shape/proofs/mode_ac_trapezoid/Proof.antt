@@ -1,4 +1,4 @@
--- `mode_ac_trapezoid` meets its contract: 278 values with edges of 40 and 40. Assumes nothing.
+-- `mode_ac_trapezoid` meets its contract: 278 values with edges of 40 and 40.
 use mathlib.Core.Path.{refl}
 use borrow.Author.Needs.{needs}
 use lib.ListN.{length-replicate}

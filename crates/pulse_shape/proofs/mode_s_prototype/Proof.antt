@@ -1,4 +1,4 @@
--- `mode_s_prototype` meets its contract. Assumes nothing.
+-- `mode_s_prototype` meets its contract.
 use borrow.Author.Needs.{needs}
 use Rattle.pulse_shape.proofs.mode_s_prototype.Statement.{statement}
 use Rattle.pulse_shape.proofs.mode_s_prototype.Tie as tie

@@ -1,4 +1,4 @@
--- `mode_s_trapezoid` meets its contract: 307 values with edges of 38 and 64. Assumes nothing.
+-- `mode_s_trapezoid` meets its contract: 307 values with edges of 38 and 64.
 use mathlib.Core.Path.{refl}
 use borrow.Author.Needs.{needs}
 use lib.ListN.{length-replicate}

@@ -1,4 +1,4 @@
--- `products` meets its contract: what is left of the sum, from k on, is the whole. Assumes nothing.
+-- `products` meets its contract: what is left of the sum, from k on, is the whole.
 use borrow.Author.Needs.{needs}
 use Prim.Native.Nat.{_≤_, _-_}
 use mathlib.Core.Path.{_≡_, sym, _∙_}

@@ -1,4 +1,4 @@
--- `ratio` meets its contract. Assumes nothing.
+-- `ratio` meets its contract.
 use borrow.Author.Needs.{needs}
 use Rattle.pulse_shape.proofs.ratio.Statement.{statement}
 use Rattle.pulse_shape.proofs.ratio.Tie as tie

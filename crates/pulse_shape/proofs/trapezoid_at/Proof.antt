@@ -1,4 +1,4 @@
--- `trapezoid_at` meets its contract. Assumes nothing.
+-- `trapezoid_at` meets its contract.
 use mathlib.Core.Path.{refl}
 use borrow.Author.Needs.{needs}
 use borrow.Author.Tests.{lt-ltb, le-ltb}

@@ -1,4 +1,4 @@
--- `added` meets its contract. Assumes nothing.
+-- `added` meets its contract.
 use Rattle.pulse_sum.proofs.added.Statement.{statement}
 use Rattle.pulse_sum.proofs.added.Tie as tie
 

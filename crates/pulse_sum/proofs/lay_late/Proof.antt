@@ -1,4 +1,4 @@
--- `lay_late` meets its contract: each turn lays one pulse more. Assumes nothing.
+-- `lay_late` meets its contract: each turn lays one pulse more.
 use borrow.Author.Needs.{needs}
 use Prim.Native.Nat.{_≤_, _-_}
 use mathlib.Core.Path.{_≡_}

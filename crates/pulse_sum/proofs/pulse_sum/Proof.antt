@@ -1,4 +1,4 @@
--- `pulse_sum` meets its contract. Assumes nothing.
+-- `pulse_sum` meets its contract.
 use borrow.Author.Needs.{needs}
 use mathlib.Core.Path.{_≡_}
 use lib.ListN.{length}

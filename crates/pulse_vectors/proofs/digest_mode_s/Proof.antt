@@ -1,4 +1,4 @@
--- `pulse_vectors::digest_mode_s` meets its contract. Assumes nothing.
+-- `pulse_vectors::digest_mode_s` meets its contract.
 use Prim.Native.Nat.{_-_, _≤_, _<_}
 use borrow.Author.Needs.{needs}
 use Rattle.pulse_vectors.proofs.digest_mode_s.Statement.{statement}

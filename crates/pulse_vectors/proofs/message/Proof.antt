@@ -1,4 +1,4 @@
--- `pulse_vectors::message` meets its contract. Assumes nothing.
+-- `pulse_vectors::message` meets its contract.
 use mathlib.Core.Path.{_≡_}
 use Prim.Native.Nat.{_-_, _≤_, _<_}
 use lib.ListN.{length}

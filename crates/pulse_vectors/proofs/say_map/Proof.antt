@@ -1,4 +1,4 @@
--- `pulse_vectors::say_map` meets its contract. Assumes nothing.
+-- `pulse_vectors::say_map` meets its contract.
 use Prim.Native.Nat.{_-_, _≤_}
 use borrow.Author.Needs.{needs}
 use Rattle.pulse_vectors.proofs.say_map.Statement.{statement}

@@ -1,4 +1,4 @@
--- `pulse_vectors::say_places` meets its contract. Assumes nothing.
+-- `pulse_vectors::say_places` meets its contract.
 use Prim.Native.Nat.{_-_, _≤_}
 use borrow.Author.Needs.{needs}
 use Rattle.pulse_vectors.proofs.say_places.Statement.{statement}

@@ -1,4 +1,4 @@
--- `pulses::bit` meets its contract. Assumes nothing.
+-- `pulses::bit` meets its contract.
 use mathlib.Core.Path.{refl}
 use Rattle.pulses.specs.ModeS.{byteBit}
 use borrow.Author.Needs.{needs}

@@ -1,4 +1,4 @@
--- `pulses::num_bits` meets its contract. Assumes nothing.
+-- `pulses::num_bits` meets its contract.
 use Rattle.pulses.specs.ModeS.{modeSBits}
 use borrow.Author.Needs.{needs}
 use native.Mathlib.Omega.{arith}

@@ -1,4 +1,4 @@
--- `record::message_length` meets its contract. Assumes nothing.
+-- `record::message_length` meets its contract.
 use borrow.Author.Needs.{needs}
 use Rattle.record.specs.Record.{messageLength}
 use Rattle.record.proofs.message_length.Statement.{statement}

@@ -1,4 +1,4 @@
--- `record::put` meets its contract. Assumes nothing.
+-- `record::put` meets its contract.
 use borrow.Author.Needs.{needs}
 use mathlib.Core.Path.{sym, _∙_}
 use native.Mathlib.Omega.{arith}

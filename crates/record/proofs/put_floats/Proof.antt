@@ -1,4 +1,4 @@
--- `record::put_floats` meets its contract. Assumes nothing.
+-- `record::put_floats` meets its contract.
 use borrow.Author.Needs.{needs}
 use Rattle.record.proofs.Laid.{floats-laid}
 use Rattle.record.proofs.put_floats.Statement.{statement}

@@ -1,4 +1,4 @@
--- `record::put_others` meets its contract. Assumes nothing.
+-- `record::put_others` meets its contract.
 use borrow.Author.Needs.{needs}
 use Rattle.record.proofs.Laid.{others-laid}
 use Rattle.record.proofs.put_others.Statement.{statement}

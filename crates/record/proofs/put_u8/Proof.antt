@@ -1,4 +1,4 @@
--- `record::put_u8` meets its contract. Assumes nothing.
+-- `record::put_u8` meets its contract.
 use borrow.Author.Needs.{needs}
 use Rattle.le_bytes.proofs.Halves.{laid-one}
 use Rattle.record.proofs.put_u8.Statement.{statement}

@@ -1,4 +1,4 @@
--- `add` meets its contract, from what its calls give. Assumes nothing.
+-- `add` meets its contract, from what its calls give.
 use Rattle.recorded_replies.proofs.Joined.{added, recorded}
 use borrow.Author.Needs.{needs}
 use Rattle.recorded_replies.proofs.add.Statement.{statement}

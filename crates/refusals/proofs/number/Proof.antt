@@ -1,4 +1,4 @@
--- `refusals::number` meets its contract. Assumes nothing.
+-- `refusals::number` meets its contract.
 use mathlib.Core.Path.{sym, ap}
 use borrow.Author.Needs.{needs}
 use Rattle.refusals.specs.Number.{numberOf}

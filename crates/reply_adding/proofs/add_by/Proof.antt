@@ -1,4 +1,4 @@
--- `add_by` meets its contract. Assumes nothing.
+-- `add_by` meets its contract.
 use borrow.Author.Needs.{needs}
 use Rattle.reply_adding.proofs.Adding.{pulses-most, by-samples}
 use Rattle.reply_adding.proofs.add_by.Statement.{statement}

@@ -1,4 +1,4 @@
--- `add_reply` meets its contract. Assumes nothing.
+-- `add_reply` meets its contract.
 use borrow.Author.Needs.{needs}
 use mathlib.Core.Path.{sym, _∙_}
 use mathlib.Core.Bool.{true, false}

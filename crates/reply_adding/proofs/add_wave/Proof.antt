@@ -1,4 +1,4 @@
--- `add_wave` meets its contract. Assumes nothing.
+-- `add_wave` meets its contract.
 use borrow.Author.Needs.{needs}
 use native.Mathlib.Omega.{arith}
 use lib.ListN.{length-take}

@@ -1,4 +1,4 @@
--- `is_mode_ac` meets its contract. Assumes nothing.
+-- `is_mode_ac` meets its contract.
 use borrow.Author.Needs.{needs}
 use mathlib.Core.Path.{sym, ap}
 use Rattle.reply_adding.specs.Mirror.{isModeAC}

@@ -1,4 +1,4 @@
--- `limit_of` meets its contract. Assumes nothing.
+-- `limit_of` meets its contract.
 use borrow.Author.Needs.{needs}
 use Rattle.reply_adding.proofs.Filling.{limit-some}
 use Rattle.reply_adding.proofs.limit_of.Statement.{statement}

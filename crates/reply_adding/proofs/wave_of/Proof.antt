@@ -1,4 +1,4 @@
--- `wave_of` meets its contract. Assumes nothing.
+-- `wave_of` meets its contract.
 use borrow.Author.Needs.{needs}
 use Rattle.reply_adding.proofs.Adding.{wave-is}
 use Rattle.reply_adding.proofs.wave_of.Statement.{statement}

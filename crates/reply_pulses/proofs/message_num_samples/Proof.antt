@@ -1,4 +1,4 @@
--- `message_num_samples` meets its contract. Assumes nothing.
+-- `message_num_samples` meets its contract.
 use borrow.Author.Needs.{needs}
 use mathlib.Core.Bool.{true, false}
 use mathlib.Core.Path.{_≡_, _∙_}

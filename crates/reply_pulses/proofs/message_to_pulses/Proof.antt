@@ -1,4 +1,4 @@
--- `message_to_pulses` meets its contract. Assumes nothing.
+-- `message_to_pulses` meets its contract.
 use borrow.Author.Needs.{needs}
 use mathlib.Core.Bool.{false}
 use mathlib.Core.Path.{_≡_, _∙_}

@@ -1,4 +1,4 @@
--- `mode_ac_data` meets its contract. Assumes nothing.
+-- `mode_ac_data` meets its contract.
 use borrow.Author.Needs.{needs}
 use Rattle.reply_pulses.proofs.Places.{data-is}
 use Rattle.reply_pulses.proofs.mode_ac_data.Statement.{statement}

@@ -1,4 +1,4 @@
--- `mode_ac_spi` meets its contract. Assumes nothing.
+-- `mode_ac_spi` meets its contract.
 use borrow.Author.Needs.{needs}
 use mathlib.Core.Path.{refl}
 use Rattle.reply_pulses.specs.ReplyPulses.{spiOf}

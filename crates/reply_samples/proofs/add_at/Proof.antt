@@ -1,4 +1,4 @@
--- `add_at` meets its contract. Assumes nothing.
+-- `add_at` meets its contract.
 use borrow.Author.Needs.{needs}
 use Rattle.reply_samples.proofs.Turns.{two-writes}
 use Rattle.reply_samples.proofs.add_at.Statement.{statement}

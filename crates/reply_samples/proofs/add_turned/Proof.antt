@@ -1,4 +1,4 @@
--- `add_turned` meets its contract. Assumes nothing.
+-- `add_turned` meets its contract.
 use borrow.Author.Needs.{needs}
 use Rattle.reply_samples.specs.Samples.{turned}
 use Rattle.reply_samples.proofs.Turns.{other-length, other-place, kept, none, added-here, counted-here}

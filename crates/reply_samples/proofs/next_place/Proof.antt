@@ -1,4 +1,4 @@
--- `next_place` meets its contract. Assumes nothing.
+-- `next_place` meets its contract.
 use borrow.Author.Needs.{needs}
 use Rattle.reply_samples.proofs.Turns.{next-on, next-first}
 use Rattle.reply_samples.proofs.next_place.Statement.{statement}

@@ -1,4 +1,4 @@
--- `sample_at` meets its contract. Assumes nothing.
+-- `sample_at` meets its contract.
 use borrow.Author.Needs.{needs}
 use Rattle.reply_samples.proofs.Turns.{sample-is}
 use Rattle.reply_samples.proofs.sample_at.Statement.{statement}

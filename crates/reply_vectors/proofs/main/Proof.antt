@@ -1,4 +1,4 @@
--- `reply_vectors::main` ends: its turns are counted down. Assumes nothing.
+-- `reply_vectors::main` ends: its turns are counted down.
 use Prim.Native.Nat.{_≤_}
 use borrow.Author.Needs.{needs}
 use Rattle.reply_vectors.proofs.main.Statement.{statement}

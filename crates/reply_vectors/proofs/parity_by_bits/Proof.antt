@@ -1,4 +1,4 @@
--- `reply_vectors::parity_by_bits` is safe and ends. Assumes nothing.
+-- `reply_vectors::parity_by_bits` is safe and ends.
 use Prim.Native.Nat.{_≤_, _-_}
 use lib.ListN.{length}
 use borrow.Author.Needs.{needs}

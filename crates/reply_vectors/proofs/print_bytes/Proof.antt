@@ -1,4 +1,4 @@
--- `reply_vectors::print_bytes` is safe and ends. Assumes nothing.
+-- `reply_vectors::print_bytes` is safe and ends.
 use Prim.Native.Nat.{_≤_, _-_}
 use borrow.Author.Needs.{needs}
 use Rattle.reply_vectors.proofs.print_bytes.Statement.{statement}

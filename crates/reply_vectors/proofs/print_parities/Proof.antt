@@ -1,4 +1,4 @@
--- `reply_vectors::print_parities` is safe: the part lent is as long as was asked. Assumes nothing.
+-- `reply_vectors::print_parities` is safe: the part lent is as long as was asked.
 use mathlib.Core.Path.{sym}
 use lib.Seq.{length-take-le}
 use borrow.Author.Needs.{needs}

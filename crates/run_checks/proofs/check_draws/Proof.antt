@@ -1,4 +1,4 @@
--- `check_draws` meets its contract: the plain bench's refusal of draws. Assumes nothing.
+-- `check_draws` meets its contract: the plain bench's refusal of draws.
 use mathlib.Core.Path.{sym, ap, _∙_}
 use Rattle.run_checks.specs.Checks.{faultRead}
 use Rattle.run_checks.proofs.Draws.{jump-refused, no-jump}

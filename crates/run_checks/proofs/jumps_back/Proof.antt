@@ -1,4 +1,4 @@
--- `jumps_back` meets its contract. Assumes nothing.
+-- `jumps_back` meets its contract.
 use Rattle.run_checks.proofs.Draws.{few-bytes, some-bytes}
 use borrow.Author.Needs.{needs}
 use Rattle.run_checks.proofs.jumps_back.Statement.{statement}

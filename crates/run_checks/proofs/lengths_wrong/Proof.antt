@@ -1,4 +1,4 @@
--- `lengths_wrong` meets its contract, test by test. Assumes nothing.
+-- `lengths_wrong` meets its contract, test by test.
 use Rattle.run_checks.proofs.Lengths.{wrong-memory, wrong-mode-s, wrong-mode-ac, no-output, odd-output, by-draws}
 use Rattle.run_checks.proofs.lengths_wrong.Statement.{statement}
 use Rattle.run_checks.proofs.lengths_wrong.Tie as tie

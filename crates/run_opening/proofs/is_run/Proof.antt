@@ -1,4 +1,4 @@
--- `run_opening::is_run` meets its contract. Assumes nothing.
+-- `run_opening::is_run` meets its contract.
 use Rattle.opening.proofs.Decided.{a-run, a-refusal}
 use borrow.Author.Needs.{needs}
 use Rattle.run_opening.proofs.is_run.Statement.{statement}

@@ -1,4 +1,4 @@
--- `run_opening::open` meets its contract. Assumes nothing.
+-- `run_opening::open` meets its contract.
 use Rattle.opening.specs.Opening.{half}
 use Rattle.opening.proofs.Decided.{opened-left}
 use borrow.Author.Needs.{needs}

@@ -1,4 +1,4 @@
--- `batch` meets its contract: the least of the samples due, of the room and of the noise pairs. Assumes nothing.
+-- `batch` meets its contract: the least of the samples due, of the room and of the noise pairs.
 use Prim.Native.Nat.{min}
 use mathlib.Core.Path.{ap, _∙_}
 use borrow.Author.Needs.{needs}

@@ -1,4 +1,4 @@
--- `choose` meets its contract, test by test. Assumes nothing.
+-- `choose` meets its contract, test by test.
 use mathlib.Core.Path.{_∙_}
 use mir.Facts.{toZ-ofZ}
 use Rattle.run_plans.proofs.Tests.{chose-ended, chose-none, chose-draw}

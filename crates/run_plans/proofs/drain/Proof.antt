@@ -1,4 +1,4 @@
--- `drain` meets its contract: `planEnded`, test by test. Assumes nothing.
+-- `drain` meets its contract: `planEnded`, test by test.
 use Rattle.run_plans.proofs.Tests.{done, drain-stops, drain-many}
 use borrow.Author.Needs.{needs}
 use Rattle.run_plans.proofs.drain.Statement.{statement}

@@ -1,4 +1,4 @@
--- `due` meets its contract. Assumes nothing.
+-- `due` meets its contract.
 use Rattle.call_lists.specs.Plans.{dueMany}
 use Rattle.run_plans.proofs.Tests.{stops, dues}
 use borrow.Author.Needs.{needs}

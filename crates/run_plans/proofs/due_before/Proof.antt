@@ -1,4 +1,4 @@
--- `due_before` meets its contract. Assumes nothing.
+-- `due_before` meets its contract.
 use mathlib.Core.Path.{refl}
 use borrow.Author.Needs.{needs}
 use Rattle.run_plans.proofs.due_before.Statement.{statement}

@@ -1,4 +1,4 @@
--- `negative` meets its contract. Assumes nothing.
+-- `negative` meets its contract.
 use Rattle.run_plans.proofs.Signed.{sign-read}
 use Rattle.run_plans.proofs.negative.Statement.{statement}
 use Rattle.run_plans.proofs.negative.Tie as tie

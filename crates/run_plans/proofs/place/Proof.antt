@@ -1,4 +1,4 @@
--- `place` meets its contract: `planDraw`, by its start. Assumes nothing.
+-- `place` meets its contract: `planDraw`, by its start.
 use mathlib.Core.Path.{sym, ap, _∙_}
 use mir.Facts.{toZ-ofZ}
 use Rattle.run_plans.specs.Plans.{isNegative}

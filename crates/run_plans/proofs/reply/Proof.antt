@@ -1,4 +1,4 @@
--- `reply` meets its contract: `planReply`, test by test. Assumes nothing.
+-- `reply` meets its contract: `planReply`, test by test.
 use mathlib.Core.Path.{_∙_}
 use Rattle.run_plans.proofs.Tests.{is-due, full, adds}
 use borrow.Author.Needs.{needs}

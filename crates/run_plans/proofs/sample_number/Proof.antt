@@ -1,4 +1,4 @@
--- `sample_number` meets its contract. Assumes nothing.
+-- `sample_number` meets its contract.
 use Rattle.run_plans.proofs.Signed.{castable, number-read}
 use Rattle.run_plans.proofs.sample_number.Statement.{statement}
 use Rattle.run_plans.proofs.sample_number.Tie as tie

@@ -1,4 +1,4 @@
--- `stop_for` meets its contract. Assumes nothing.
+-- `stop_for` meets its contract.
 use Rattle.run_plans.proofs.Tests.{few-room, some-room}
 use Rattle.run_plans.proofs.stop_for.Statement.{statement}
 use Rattle.run_plans.proofs.stop_for.Tie as tie

@@ -1,4 +1,4 @@
--- `first_turn` meets its contract. Assumes nothing.
+-- `first_turn` meets its contract.
 use mathlib.Core.Path.{refl}
 use Rattle.running.specs.Ended.{firstBy}
 use Rattle.running.proofs.first_turn.Statement.{statement}

@@ -1,4 +1,4 @@
--- `refused` meets its contract. Assumes nothing.
+-- `refused` meets its contract.
 use mathlib.Core.Path.{refl}
 use Rattle.running.specs.Calls.{refusedBy}
 use Rattle.running.proofs.refused.Statement.{statement}

@@ -1,4 +1,4 @@
--- `run` meets its contract: the checks in order, each the plain bench's, then `steps`. Assumes nothing.
+-- `run` meets its contract: the checks in order, each the plain bench's, then `steps`.
 use mathlib.Core.Path.{_≡_, sym, _∙_}
 use mathlib.Core.Bool.{false, _||_}
 use lib.ListN.{length}

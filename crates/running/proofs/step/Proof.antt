@@ -1,4 +1,4 @@
--- `step` meets its contract: each arm by what its plan tells. Assumes nothing.
+-- `step` meets its contract: each arm by what its plan tells.
 use lib.ListN.{length}
 use Rattle.running.proofs.Said.{Sized, Planned, halted, drained, dued, skipped, ended-by, added}
 use borrow.Author.Needs.{needs}

@@ -1,4 +1,4 @@
--- `steps` meets its contract: at each turn the rest of the call is the whole call (`Going`), and what the step gave says which of three ways it goes on. Assumes nothing.
+-- `steps` meets its contract: at each turn the rest of the call is the whole call (`Going`), and what the step gave says which of three ways it goes on.
 use mathlib.Core.Path.{sym, _∙_}
 use lib.ListN.{length}
 use Rattle.running.proofs.Going.{Going, starts, turnsLeft, Gave, tail-is, wrote-less, wrote-again, took-bytes, took-less, took-again, halted-samples, stopped-left}

@@ -1,4 +1,4 @@
--- `stopped_at` meets its contract. Assumes nothing.
+-- `stopped_at` meets its contract.
 use mathlib.Core.Path.{refl}
 use Rattle.running.specs.Ended.{ranBy}
 use borrow.Author.Needs.{needs}

@@ -1,4 +1,4 @@
--- `settings::asked_at` meets its contract. Assumes nothing.
+-- `settings::asked_at` meets its contract.
 use borrow.Author.Needs.{needs}
 use Rattle.settings.specs.Settings.{askedAt}
 use Rattle.settings.proofs.asked_at.Statement.{statement}

@@ -1,4 +1,4 @@
--- `settings::rate_of` meets its contract. Assumes nothing.
+-- `settings::rate_of` meets its contract.
 use Prim.Native.Nat.{ℕ, suc, _≤_, zero-le}
 use mathlib.Core.Path.{_≡_, refl, sym}
 use native.Mathlib.Omega.{arith}

@@ -1,4 +1,4 @@
--- `settings::rates_at` meets its contract. Assumes nothing.
+-- `settings::rates_at` meets its contract.
 use borrow.Author.Needs.{needs}
 use Rattle.settings.specs.Settings.{ratesAt}
 use Rattle.settings.proofs.rates_at.Statement.{statement}

@@ -1,4 +1,4 @@
--- `settings::read` meets its contract. Assumes nothing.
+-- `settings::read` meets its contract.
 use mathlib.Core.Path.{refl}
 use borrow.Author.Needs.{needs}
 use Rattle.settings.specs.Settings.{settingsOf}

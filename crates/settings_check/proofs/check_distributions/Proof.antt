@@ -1,4 +1,4 @@
--- `settings_check::check_distributions` meets its contract. Assumes nothing.
+-- `settings_check::check_distributions` meets its contract.
 use borrow.Author.Needs.{needs}
 use mathlib.Core.Path.{sym, _∙_}
 use Rattle.settings.proofs.Decided.{offset-refused, phase-refused, clock-refused, all-accepted}

@@ -1,4 +1,4 @@
--- `settings_check::first_bad_rate` meets its contract: what the search finds from here on is what it finds from the start. Assumes nothing.
+-- `settings_check::first_bad_rate` meets its contract: what the search finds from here on is what it finds from the start.
 use borrow.Author.Needs.{needs}
 use Prim.Native.Nat.{_-_, _≤_}
 use mathlib.Core.Path.{_≡_, sym, ap, _∙_}

@@ -1,4 +1,4 @@
--- `settings_check::total_fits` meets its contract. Assumes nothing.
+-- `settings_check::total_fits` meets its contract.
 use mathlib.Core.Bool.{Bool, _&&_}
 use mathlib.Core.Path.{_≡_, sym, ap, _∙_}
 use lib.Ieee.Scale.{finite}

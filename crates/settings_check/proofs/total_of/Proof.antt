@@ -1,4 +1,4 @@
--- `settings_check::total_of` meets its contract. Assumes nothing.
+-- `settings_check::total_of` meets its contract.
 use mathlib.Core.Path.{refl}
 use Rattle.settings.specs.Accepted.{totalOf, sumFrom}
 use Rattle.settings.specs.Settings.{ratesOf}

@@ -1,4 +1,4 @@
--- `lowpass` meets its contract. Assumes nothing.
+-- `lowpass` meets its contract.
 use borrow.Author.Needs.{needs}
 use Prim.Native.Nat.{_≤_, _<_, _-_}
 use mathlib.Core.Path.{_≡_}

@@ -1,4 +1,4 @@
--- `main` meets its contract. Assumes nothing.
+-- `main` meets its contract.
 use borrow.Author.Needs.{needs}
 use mathlib.Core.Path.{sym}
 use Prim.Native.Nat.{_≤_}

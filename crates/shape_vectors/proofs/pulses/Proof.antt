@@ -1,4 +1,4 @@
--- `pulses` meets its contract. Assumes nothing.
+-- `pulses` meets its contract.
 use borrow.Author.Needs.{needs}
 use Prim.Native.Nat.{_≤_, _<_, _-_}
 use mathlib.Core.Path.{_≡_}

@@ -1,4 +1,4 @@
--- `reply` meets its contract. Assumes nothing.
+-- `reply` meets its contract.
 use borrow.Author.Needs.{needs}
 use Prim.Native.Nat.{_≤_, _<_, _-_}
 use Rattle.shape_vectors.proofs.reply.Statement.{statement}

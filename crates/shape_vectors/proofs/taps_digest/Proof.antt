@@ -1,4 +1,4 @@
--- `taps_digest` meets its contract. Assumes nothing.
+-- `taps_digest` meets its contract.
 use borrow.Author.Needs.{needs}
 use Prim.Native.Nat.{_≤_, _<_, _-_}
 use Rattle.shape_vectors.proofs.taps_digest.Statement.{statement}

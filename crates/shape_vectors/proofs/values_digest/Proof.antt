@@ -1,4 +1,4 @@
--- `values_digest` meets its contract. Assumes nothing.
+-- `values_digest` meets its contract.
 use borrow.Author.Needs.{needs}
 use Prim.Native.Nat.{_≤_, _<_, _-_}
 use lib.ListN.{length}

@@ -1,4 +1,4 @@
--- The digits are read one after the other. Assumes nothing.
+-- The digits are read one after the other.
 use borrow.Author.Needs.{needs}
 use native.Mathlib.Omega.{arith}
 use Prim.Native.Nat.{_≤_, _-_}

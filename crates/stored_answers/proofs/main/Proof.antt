@@ -1,4 +1,4 @@
--- No more lines are wrong than were read. Assumes nothing.
+-- No more lines are wrong than were read.
 use borrow.Author.Needs.{needs}
 use native.Mathlib.Omega.{arith}
 use mathlib.Core.Path.{_≡_}

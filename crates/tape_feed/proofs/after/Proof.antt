@@ -1,4 +1,4 @@
--- `tape_feed::after` meets its contract. Assumes nothing.
+-- `tape_feed::after` meets its contract.
 use Rattle.tape_feed.proofs.Parts.{next-feed}
 use Rattle.tape_feed.proofs.after.Statement.{statement}
 use Rattle.tape_feed.proofs.after.Tie as tie

@@ -1,4 +1,4 @@
--- `tape_feed::call` meets its contract. Assumes nothing.
+-- `tape_feed::call` meets its contract.
 use native.Mathlib.Nat.{le-refl}
 use lib.Dec.{lit<}
 use Rattle.tape_feed.proofs.Parts.{within, part-kept, called}

@@ -1,4 +1,4 @@
--- `tape_feed::feed_noise` meets its contract. Assumes nothing.
+-- `tape_feed::feed_noise` meets its contract.
 use borrow.Author.Needs.{needs}
 use Rattle.tape_feed.proofs.Parts.{stays, goes-on}
 use Rattle.tape_feed.proofs.feed_noise.Statement.{statement}

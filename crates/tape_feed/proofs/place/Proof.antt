@@ -1,4 +1,4 @@
--- `tape_feed::place` meets its contract. Assumes nothing.
+-- `tape_feed::place` meets its contract.
 use borrow.Author.Needs.{needs}
 use native.Mathlib.Omega.{arith}
 use Rattle.tape_feed.proofs.Parts.{inside-place, past-place}

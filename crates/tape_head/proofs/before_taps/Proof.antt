@@ -1,4 +1,4 @@
--- `tape_head::before_taps` meets its contract. Assumes nothing.
+-- `tape_head::before_taps` meets its contract.
 use mathlib.Core.Path.{ap, _∙_}
 use native.Mathlib.Omega.{arith}
 use Rattle.constants.specs.Rate.{four}

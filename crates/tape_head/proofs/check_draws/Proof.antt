@@ -1,4 +1,4 @@
--- `tape_head::check_draws` meets its contract. Assumes nothing.
+-- `tape_head::check_draws` meets its contract.
 use borrow.Author.Needs.{needs}
 use Prim.Native.Nat.{_+_, _-_, _*_}
 use mathlib.Core.Path.{sym, ap, _∙_}

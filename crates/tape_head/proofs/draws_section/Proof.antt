@@ -1,4 +1,4 @@
--- `tape_head::draws_section` meets its contract. Assumes nothing.
+-- `tape_head::draws_section` meets its contract.
 use borrow.Author.Needs.{needs}
 use mathlib.Core.Path.{sym, ap, _∙_}
 use native.Mathlib.Omega.{arith}

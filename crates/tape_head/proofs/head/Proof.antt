@@ -1,4 +1,4 @@
--- `tape_head::head` meets its contract. Assumes nothing.
+-- `tape_head::head` meets its contract.
 use Rattle.tape_head.proofs.Sections.{passed-long, head-refused, head-given}
 use borrow.Author.Needs.{needs}
 use Rattle.tape_head.proofs.head.Statement.{statement}

@@ -1,4 +1,4 @@
--- `tape_head::is_begun` meets its contract. Assumes nothing.
+-- `tape_head::is_begun` meets its contract.
 use Rattle.tape_head.proofs.Sections.{a-run, a-refusal}
 use borrow.Author.Needs.{needs}
 use Rattle.tape_head.proofs.is_begun.Statement.{statement}

@@ -1,4 +1,4 @@
--- `tape_head::noise_count` meets its contract. Assumes nothing.
+-- `tape_head::noise_count` meets its contract.
 use borrow.Author.Needs.{needs}
 use mathlib.Core.Path.{sym, ap, _∙_}
 use Rattle.tape_head.proofs.Sections.{noise, noise-read}

@@ -1,4 +1,4 @@
--- `tape_head::opened_then` meets its contract. Assumes nothing.
+-- `tape_head::opened_then` meets its contract.
 use mathlib.Core.Path.{sym, ap, _∙_}
 use Rattle.constants.specs.Rate.{four}
 use Rattle.tape_head.specs.declared.Beginning as Beginning

@@ -1,4 +1,4 @@
--- `tape_head::prepared` meets its contract. Assumes nothing.
+-- `tape_head::prepared` meets its contract.
 use mathlib.Core.Path.{_≡_, sym, ap, _∙_}
 use native.Mathlib.Omega.{arith}
 use lib.ListN.{length}

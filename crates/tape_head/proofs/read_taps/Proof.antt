@@ -1,4 +1,4 @@
--- `tape_head::read_taps` meets its contract. Assumes nothing.
+-- `tape_head::read_taps` meets its contract.
 use borrow.Author.Needs.{needs}
 use Prim.Native.Nat.{ℕ}
 use lib.ListN.{length-replicate}

@@ -1,4 +1,4 @@
--- `tape_head::taps_section` meets its contract. Assumes nothing.
+-- `tape_head::taps_section` meets its contract.
 use Rattle.tape_head.proofs.Sections.{taps-passed, taps-wrong}
 use borrow.Author.Needs.{needs}
 use Rattle.tape_head.proofs.taps_section.Statement.{statement}

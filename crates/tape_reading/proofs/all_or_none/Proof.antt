@@ -1,4 +1,4 @@
--- `tape_reading::all_or_none` meets its contract. Assumes nothing.
+-- `tape_reading::all_or_none` meets its contract.
 use native.Mathlib.Omega.{arith}
 use Rattle.tape_reading.proofs.all_or_none.Statement.{statement}
 use Rattle.tape_reading.proofs.all_or_none.Tie as tie

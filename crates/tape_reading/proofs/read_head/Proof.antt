@@ -1,4 +1,4 @@
--- `tape_reading::read_head` is safe, and what it counts lies in the bytes. Assumes nothing.
+-- `tape_reading::read_head` is safe, and what it counts lies in the bytes.
 use borrow.Author.Needs.{needs}
 use native.Mathlib.Omega.{arith}
 use lib.ListN.{length-take}

@@ -1,4 +1,4 @@
--- `tape_reading::read_values` is safe, and counts all the values that are wanted or none. Assumes nothing.
+-- `tape_reading::read_values` is safe, and counts all the values that are wanted or none.
 use Prim.Native.Nat.{ℕ, _*_, _/_, _≤_, _<_, min}
 use mathlib.Core.Path.{_≡_, sym}
 use native.Mathlib.Omega.{arith}

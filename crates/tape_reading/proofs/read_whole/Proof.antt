@@ -1,4 +1,4 @@
--- `tape_reading::read_whole` is safe, and counts all that was asked for or nothing. Assumes nothing.
+-- `tape_reading::read_whole` is safe, and counts all that was asked for or nothing.
 use borrow.Author.Needs.{needs}
 use native.Mathlib.Omega.{arith}
 use lib.ListN.{length-take}

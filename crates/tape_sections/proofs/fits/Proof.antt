@@ -1,4 +1,4 @@
--- `tape_sections::fits` meets its contract. Assumes nothing.
+-- `tape_sections::fits` meets its contract.
 use borrow.Author.Needs.{needs}
 use mathlib.Core.Path.{sym}
 use Rattle.tape_sections.proofs.Counts.{product, below, above, between}

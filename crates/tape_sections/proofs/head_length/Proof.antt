@@ -1,4 +1,4 @@
--- `tape_sections::head_length` meets its contract. Assumes nothing.
+-- `tape_sections::head_length` meets its contract.
 use borrow.Author.Needs.{needs}
 use native.Mathlib.Omega.{arith}
 use Rattle.tape_sections.proofs.Counts.{counted, length-counted, length-wrong}

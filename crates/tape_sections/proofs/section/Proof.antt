@@ -1,4 +1,4 @@
--- `tape_sections::section` meets its contract. Assumes nothing.
+-- `tape_sections::section` meets its contract.
 use borrow.Author.Needs.{needs}
 use mathlib.Core.Path.{sym}
 use Rattle.tape_sections.proofs.Counts.{section-short, section-of, section-wrong}

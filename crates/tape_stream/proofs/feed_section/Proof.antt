@@ -1,4 +1,4 @@
--- `tape_stream::feed_section` is safe, ends, and feeds its run noise that is cut as tape_laws/specs/PlainTape asks. Assumes nothing.
+-- `tape_stream::feed_section` is safe, ends, and feeds its run noise that is cut as tape_laws/specs/PlainTape asks.
 use Prim.Native.Nat.{ℕ, _+_, _-_, _*_, _≤_, _<_, min, zero-le}
 use mathlib.Core.Bool.{false}
 use mathlib.Core.Logic.{_⊎_, inl, inr}

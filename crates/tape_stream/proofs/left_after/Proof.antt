@@ -1,4 +1,4 @@
--- `tape_stream::left_after` meets its contract. Assumes nothing.
+-- `tape_stream::left_after` meets its contract.
 use Prim.Native.Nat.{ℕ}
 use mathlib.Core.Bool.{Bool, false, cond}
 use mathlib.Core.Path.{_≡_, refl, sym, ap, _∙_}

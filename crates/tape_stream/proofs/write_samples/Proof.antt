@@ -1,4 +1,4 @@
--- `tape_stream::write_samples` is safe. Assumes nothing.
+-- `tape_stream::write_samples` is safe.
 use borrow.Author.Needs.{needs}
 use native.Mathlib.Omega.{arith}
 use lib.ListN.{length-take}

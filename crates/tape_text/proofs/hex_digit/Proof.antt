@@ -1,4 +1,4 @@
--- `tape_text::hex_digit` meets its contract. Assumes nothing.
+-- `tape_text::hex_digit` meets its contract.
 use borrow.Author.Needs.{needs}
 use borrow.Author.Tests.{lt-ltb, le-ltb}
 use mathlib.Core.Path.{sym, ap}

@@ -1,4 +1,4 @@
--- `tape_text::put_hex_byte` meets its contract. Assumes nothing.
+-- `tape_text::put_hex_byte` meets its contract.
 use borrow.Author.Needs.{needs}
 use Prim.Native.Nat.{_+_}
 use native.Mathlib.Omega.{arith}

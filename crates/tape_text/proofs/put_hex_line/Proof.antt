@@ -1,4 +1,4 @@
--- `tape_text::put_hex_line` meets its contract. Assumes nothing.
+-- `tape_text::put_hex_line` meets its contract.
 use borrow.Author.Needs.{needs}
 use mathlib.Core.Path.{refl}
 use lib.ListN.{length-set}

@@ -1,4 +1,4 @@
--- `tape_text::put_line` meets its contract. Assumes nothing.
+-- `tape_text::put_line` meets its contract.
 use borrow.Author.Needs.{needs}
 use Rattle.tape_text.proofs.Lines.{line-put}
 use Rattle.tape_text.proofs.put_line.Statement.{statement}

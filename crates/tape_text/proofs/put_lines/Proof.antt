@@ -1,4 +1,4 @@
--- `tape_text::put_lines` meets its contract: the invariant is `Going`. Assumes nothing.
+-- `tape_text::put_lines` meets its contract: the invariant is `Going`.
 use borrow.Author.Needs.{needs}
 use Prim.Native.Nat.{_-_}
 use Rattle.tape_text.proofs.Lines.{Going, first, next-line, last-line}

@@ -1,4 +1,4 @@
--- `tape_text::put_message` meets its contract. Assumes nothing.
+-- `tape_text::put_message` meets its contract.
 use borrow.Author.Needs.{needs}
 use Rattle.tape_text.proofs.Lines.{mode-ac-put, mode-s-put}
 use Rattle.tape_text.proofs.put_message.Statement.{statement}

@@ -1,4 +1,4 @@
--- `tape_text::put_number` meets its contract. Assumes nothing.
+-- `tape_text::put_number` meets its contract.
 use borrow.Author.Needs.{needs}
 use native.Mathlib.Omega.{arith}
 use lib.ListN.{length-set}

@@ -1,4 +1,4 @@
--- `tape_text::refused_text` meets its contract. Assumes nothing.
+-- `tape_text::refused_text` meets its contract.
 use borrow.Author.Needs.{needs}
 use mathlib.Core.Path.{refl}
 use Rattle.tape_text.proofs.Lines.{refused-put}

@@ -1,4 +1,4 @@
--- `tape_text::run_text` meets its contract. Assumes nothing.
+-- `tape_text::run_text` meets its contract.
 use borrow.Author.Needs.{needs}
 use Rattle.tape_text.proofs.Lines.{run-put}
 use Rattle.tape_text.proofs.run_text.Statement.{statement}

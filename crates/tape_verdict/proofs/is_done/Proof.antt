@@ -1,4 +1,4 @@
--- `tape_verdict::is_done` meets its contract. Assumes nothing.
+-- `tape_verdict::is_done` meets its contract.
 use mathlib.Core.Path.{sym, ap}
 use borrow.Author.Needs.{needs}
 use Rattle.tape_verdict.specs.Verdict.{outcomeDone}

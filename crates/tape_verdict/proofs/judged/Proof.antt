@@ -1,4 +1,4 @@
--- `tape_verdict::judged` meets its contract. Assumes nothing.
+-- `tape_verdict::judged` meets its contract.
 use borrow.Author.Tests.{eq-eqb, ne-eqb}
 use Rattle.tape_verdict.specs.Verdict.{judgedOf}
 use Rattle.tape_verdict.proofs.judged.Statement.{statement}

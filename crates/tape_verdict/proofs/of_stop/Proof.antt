@@ -1,4 +1,4 @@
--- `tape_verdict::of_stop` meets its contract. Assumes nothing.
+-- `tape_verdict::of_stop` meets its contract.
 use borrow.Author.Needs.{needs}
 use mathlib.Core.Path.{refl, sym, ap, _∙_}
 use Rattle.tape_verdict.specs.Verdict.{stopThen}

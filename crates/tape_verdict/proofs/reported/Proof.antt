@@ -1,4 +1,4 @@
--- `tape_verdict::reported` meets its contract. Assumes nothing.
+-- `tape_verdict::reported` meets its contract.
 use mathlib.Core.Bool.{Bool}
 use mathlib.Core.Path.{sym, ap}
 use Rattle.tape_verdict.specs.Verdict.{outcomeOf}

@@ -1,4 +1,4 @@
--- `tape_verdict::start` meets its contract. Assumes nothing.
+-- `tape_verdict::start` meets its contract.
 use borrow.Author.Needs.{needs}
 use mathlib.Core.Path.{refl, sym, ap, _∙_}
 use Rattle.tape_verdict.specs.Verdict.{startOf}

@@ -1,4 +1,4 @@
--- `tape_verdict::verdict` meets its contract. Assumes nothing.
+-- `tape_verdict::verdict` meets its contract.
 use borrow.Author.Needs.{needs}
 use mathlib.Core.Bool.{Bool}
 use mathlib.Core.Path.{sym, ap, _∙_}

@@ -1,4 +1,4 @@
--- `all_within_16` meets its contract: what is left of the list decides as the whole does. Assumes nothing.
+-- `all_within_16` meets its contract: what is left of the list decides as the whole does.
 use borrow.Author.Needs.{needs}
 use Prim.Native.Nat.{_≤_, _-_}
 use lib.ListN.{length, drop}

@@ -1,4 +1,4 @@
--- `within_16` meets its contract. Assumes nothing.
+-- `within_16` meets its contract.
 use mathlib.Core.Bool.{Bool, _&&_}
 use mathlib.Core.Path.{sym, ap}
 use lib.Ieee.{le}

@@ -1,4 +1,4 @@
--- `halted` meets its contract. Assumes nothing.
+-- `halted` meets its contract.
 use mathlib.Core.Path.{refl}
 use Rattle.turns.specs.Moved.{haltedBy}
 use Rattle.turns.proofs.halted.Statement.{statement}

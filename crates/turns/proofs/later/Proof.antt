@@ -1,4 +1,4 @@
--- `later` meets its contract. Assumes nothing.
+-- `later` meets its contract.
 use Rattle.turns.proofs.later.Statement.{statement}
 use Rattle.turns.proofs.later.Tie as tie
 

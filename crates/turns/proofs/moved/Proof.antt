@@ -1,4 +1,4 @@
--- `moved` meets its contract: each plan by its own case. Assumes nothing.
+-- `moved` meets its contract: each plan by its own case.
 use mathlib.Core.Path.{refl, sym, ap, _∙_}
 use borrow.Author.Needs.{needs}
 use Rattle.turns.specs.Moved.{movedBy}

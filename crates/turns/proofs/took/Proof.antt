@@ -1,4 +1,4 @@
--- `took` meets its contract. Assumes nothing.
+-- `took` meets its contract.
 use borrow.Author.Needs.{needs}
 use Rattle.turns.proofs.Joined.{took-is}
 use Rattle.turns.proofs.took.Statement.{statement}

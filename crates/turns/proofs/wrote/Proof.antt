@@ -1,4 +1,4 @@
--- `wrote` meets its contract. Assumes nothing.
+-- `wrote` meets its contract.
 use borrow.Author.Needs.{needs}
 use Rattle.turns.proofs.Joined.{wrote-is}
 use Rattle.turns.proofs.wrote.Statement.{statement}

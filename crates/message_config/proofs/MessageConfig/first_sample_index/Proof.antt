@@ -1,4 +1,4 @@
--- `message_config::MessageConfig::first_sample_index` meets its contract. Assumes nothing.
+-- `message_config::MessageConfig::first_sample_index` meets its contract.
 use borrow.Author.Needs.{needs}
 use mathlib.Core.Path.{_≡_, _∙_}
 use mir.Facts.{toZ-ofZ}

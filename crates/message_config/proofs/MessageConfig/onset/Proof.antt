@@ -1,4 +1,4 @@
--- `message_config::MessageConfig::onset` meets its contract. Assumes nothing.
+-- `message_config::MessageConfig::onset` meets its contract.
 use borrow.Author.Needs.{needs}
 use mathlib.Core.Path.{_∙_}
 use mir.Facts.{toZ-ofZ}

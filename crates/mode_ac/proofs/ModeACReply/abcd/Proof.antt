@@ -1,4 +1,4 @@
--- `ModeACReply::abcd` meets its contract: each digit is what `octal` gives. Assumes nothing.
+-- `ModeACReply::abcd` meets its contract: each digit is what `octal` gives.
 use Prim.Native.Nat.{ℕ}
 use mathlib.Core.Path.{_≡_}
 use borrow.Author.Needs.{needs}

@@ -1,4 +1,4 @@
--- `ModeACReply::from_abcd` meets its contract. Assumes nothing.
+-- `ModeACReply::from_abcd` meets its contract.
 use mathlib.Core.Path.{_∙_}
 use borrow.Author.Needs.{needs}
 use native.Mathlib.Omega.{arith}

@@ -1,4 +1,4 @@
--- `ModeACReply::new` meets its contract. Assumes nothing.
+-- `ModeACReply::new` meets its contract.
 use native.Mathlib.Omega.{arith}
 use borrow.Author.Tests.{lt-ltb, le-ltb}
 use Rattle.mode_ac.specs.Building.{answerOf, fromData}
