@@ -24,13 +24,13 @@ fn digits(n: u64, width: usize) {
 // A float is shown by the bytes that it is written as.
 fn show_f32(x: f32) {
     let mut b = [0u8; 4];
-    le_floats_put::put_f32(&mut b, 0, x);
+    le_put::put_f32(&mut b, 0, x);
     digits(le_at::u32_at(&b, 0) as u64, 8);
 }
 
 fn show_f64(x: f64) {
     let mut b = [0u8; 8];
-    le_floats_put::put_f64(&mut b, 0, x);
+    le_put::put_f64(&mut b, 0, x);
     digits(le_at::u64_at(&b, 0), 16);
 }
 
@@ -119,13 +119,13 @@ fn write_u64(at: usize, v: u64) {
 
 fn write_f32(at: usize, v: f32) {
     let mut d = [0xa5u8; 12];
-    let fits = le_floats_put::put_f32(&mut d, at, v);
+    let fits = le_put::put_f32(&mut d, at, v);
     wrote(fits, &d);
 }
 
 fn write_f64(at: usize, v: f64) {
     let mut d = [0xa5u8; 12];
-    let fits = le_floats_put::put_f64(&mut d, at, v);
+    let fits = le_put::put_f64(&mut d, at, v);
     wrote(fits, &d);
 }
 

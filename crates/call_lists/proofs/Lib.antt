@@ -17,3 +17,5 @@ pub mod Stretch
 pub mod Turns
 pub mod Plans
 pub mod Batched
+pub mod Times
+pub mod FloatLaws

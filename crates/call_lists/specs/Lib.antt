@@ -10,3 +10,4 @@ pub mod Buffers
 pub mod Batch
 pub mod Turns
 pub mod Plans
+pub mod FloatGenerator

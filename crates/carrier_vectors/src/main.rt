@@ -61,7 +61,7 @@ fn phase_agrees(i: usize) -> u64
     requires { ⌜ i < 1000 ⌝ }
     ensures { λ r. ⌜ r ≤ 1 ⌝ }
 {
-    let y = carrier::sin_cos(value(phases(5 * i)));
+    let y = math::sin_cos(value(phases(5 * i)));
     if !same(y.sin, phases(5 * i + 1)) {
         return 0;
     }
@@ -82,7 +82,7 @@ fn other_agrees(i: usize) -> u64
     requires { ⌜ i < 1000 ⌝ }
     ensures { λ r. ⌜ r ≤ 1 ⌝ }
 {
-    let y = carrier::sin_cos(value(others(3 * i)));
+    let y = math::sin_cos(value(others(3 * i)));
     if !same(y.sin, others(3 * i + 1)) {
         return 0;
     }

@@ -1,4 +1,4 @@
-// Draws: their type, a byte of one, and its time; `draw_reading` reads a whole one. Each function is equal to a definition of specs/ on every input.
+// Draws: their type, a byte of one, and its time; `draw_fields` reads a whole one. Each function is equal to a definition of specs/ on every input.
 ghost use mathlib.Core.Path.{_≡_};
 ghost use Rattle.draw.specs.Draw.{drawAt};
 ghost use Rattle.draw.specs.Config.{timeAfter};

@@ -1,15 +1,72 @@
-// The first field of a draw that is out of range: equal to its definition, in specs/ of `draw`, on every input.
+// The fields of a draw: read from its 65 bytes, 0 standing for each byte that is missing, and the first that is out of range, in one draw and in several. Each function is equal to a definition of `draw` on every input.
 ghost use mathlib.Core.Path.{_≡_};
+ghost use Rattle.draw.specs.Draw.{picksAt, drawAt, bytesAt};
 ghost use Rattle.message.specs.Types.{typeNumbered};
 ghost use Rattle.message.specs.Making.{checked};
-ghost use Rattle.draw.specs.Fault.{typeFits, amplitudeFits, modeACLimit, clockFits, parameterFault, messageFault, drawFault};
+ghost use Rattle.draw.specs.Fault.{typeFits, amplitudeFits, modeACLimit, clockFits, parameterFault, messageFault, drawFault, firstFault};
 use draw::Draw;
+use draw::Fault;
 use le_bytes::wide;
 use message::Field;
+use message::Picks;
 use message::ReplyKind;
 use message::TypeFound;
 use settings::Distributions;
 use settings::MessagesPerSecond;
+
+// The 14 bytes of a draw.
+fn message_bytes(s: &[u8]) -> [u8; 14]
+    ensures { λ r. ⌜ r ≡ bytesAt (now (s .entry)) 48 14 ⌝ }
+{
+    [
+        draw::byte_at(s, 48),
+        draw::byte_at(s, 49),
+        draw::byte_at(s, 50),
+        draw::byte_at(s, 51),
+        draw::byte_at(s, 52),
+        draw::byte_at(s, 53),
+        draw::byte_at(s, 54),
+        draw::byte_at(s, 55),
+        draw::byte_at(s, 56),
+        draw::byte_at(s, 57),
+        draw::byte_at(s, 58),
+        draw::byte_at(s, 59),
+        draw::byte_at(s, 60),
+        draw::byte_at(s, 61),
+    ]
+}
+
+// The picks of the draw at the start of the bytes.
+pub fn picks(s: &[u8]) -> Picks
+    ensures { λ r. ⌜ r ≡ picksAt (now (s .entry)) ⌝ }
+{
+    let b = message_bytes(s);
+    Picks {
+        format: draw::byte_at(s, 45),
+        capability: draw::byte_at(s, 46),
+        overlay: draw::byte_at(s, 47),
+        bytes: b,
+        data: le_at::u16_at(s, 62),
+        spi: draw::byte_at(s, 64),
+    }
+}
+
+// The draw at the start of the bytes.
+pub fn read(s: &[u8]) -> Draw
+    ensures { λ r. ⌜ r ≡ drawAt (now (s .entry)) ⌝ }
+{
+    let p = picks(s);
+    Draw {
+        gap: le_floats::f64_at(s, 0),
+        kind: draw::byte_at(s, 8),
+        cn0: le_floats::f64_at(s, 9),
+        amplitude: le_floats::f32_at(s, 17),
+        carrier: le_floats::f64_at(s, 21),
+        phase: le_floats::f64_at(s, 29),
+        clock: le_floats::f64_at(s, 37),
+        picks: p,
+    }
+}
 
 fn type_fits(rates: MessagesPerSecond, kind: u8) -> bool
     ensures { λ r. ⌜ r ≡ typeFits rates kind ⌝ }
@@ -43,7 +100,7 @@ fn clock_fits(all: Distributions, kind: u8, draw: f64) -> bool
     ensures { λ r. ⌜ r ≡ clockFits all kind draw ⌝ }
 {
     let clock = all.clock;
-    if draw_limits::clock_draw_fits(clock, draw) {
+    if drawn_values::clock_draw_fits(clock, draw) {
         return within_limit(kind, drawn_values::error_of(clock, draw));
     }
     false
@@ -65,7 +122,7 @@ fn message_fault(d: Draw) -> Field
 {
     let p = d.picks;
     match message::message_type(d.kind) {
-        TypeFound::Of(t) => message_fields::field_fault(t, p),
+        TypeFound::Of(t) => message_making::field_fault(t, p),
         TypeFound::Unknown => Field::Fine,
     }
 }
@@ -78,10 +135,10 @@ fn parameter_fault(all: Distributions, d: Draw) -> Field
     let phase = all.phase;
     fault_or(
         4,
-        draw_limits::offset_draw_fits(carrier, d.carrier),
+        drawn_values::offset_draw_fits(carrier, d.carrier),
         fault_or(
             5,
-            draw_limits::phase_draw_fits(phase, d.phase),
+            drawn_values::phase_draw_fits(phase, d.phase),
             fault_or(6, clock_fits(all, d.kind, d.clock), message_fault(d)),
         ),
     )
@@ -104,4 +161,22 @@ pub fn field_fault(rates: MessagesPerSecond, all: Distributions, d: Draw) -> Fie
             ),
         ),
     )
+}
+
+// The first fault of the draws.
+pub fn first_fault(draws: &[u8], rates: MessagesPerSecond, all: Distributions) -> Fault
+    ensures { λ r. ⌜ r ≡ firstFault rates all (now (draws .entry)) ⌝ }
+{
+    let mut rest = draws;
+    let mut k: u64 = 0;
+    while 65 <= rest.len() {
+        let d = read(rest);
+        let f = field_fault(rates, all, d);
+        if let Field::Wrong(n) = f {
+            return Fault::At(k, n);
+        }
+        rest = &rest[65..];
+        k = k + 1;
+    }
+    Fault::Clean
 }

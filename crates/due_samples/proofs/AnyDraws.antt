@@ -8,7 +8,7 @@ use Rattle.call_lists.specs.PlainBench.{pairs, flatten}
 use Rattle.call_lists.specs.Machine.{window, rd, wr}
 use Rattle.call_lists.specs.Batch.{written, cleared}
 use Rattle.constants.specs.Rate.{four}
-use Rattle.draw_times.specs.FloatGenerator.{Draws, generator}
+use Rattle.call_lists.specs.FloatGenerator.{Draws, generator}
 use Rattle.due_samples.specs.Due.{gen, samplesOf, clearOf}
 
 module _ (S : Draws) (total : ℕ) where

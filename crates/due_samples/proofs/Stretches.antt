@@ -14,8 +14,8 @@ use lib.Ieee.{Float, nan, binary32, ofBits, add, mul}
 use Rattle.call_lists.specs.Buffers.{laid}
 use Rattle.call_lists.proofs.FlatLists.{laid-beyond, laid-laid, length-flatten, length-pairs}
 use Rattle.call_lists.proofs.Stretch.{stretch-output, stretch-memory, place-wraps, written-more, cleared-laid}
-use Rattle.draw_times.proofs.FloatLaws.{scale-bits, nought-bits}
-use Rattle.draw_times.specs.FloatGenerator.{nought}
+use Rattle.call_lists.proofs.FloatLaws.{scale-bits, nought-bits}
+use Rattle.call_lists.specs.FloatGenerator.{nought}
 use Rattle.due_samples.specs.Due.{gen, mix, zeros, samplesOf, clearOf}
 
 -- ---- a stretch: no number, one number more

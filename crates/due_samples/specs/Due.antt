@@ -10,7 +10,7 @@ use Rattle.call_lists.specs.PlainBench.{pairs, flatten}
 use Rattle.call_lists.specs.Buffers.{laid}
 use Rattle.call_lists.specs.Batch.{written, cleared, mixed}
 use Rattle.constants.specs.Rate.{four, workingMemory}
-use Rattle.draw_times.specs.FloatGenerator.{nought, noDraws, generator}
+use Rattle.call_lists.specs.FloatGenerator.{nought, noDraws, generator}
 
 -- a generator without draws: samples that are due do not turn on them
 abbrev pub gen : Generator

@@ -36,7 +36,7 @@ pub extern "C" fn port_to_u64(x: f64) -> u64
 pub extern "C" fn port_phase(p: f64, out: &mut [f64; 4])
     ensures { λ _. ⌜ now (out .exit) ≡ phaseWrap p ∷ (phaseWrapOnce p ∷ ((sinCos p) .sin ∷ ((sinCos p) .cos ∷ []))) ⌝ }
 {
-    let y = carrier::sin_cos(p);
+    let y = math::sin_cos(p);
     let all = [
         math::phase_wrap_f64(p),
         math::phase_wrap_once_f64(p),

@@ -31,7 +31,7 @@ pub extern "C" fn port_pulse_sum(taps: &[f32; 7], on: &[bool; 240], len: usize, 
 pub extern "C" fn port_start_clock(phase: f64, index: &mut usize) -> f64
     ensures { λ r. ⌜ (r ≡ startClock four phase .phase) × (now (index .exit) ≡ startClock four phase .index) ⌝ }
 {
-    let clock = filter_clock::start_clock(phase);
+    let clock = pulse_sum::start_clock(phase);
     *index = clock.index;
     clock.phase
 }
@@ -42,12 +42,12 @@ pub extern "C" fn port_next_clock(phase: f64, error: f64, index: &mut usize) -> 
     ensures { λ r. ⌜ (r ≡ in64 (advance (stepOf four error) (record { phase = phase; index = now (index .entry) })) .phase) × (now (index .exit) ≡ in64 (advance (stepOf four error) (record { phase = phase; index = now (index .entry) })) .index) ⌝ }
 {
     let at = *index;
-    let next = filter_clock::advance(
+    let next = pulse_sum::advance(
         Clock {
             phase: phase,
             index: at,
         },
-        filter_clock::clock_step(error),
+        pulse_sum::clock_step(error),
     );
     *index = next.index;
     next.phase

@@ -10,7 +10,7 @@ use Rattle.distributions.specs.Drawn.{errorOf}
 use Rattle.distributions.specs.declared.ClockError as Clock
 use Rattle.message.specs.declared.Field.{Field}
 use Rattle.message.specs.declared.Field.the-variants.{Fine, Wrong}
-use Rattle.message_config_laws.proofs.InRange.{ErrorInRange}
+use Rattle.message_config.proofs.InRange.{ErrorInRange}
 use Rattle.settings.specs.declared.Distributions.{Distributions}
 use Rattle.settings.specs.declared.MessagesPerSecond.{MessagesPerSecond}
 use Rattle.settings.proofs.InRange.{ClockInRange}
@@ -20,7 +20,7 @@ use Rattle.draw.specs.Config.{kindDrawn, errorDrawn, configWith, configOf}
 use Rattle.draw.proofs.InRange.{InRange, gap-in-range}
 use Rattle.draw.proofs.NotNegative.{NotNegative, plus, minus-zero, not-negative}
 use Rattle.draw.proofs.ClockLimit.{drawn-within, filter-within}
-use Rattle.draw_times.proofs.Times.{Gap}
+use Rattle.call_lists.proofs.Times.{Gap}
 use Rattle.generator.specs.Real.{faultOf}
 
 pub fine-of : (x : Field) → faultOf x ≡ none → x ≡ Fine

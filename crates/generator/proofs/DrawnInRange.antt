@@ -21,7 +21,7 @@ use Rattle.distributions.specs.declared.CarrierOffset as Offset
 use Rattle.distributions.specs.declared.CarrierPhase as Phase
 use Rattle.distributions.specs.Asked.{upTo, finiteNotNegative, offsetLimit}
 use Rattle.distributions.specs.Drawn.{clamped, offsetOf, phaseOf, offsetDrawFits, fromMinusPiBelowPi, phaseDrawFits}
-use Rattle.message_config_laws.proofs.InRange.{offset-val, offsetUnits}
+use Rattle.message_config.proofs.InRange.{offset-val, offsetUnits}
 use Rattle.settings.proofs.InRange.{OffsetInRange, PhaseInRange}
 
 -- ---- the phase

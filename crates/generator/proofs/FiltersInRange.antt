@@ -16,7 +16,7 @@ use Rattle.pulse_shape.specs.Prototype.{prototypeOf, modeSPrototype, modeACProt
 use Rattle.pulse_shape.proofs.DelayWithin.{delay-most, mode-ac-delay-most}
 use Rattle.pulse_shape.proofs.Held.{prototype-held}
 use Rattle.pulse_shape.proofs.Whole.{length-prototype}
-use Rattle.message_config_laws.proofs.InRange.{zeroF, DelayInRange, DelaysInRange}
+use Rattle.message_config.proofs.InRange.{zeroF, DelayInRange, DelaysInRange}
 use Rattle.settings.specs.declared.Settings.{Settings}
 use Rattle.settings.specs.declared.Distributions.{Distributions}
 use Rattle.settings.specs.declared.Checked.the-variants.{Accepted}

@@ -7,3 +7,6 @@ pub mod FiltersInRange
 pub mod MessageInRange
 pub mod RealDrawLaws
 pub mod RealDemand3
+pub mod Values
+pub mod ReplySizes
+pub mod SampleSizes

@@ -1,12 +1,12 @@
--- The message of a draw in range is in range, by filters in range (`message-in-range`). So every number that a draw comes to is what `NeverNan` of `message_config_laws` says (`draw-finite`, `reply-finite`).
+-- The message of a draw in range is in range, by filters in range (`message-in-range`). So every number that a draw comes to is what `NeverNan` of `message_config` says (`draw-finite`, `reply-finite`).
 use Prim.Native.Nat.{ℕ, _^_, _<_}
 use mathlib.Core.Path.{_≡_}
 use lib.Dec.{lit≤}
 use lib.IntN.{pos}
 use lib.Ieee.{Float}
 use Rattle.constants.specs.Rate.{four}
-use Rattle.message_config_laws.proofs.InRange.{TimeInRange, MessageInRange}
-use Rattle.message_config_laws.proofs.NeverNan.{DrawNumbers, ReplyNumbers, draw-numbers-at-four, reply-numbers-at-four}
+use Rattle.message_config.proofs.InRange.{TimeInRange, MessageInRange}
+use Rattle.message_config.proofs.NeverNan.{DrawNumbers, ReplyNumbers, draw-numbers-at-four, reply-numbers-at-four}
 use Rattle.draw.specs.Config.{configWith, configOf, startAt}
 use Rattle.draw.proofs.InRange.{InRange}
 use Rattle.generator.specs.Real.{Filters, HeldDraw}

@@ -5,7 +5,7 @@ use Rattle.constants.specs.Rate.{four}
 use Rattle.call_lists.specs.Laws.{Laws}
 use Rattle.call_lists.specs.Machine.{runs}
 use Rattle.call_lists.proofs.ListClaim.{Demand3}
-use Rattle.draw_times.proofs.FloatLaws.{laws, float-demand3}
+use Rattle.call_lists.proofs.FloatLaws.{laws, float-demand3}
 use Rattle.generator.specs.Real.{Filters, draws, real}
 use Rattle.generator.proofs.FiltersInRange.{FiltersInRange}
 use Rattle.generator.proofs.RealDrawLaws.{real-draw-laws}

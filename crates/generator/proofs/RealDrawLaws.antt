@@ -12,9 +12,9 @@ use lib.Ieee.{Float, nan, inf, fin, lt}
 use Rattle.constants.specs.Rate.{four, replyLimit, holdBack}
 use Rattle.rounding.proofs.Order.{Signed}
 use Rattle.message.specs.Types.{typeNumbered}
-use Rattle.message_config_laws.proofs.InRange.{TimeInRange, signed-in-range, ErrorInRange}
-use Rattle.message_config_laws.proofs.HoldBack.{held-at-four}
-use Rattle.message_config_laws.proofs.FirstClock.{first-clock-of}
+use Rattle.message_config.proofs.InRange.{TimeInRange, signed-in-range, ErrorInRange}
+use Rattle.message_config.proofs.HoldBack.{held-at-four}
+use Rattle.message_config.proofs.FirstClock.{first-clock-of}
 use Rattle.reply_samples.specs.Samples.{replySamples}
 use Rattle.reply_samples.proofs.Counts.{samples-counted, count-most}
 use Rattle.record.specs.Record.{recordBytes}
@@ -27,8 +27,8 @@ use Rattle.draw.proofs.InRange.{InRange, in-range}
 use Rattle.call_lists.specs.Generator.{from, startFrom}
 use Rattle.call_lists.specs.PlainRun.{reply, kind}
 use Rattle.call_lists.proofs.StepFacts.{reply-fits, reply-start}
-use Rattle.draw_times.proofs.Times.{NonNeg, GoodTime}
-use Rattle.draw_times.proofs.FloatLaws.{DrawLaws}
+use Rattle.call_lists.proofs.Times.{NonNeg, GoodTime}
+use Rattle.call_lists.proofs.FloatLaws.{DrawLaws}
 use Rattle.generator.specs.Real.{pairOf, HeldDraw, Filters, draws, real}
 use Rattle.generator.proofs.ReplyBytes.{made-bytes}
 use Rattle.generator.proofs.DrawInRange.{fine-of, gap-of, message-error}

@@ -6,7 +6,7 @@ use mathlib.Core.Option.{Option, none, some}
 use lib.Ieee.{Float, binary32, ofBits}
 use Rattle.constants.specs.Rate.{four}
 use Rattle.call_lists.specs.Generator.{Generator, startFrom, Pair}
-use Rattle.draw_times.specs.FloatGenerator.{Draws, generator}
+use Rattle.call_lists.specs.FloatGenerator.{Draws, generator}
 use Rattle.float_bits.specs.Range.{within}
 use Rattle.message.specs.declared.Field.{Field}
 use Rattle.message.specs.declared.Field.the-variants.{Fine, Wrong}

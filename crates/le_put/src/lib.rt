@@ -1,8 +1,9 @@
-// Little-endian numbers written at a place in a byte slice: equal to their definitions, in specs/ of `le_bytes`, on every input.
+// Little-endian numbers and floats written at an offset in a byte slice: equal to their definitions, in specs/ of `le_bytes`, on every input.
 ghost use mathlib.Core.Path.{_≡_};
 ghost use Prim.Native.Nat.{_+_, _≤_};
 ghost use lib.ListN.{length};
 ghost use Rattle.le_bytes.specs.LeBytes.{inside, laid, bytesOf, put};
+ghost use lib.Ieee.{binary32, binary64, toBits};
 
 // The low two, four and eight bytes of v, each written as two halves: LLVM turns that into one store.
 fn put_two(d: &mut [u8], at: usize, v: u64)
@@ -58,4 +59,17 @@ pub fn put_u64(d: &mut [u8], at: usize, v: u64) -> bool
         return true;
     }
     false
+}
+
+// A float written at a place. False where its bytes would run past the end: then nothing is written.
+pub fn put_f32(d: &mut [u8], at: usize, x: f32) -> bool
+    ensures { λ r. ⌜ (r ≡ inside 4 (now (d .entry)) at) × (now (d .exit) ≡ put 4 (now (d .entry)) at (toBits binary32 x)) ⌝ }
+{
+    put_u32(d, at, float_patterns::bits_of_f32(x))
+}
+
+pub fn put_f64(d: &mut [u8], at: usize, x: f64) -> bool
+    ensures { λ r. ⌜ (r ≡ inside 8 (now (d .entry)) at) × (now (d .exit) ≡ put 8 (now (d .entry)) at (toBits binary64 x)) ⌝ }
+{
+    put_u64(d, at, float_patterns::bits_of(x))
 }

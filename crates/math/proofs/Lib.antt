@@ -1,3 +1,4 @@
+mod Horner
 pub mod Literals
 pub mod Constants
 pub mod Wrapped

@@ -2,3 +2,4 @@ pub mod DataOfDigits
 pub mod RisingPlaces
 pub mod PlaceRule
 pub mod BasePlaces
+mod Shifts

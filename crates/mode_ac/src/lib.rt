@@ -1,8 +1,9 @@
-// Mode A/C replies: their data, its four digits and refusal 10.
+// Mode A/C replies: their data, its four digits and refusal 10; and the twelve bits of the data with their places, each by a table of twelve.
 ghost use mathlib.Core.Path.{_≡_};
 ghost use Prim.Native.Nat.{_%_};
-ghost use Rattle.mode_ac.specs.Data.{digitA, digitB, digitC, digitD, digitsOf};
+ghost use Rattle.mode_ac.specs.Data.{digitA, digitB, digitC, digitD, digitsOf, bitOf};
 ghost use Rattle.mode_ac.specs.Building.{answerOf, fromData, fromDigits};
+ghost use Rattle.mode_ac.specs.Places.{placeOf};
 
 pub struct ModeACReply {
     pub data: u16,
@@ -98,4 +99,30 @@ impl ModeACReply {
             d: octal(data),
         }
     }
+}
+
+// Where each bit stands in the data, counted from the lowest one.
+const SHIFTS: [u16; 12] = [3, 9, 4, 10, 5, 11, 6, 0, 7, 1, 8, 2];
+
+// The place of the n-th bit: every third from 3 on, with one left out in the middle.
+pub fn place_of(n: usize) -> usize
+    ensures { λ r. ⌜ r ≡ placeOf n ⌝ }
+{
+    if n < 6 {
+        return 3 * (n + 1);
+    }
+    if n < 12 {
+        return 3 * (n + 2);
+    }
+    0
+}
+
+// The n-th bit of the data.
+pub fn bit_of(data: u16, n: usize) -> bool
+    ensures { λ r. ⌜ r ≡ bitOf «data» n ⌝ }
+{
+    if n < 12 {
+        return (data >> (SHIFTS[n] % 16)) % 2 == 1;
+    }
+    false
 }

@@ -8,7 +8,7 @@ use lib.Ieee.{Float, nan, binary32, fits, ofBits, lt}
 use lib.Ieee.Bits.{ofBits-fits}
 use Rattle.constants.specs.Rate.{four}
 use Rattle.call_lists.specs.Machine as Machine
-use Rattle.message_config_laws.proofs.InRange.{zeroF}
+use Rattle.message_config.proofs.InRange.{zeroF}
 use Rattle.pulse_shape.specs.declared.Crossing.the-variants.{At}
 use Rattle.pulse_shape.specs.Prototype.{modeSPrototype, modeACPrototype}
 use Rattle.pulse_shape.specs.Accepted.{allWithin16}

@@ -6,7 +6,7 @@ use lib.Dec.{eqb}
 use lib.ListN.{length}
 use lib.Ieee.{Float, binary32, ofBits}
 use Rattle.constants.specs.Rate.{prototypeLength, workingMemory}
-use Rattle.draw_times.specs.FloatGenerator.{nought}
+use Rattle.call_lists.specs.FloatGenerator.{nought}
 use Rattle.due_samples.specs.Due.{zeros}
 use Rattle.pulse_shape.specs.declared.Crossing as Crossing
 use Rattle.pulse_shape.specs.Prototype.{modeSPrototype, modeACPrototype}

@@ -152,7 +152,7 @@ fn judge(
     }
     let s = settings::read(settings);
     let rates = s.rates;
-    match settings_check::check(s) {
+    match settings::check(s) {
         Checked::Refused(refusal) => Opened::Refused(refusal),
         Checked::Accepted(total, all) => {
             check_taps(rates, total, all, level, taps_s, taps_ac, proto_s, proto_ac)

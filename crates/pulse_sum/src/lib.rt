@@ -1,10 +1,47 @@
-// Sums of taps over pulses: equal to their definitions, in specs/ of `filterbank`, on every input.
+// What applying the filterbank does at each sample: the clock's step, and the sum of the taps at pulses. Equal to their definitions, in specs/ of `filterbank`, on every input.
 ghost use mathlib.Core.Path.{_≡_};
+ghost use Rattle.constants.specs.Rate.{four};
+ghost use Rattle.filterbank.specs.Clocked.{stepOf, startClock, advance as advanced, in64};
 ghost use mathlib.Core.Bool.{cond};
 ghost use lib.ListN.{take};
 ghost use lib.Ieee.{binary32, add};
 ghost use Rattle.filterbank.specs.LaidPulses.{late, lateSum};
 use constants::least;
+use filterbank::Clock;
+
+// What a sample adds to the phase.
+pub fn clock_step(e: f64) -> f64
+    ensures { λ r. ⌜ r ≡ stepOf four e ⌝ }
+{
+    1.0 / 4.0 * (1.0 + e)
+}
+
+// The clock before the first sample, from a phase in samples.
+pub fn start_clock(phase: f64) -> Clock
+    ensures { λ r. ⌜ r ≡ startClock four phase ⌝ }
+{
+    Clock {
+        phase: phase / 4.0,
+        index: 0,
+    }
+}
+
+// The clock after one sample more.
+pub fn advance(clock: Clock, step: f64) -> Clock
+    ensures { λ r. ⌜ r ≡ in64 (advanced step clock) ⌝ }
+{
+    let next = clock.phase + step;
+    if next >= 1.0 {
+        return Clock {
+            phase: next - 1.0,
+            index: std::num::wrapping_add_usize(clock.index, 1),
+        };
+    }
+    Clock {
+        phase: next,
+        index: clock.index,
+    }
+}
 
 // The first `len` pulses laid six places late, so that a sum over them needs no tests of their places.
 pub fn lay_late(on: [bool; 240], len: usize) -> [bool; 252]

@@ -41,11 +41,11 @@ fn put_floats(d: &mut [u8], at: usize, c: MessageConfig)
     requires { ⌜ at + 40 ≤ length (now d) ⌝ }
     ensures { λ _. ⌜ now (d .exit) ≡ laid (now (d .entry)) at (floatBytes c) ⌝ }
 {
-    le_floats_put::put_f64(d, at, c.time);
-    le_floats_put::put_f64(d, at + 8, c.cn0);
-    le_floats_put::put_f64(d, at + 16, c.offset);
-    le_floats_put::put_f64(d, at + 24, c.phase);
-    le_floats_put::put_f64(d, at + 32, c.error);
+    le_put::put_f64(d, at, c.time);
+    le_put::put_f64(d, at + 8, c.cn0);
+    le_put::put_f64(d, at + 16, c.offset);
+    le_put::put_f64(d, at + 24, c.phase);
+    le_put::put_f64(d, at + 32, c.error);
 }
 
 fn put_others(d: &mut [u8], at: usize, reply: Reply, first: u64, kind: u8, count: u16)

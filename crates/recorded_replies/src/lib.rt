@@ -30,7 +30,7 @@ pub fn add(
 {
     let kind = draw::byte_at(rest, 8);
     let amplitude = le_floats::f32_at(rest, 17);
-    let c = draw_config::completed(pending, kind, draw_reading::picks(rest));
+    let c = draw_config::completed(pending, kind, draw_fields::picks(rest));
     let count = reply_adding::add_reply(mode_s, mode_ac, c, amplitude, delays, memory, ring(first));
     record::put(records, at, c, first, kind, count);
 }

@@ -77,7 +77,7 @@ fn fill_values(
             return n;
         }
         values[n] = value_at(prototype, laid, clock);
-        clock = filter_clock::advance(clock, step);
+        clock = pulse_sum::advance(clock, step);
         n = n + 1;
     }
     n

@@ -19,7 +19,7 @@ fn sample_at(amplitude: f32, value: f32, phase: f64) -> Sample
     ensures { λ r. ⌜ r ≡ sampleAt amplitude value phase ⌝ }
 {
     let x = amplitude * value;
-    let t = carrier::sin_cos(phase);
+    let t = math::sin_cos(phase);
     Sample {
         re: x * float_bits::narrow(t.cos),
         im: x * float_bits::narrow(t.sin),

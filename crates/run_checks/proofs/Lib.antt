@@ -1,2 +1,3 @@
+pub mod Quiet
 pub mod Lengths
 pub mod Draws

@@ -9,7 +9,7 @@ use lib.Ieee.{Float, lt}
 use Rattle.constants.specs.Rate.{four, workingMemory, prototypeLength}
 use Rattle.call_lists.specs.Generator.{Generator}
 use Rattle.call_lists.specs.PlainBench as Bench
-use Rattle.draw_times.specs.FloatGenerator.{nought}
+use Rattle.call_lists.specs.FloatGenerator.{nought}
 use Rattle.settings.specs.declared.Distributions.{Distributions}
 use Rattle.settings.specs.declared.MessagesPerSecond.{MessagesPerSecond}
 use Rattle.draw.specs.Draw.{drawAt}

@@ -1,9 +1,11 @@
-// The checks of a run call on lengths and draws: refusals 9 and 7.
+// The checks of a run call: refusal 9 for lengths, 7 for draws, 8 for noise.
 ghost use mathlib.Core.Path.{_≡_};
-ghost use mathlib.Core.Bool.{_||_};
-ghost use mathlib.Core.Option.{some};
+ghost use mathlib.Core.Bool.{_||_, false, cond};
+ghost use mathlib.Core.Option.{some, none};
 ghost use Rattle.call_lists.specs.PlainBench.{drawRefusal, drawsOf};
 ghost use Rattle.run_checks.specs.Checks.{wrongMemory, wrongBuffers, jumpOf, faultRead, asked};
+ghost use Rattle.generator.specs.Real.{loud};
+ghost use Rattle.run_checks.specs.Noise.{loudFrom, loudRead};
 use draw::Fault;
 use settings::Distributions;
 use settings::MessagesPerSecond;
@@ -59,5 +61,60 @@ pub fn check_draws(
     if jumps_back(time, latest, draws) {
         return Fault::At(0, 0);
     }
-    draw_faults::first_fault(draws, rates, all)
+    draw_fields::first_fault(draws, rates, all)
+}
+
+// The place of the first noise value at fault, or none.
+pub enum Loud {
+    Quiet,
+    At(u64),
+}
+
+// The size that noise may have.
+const LOUDEST: f32 = 64.0;
+
+// The first noise value at fault.
+fn first_loud(noise: &[f32]) -> Loud
+    ensures { λ r. ⌜ loudRead r ≡ loudFrom 0 (now (noise .entry)) ⌝ }
+{
+    let mut k: usize = 0;
+    while k < noise.len() {
+        if !float_range::within_f32(noise[k], LOUDEST) {
+            return Loud::At(k as u64);
+        }
+        k = k + 1;
+    }
+    Loud::Quiet
+}
+
+fn still_quiet(quiet: bool, x: f32) -> bool
+    ensures { λ r. ⌜ r ≡ cond (loud x) false quiet ⌝ }
+{
+    if float_range::within_f32(x, LOUDEST) {
+        return quiet;
+    }
+    false
+}
+
+// No noise value is at fault. Without an early exit the compiler can test several at once.
+fn all_quiet(noise: &[f32]) -> bool
+    ensures { λ r. ⌜ cond r (loudFrom 0 (now (noise .entry))) none ≡ none ⌝ }
+{
+    let mut quiet = true;
+    let mut k: usize = 0;
+    while k < noise.len() {
+        quiet = still_quiet(quiet, noise[k]);
+        k = k + 1;
+    }
+    quiet
+}
+
+// Refusal 8.
+pub fn check_noise(noise: &[f32]) -> Loud
+    ensures { λ r. ⌜ loudRead r ≡ loudFrom 0 (now (noise .entry)) ⌝ }
+{
+    if all_quiet(noise) {
+        return Loud::Quiet;
+    }
+    first_loud(noise)
 }

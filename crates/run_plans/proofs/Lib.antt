@@ -1,2 +1,3 @@
 pub mod Signed
 pub mod Tests
+mod Joined

@@ -8,7 +8,7 @@ use Rattle.call_lists.specs.Generator.{Generator, startFrom}
 use Rattle.call_lists.specs.PlainRun.{kindOf}
 use Rattle.call_lists.specs.PlainBench as Bench
 use Rattle.call_lists.specs.Plans as Theory
-use Rattle.draw_times.specs.FloatGenerator.{noDraws, generator}
+use Rattle.call_lists.specs.FloatGenerator.{noDraws, generator}
 use Rattle.message_config.specs.declared.Delays.{Delays}
 use Rattle.message_config.specs.declared.MessageConfig.{MessageConfig}
 use Rattle.message_config.specs.Config.{configStart}

@@ -1,5 +1,5 @@
-// What comes next in a run call, from counts and the next draw's message alone: a stop, samples that are due, or a draw.
-ghost use mathlib.Core.Bool.{false};
+// The steps of a run call: what comes next, from counts and the next draw alone, and what carrying it out makes of the counts. Counts are modulo 2^64, which no call reaches.
+ghost use mathlib.Core.Bool.{false, cond};
 ghost use mathlib.Core.Path.{_≡_};
 ghost use Prim.Native.Nat.{_-_, _<_, _^_, min};
 ghost use lib.IntN.{pos};
@@ -7,6 +7,8 @@ ghost use Rattle.call_lists.specs.Generator.{startFrom};
 ghost use Rattle.call_lists.specs.PlainRun.{kindOf};
 ghost use Rattle.call_lists.specs.Plans.{planEnded, planReply, planDraw, stopFor, someOr, dueMany};
 ghost use Rattle.run_plans.specs.Plans.{counted, stopRead, planRead, isNegative, chosen};
+ghost use lib.Ieee.{lt};
+ghost use Rattle.run_plans.specs.Moved.{wroteBy, tookBy, haltedBy, movedBy};
 use message_config::Delays;
 use message_config::MessageConfig;
 
@@ -173,4 +175,93 @@ pub fn choose(
     }
     let start = next.first_sample_index(delays);
     place(written, total, next.time, start, room, noise, bytes)
+}
+
+// A call so far: what of the state moves, the counts, and how the call came here.
+pub struct Turn {
+    pub written: u64,
+    pub time: f64,
+    pub latest: f64,
+    pub ended: bool,
+    pub taken: usize,
+    pub samples: usize,
+    pub records: usize,
+    pub next: Next,
+}
+
+// Samples were written; a draw was taken; or the call stopped.
+pub enum Next {
+    Wrote,
+    Took,
+    Halted(Stop),
+}
+
+// The turn after so many samples, with the latest time after them.
+fn wrote(t: Turn, n: usize, latest: f64) -> Turn
+    ensures { λ r. ⌜ r ≡ wroteBy t n latest ⌝ }
+{
+    Turn {
+        written: std::num::wrapping_add_u64(t.written, n as u64),
+        time: t.time,
+        latest: latest,
+        ended: t.ended,
+        taken: t.taken,
+        samples: std::num::wrapping_add_usize(t.samples, n),
+        records: t.records,
+        next: Next::Wrote,
+    }
+}
+
+fn later(a: f64, b: f64) -> f64
+    ensures { λ r. ⌜ r ≡ cond (lt a b) b a ⌝ }
+{
+    if a < b {
+        return b;
+    }
+    a
+}
+
+// The turn after a draw was taken at its time, with so many records more.
+fn took(t: Turn, time: f64, ended: bool, lines: usize) -> Turn
+    ensures { λ r. ⌜ r ≡ tookBy t time ended lines ⌝ }
+{
+    Turn {
+        written: t.written,
+        time: time,
+        latest: t.latest,
+        ended: ended,
+        taken: std::num::wrapping_add_usize(t.taken, 1),
+        samples: t.samples,
+        records: std::num::wrapping_add_usize(t.records, lines),
+        next: Next::Took,
+    }
+}
+
+fn halted(t: Turn, w: Stop) -> Turn
+    ensures { λ r. ⌜ r ≡ haltedBy t w ⌝ }
+{
+    Turn {
+        written: t.written,
+        time: t.time,
+        latest: t.latest,
+        ended: t.ended,
+        taken: t.taken,
+        samples: t.samples,
+        records: t.records,
+        next: Next::Halted(w),
+    }
+}
+
+// The turn after a plan was carried out.
+pub fn moved(t: Turn, p: Plan) -> Turn
+    ensures { λ r. ⌜ r ≡ movedBy t p ⌝ }
+{
+    match p {
+        Plan::Halt(w) => halted(t, w),
+        Plan::Drain(n) => wrote(t, n, t.latest),
+        Plan::Due(n, time) => wrote(t, n, later(t.latest, time)),
+        Plan::Skip(time) => took(t, time, t.ended, 0),
+        Plan::End(time) => took(t, time, true, 0),
+        Plan::Add(time, _) => took(t, time, t.ended, 1),
+    }
 }

@@ -12,8 +12,8 @@ use Rattle.draw.specs.declared.Fault as Fault
 use Rattle.refusals.specs.declared.Refusal as Refusal
 use Rattle.generator.specs.Real.{loud}
 use Rattle.running.specs.declared.State.{State}
-use Rattle.noise_check.specs.declared.Loud as Loud
-use Rattle.noise_check.specs.Noise.{loudFrom, loudRead}
+use Rattle.run_checks.specs.declared.Loud as Loud
+use Rattle.run_checks.specs.Noise.{loudFrom, loudRead}
 use Rattle.running.specs.declared.Ran.{Ran}
 use Rattle.running.specs.Turns.{genOf}
 use Rattle.running.specs.Ended.{Left, callLeft}

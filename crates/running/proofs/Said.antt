@@ -32,11 +32,11 @@ use Rattle.reply_samples.specs.Samples.{replySamples}
 use Rattle.generator.specs.Real.{draws}
 use Rattle.generator.proofs.RealDrawLaws.{line-length}
 use Rattle.running.specs.declared.State.{State}
-use Rattle.turns.specs.declared.Turn.{Turn}
+use Rattle.run_plans.specs.declared.Turn.{Turn}
 use Rattle.run_plans.specs.declared.Stop as Stop
 use Rattle.run_plans.specs.declared.Plan as Plan
 use Rattle.run_plans.specs.Plans.{counted, planRead, chosen}
-use Rattle.turns.specs.Moved.{wroteBy, tookBy, haltedBy, movedBy}
+use Rattle.run_plans.specs.Moved.{wroteBy, tookBy, haltedBy, movedBy}
 use Rattle.running.specs.Turns.{filtersOf, genOf, Inside, turnRead, restAfter, Went, StepSays}
 use Rattle.running.proofs.Adding.{added-put, counts, added-by, recorded-by}
 use Rattle.running.proofs.Writing.{wrote-memory, wrote-output}

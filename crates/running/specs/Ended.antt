@@ -5,8 +5,8 @@ use lib.Ieee.{Float, nan}
 use Rattle.call_lists.specs.PlainBench as Bench
 use Rattle.call_lists.specs.Turns as Theory
 use Rattle.running.specs.declared.State.{State}
-use Rattle.turns.specs.declared.Turn.{Turn}
-use Rattle.turns.specs.declared.Next as Next
+use Rattle.run_plans.specs.declared.Turn.{Turn}
+use Rattle.run_plans.specs.declared.Next as Next
 use Rattle.run_plans.specs.declared.Stop as Stop
 use Rattle.running.specs.declared.Answer as Answer
 use Rattle.running.specs.declared.Ran.{Ran}

@@ -8,8 +8,8 @@ use Rattle.call_lists.specs.Generator.{Generator}
 use Rattle.call_lists.specs.Turns as Theory
 use Rattle.call_lists.specs.Turns.{Within, turnFuel}
 use Rattle.running.specs.declared.State.{State}
-use Rattle.turns.specs.declared.Turn.{Turn}
-use Rattle.turns.specs.declared.Next as Next
+use Rattle.run_plans.specs.declared.Turn.{Turn}
+use Rattle.run_plans.specs.declared.Next as Next
 use Rattle.run_plans.specs.Plans.{stopRead}
 pub use Rattle.running.specs.Generated.{filtersOf, genOf}
 

@@ -8,14 +8,14 @@ ghost use Rattle.running.specs.Calls.{refusedBy, runLeft};
 ghost use Rattle.running.specs.Turns.{Inside, turnRead, restAfter, genOf, StepSays};
 use draw::Fault;
 use message_config::Delays;
-use noise_check::Loud;
 use refusals::Refusal;
+use run_checks::Loud;
+use run_plans::Next;
 use run_plans::Plan;
 pub use run_plans::Stop;
+use run_plans::Turn;
 use settings::Distributions;
 use settings::MessagesPerSecond;
-use turns::Next;
-use turns::Turn;
 
 // What a run call hands to the next one.
 pub struct State {
@@ -80,7 +80,7 @@ fn step(
         noise.len() - used,
         records.len() - 66 * lines,
     );
-    let r = turns::moved(t, p);
+    let r = run_plans::moved(t, p);
     match p {
         Plan::Halt(_) => {}
         Plan::Drain(n) => due_samples::write_due(memory, noise, output, t.written, t.samples, n),
@@ -221,7 +221,7 @@ pub fn run(
     if let Fault::At(k, n) = fault {
         return refused(s, Refusal::Draw(k, n));
     }
-    let loud = noise_check::check_noise(noise);
+    let loud = run_checks::check_noise(noise);
     if let Loud::At(p) = loud {
         return refused(s, Refusal::Noise(p));
     }

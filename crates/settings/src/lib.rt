@@ -1,11 +1,17 @@
-// A run's settings, read from their bytes, and the rate of a type. Each function is equal to a definition of specs/ on every input.
+// A run's settings: their 119 bytes, the rate of a type, and refusals 1 to 4. Each function is equal to a definition of specs/ on every input.
 ghost use mathlib.Core.Path.{_≡_};
 ghost use Prim.Native.Nat.{_≤_};
-ghost use Rattle.settings.specs.Settings.{settingsLength, ratesAt, askedAt, settingsOf, rateOf};
+ghost use Rattle.settings.specs.Settings.{settingsLength, ratesAt, askedAt, settingsOf, rateOf, ratesOf};
+ghost use Rattle.constants.specs.Rate.{four};
+ghost use Rattle.settings.specs.Accepted.{firstBadRate, totalOf, totalFits, distributionsOf, ratesThen, acceptedOf};
 use distributions::Asked;
 use distributions::CarrierOffset;
 use distributions::CarrierPhase;
+use distributions::ClockAnswer;
 use distributions::ClockError;
+use distributions::OffsetAnswer;
+use distributions::PhaseAnswer;
+use duration::InSamples;
 use refusals::Refusal;
 
 // Messages per second for each message type, in the order of the types.
@@ -116,4 +122,88 @@ pub fn rate_of(r: MessagesPerSecond, n: u64) -> f64
         return r.mode_ac;
     }
     0.0
+}
+
+fn first_bad_rate(rates: MessagesPerSecond) -> BadRate
+    ensures { λ r. ⌜ r ≡ firstBadRate 0 (ratesOf rates) ⌝ }
+{
+    let mut k: u64 = 0;
+    while k < 7 {
+        if !distributions::finite_not_negative(rate_of(rates, k)) {
+            return BadRate::At(k);
+        }
+        k = k + 1;
+    }
+    BadRate::Nowhere
+}
+
+fn total_of(r: MessagesPerSecond) -> f64
+    ensures { λ x. ⌜ x ≡ totalOf (ratesOf r) ⌝ }
+{
+    r.extended_squitter
+        + r.acquisition_squitter
+        + r.short_ap
+        + r.all_call_reply
+        + r.long_ap
+        + r.military_extended_squitter
+        + r.mode_ac
+}
+
+fn total_fits(total: f64) -> bool
+    ensures { λ r. ⌜ r ≡ totalFits total ⌝ }
+{
+    if 0.0 < total {
+        return float_range::finite(total);
+    }
+    false
+}
+
+// Refusal 4, or the run's samples and its distributions.
+fn check_distributions(n: u64, s: Settings) -> Checked
+    ensures { λ r. ⌜ r ≡ distributionsOf four n s ⌝ }
+{
+    let a = s.carrier;
+    let b = s.phase;
+    let e = s.clock;
+    let OffsetAnswer::Accepted(carrier) = distributions::carrier_offset(a) else {
+        return Checked::Refused(Refusal::Distribution(0));
+    };
+    let PhaseAnswer::Accepted(phase) = distributions::carrier_phase(b) else {
+        return Checked::Refused(Refusal::Distribution(1));
+    };
+    let ClockAnswer::Accepted(clock) = distributions::clock_error(e) else {
+        return Checked::Refused(Refusal::Distribution(2));
+    };
+    Checked::Accepted(
+        n,
+        Distributions {
+            carrier: carrier,
+            phase: phase,
+            clock: clock,
+        },
+    )
+}
+
+// Refusals 2 and 3, then 4.
+fn check_rates(n: u64, s: Settings) -> Checked
+    ensures { λ r. ⌜ r ≡ ratesThen four n s ⌝ }
+{
+    let rates = s.rates;
+    if let BadRate::At(k) = first_bad_rate(rates) {
+        return Checked::Refused(Refusal::Rate(k));
+    }
+    if total_fits(total_of(rates)) {
+        return check_distributions(n, s);
+    }
+    Checked::Refused(Refusal::Total)
+}
+
+// Refusals 1 to 4, in that order, or the run's samples and its distributions.
+pub fn check(s: Settings) -> Checked
+    ensures { λ r. ⌜ r ≡ acceptedOf four s ⌝ }
+{
+    let InSamples::Samples(n) = duration::duration_as_samples(s.seconds, s.nanoseconds) else {
+        return Checked::Refused(Refusal::Duration);
+    };
+    check_rates(n, s)
 }

@@ -91,8 +91,8 @@ fn taps_digest(prototype: &[f32]) -> u64 {
 
 // The values of a reply, at most 1,200.
 fn reply(prototype: &[f32], laid: &[bool; 252], limit: usize, first: f64, e: f64) {
-    let step = filter_clock::clock_step(e);
-    let mut clock = filter_clock::start_clock(first);
+    let step = pulse_sum::clock_step(e);
+    let mut clock = pulse_sum::start_clock(first);
     let mut digest: u64 = 0;
     let mut n: u64 = 0;
     while n < 1200 {
@@ -101,7 +101,7 @@ fn reply(prototype: &[f32], laid: &[bool; 252], limit: usize, first: f64, e: f64
         }
         let taps = filterbank::filter_taps(prototype, clock.phase);
         digest = fold_f32(digest, pulse_sum::pulse_sum(taps, laid, clock.index));
-        clock = filter_clock::advance(clock, step);
+        clock = pulse_sum::advance(clock, step);
         n = n + 1;
     }
     io::write_all(STDOUT_FILENO, b"reply ");

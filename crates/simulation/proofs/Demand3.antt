@@ -9,7 +9,7 @@ use native.Mathlib.Omega.{arith}
 use lib.ListN.{length, length-replicate, take}
 use lib.Ieee.{Float, nan}
 use Rattle.constants.specs.Rate.{four}
-use Rattle.draw_times.specs.FloatGenerator.{nought}
+use Rattle.call_lists.specs.FloatGenerator.{nought}
 use Rattle.call_lists.specs.Each.{Each}
 use Rattle.call_lists.specs.Generator.{Generator}
 use Rattle.call_lists.specs.PlainRun.{timeOf, ended, replies}

@@ -17,7 +17,7 @@ use Rattle.call_lists.specs.PlainBench as Bench
 use Rattle.call_lists.proofs.ListClaim.{allSamples, Demand3}
 use Rattle.pulse_shape.specs.Prototype.{modeSPrototype, modeACPrototype}
 use Rattle.pulse_shape.proofs.Whole.{length-prototype}
-use Rattle.sample_sizes.proofs.SampleSizes.{samples-sized}
+use Rattle.generator.proofs.SampleSizes.{samples-sized}
 use Rattle.running.specs.declared.State.{State}
 use Rattle.running.specs.Generated.{filtersOf, genOf}
 use Rattle.opening.specs.declared.Opened as Opened

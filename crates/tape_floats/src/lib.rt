@@ -27,7 +27,7 @@ pub fn float_bytes(values: &[f32], out: &mut [u8]) -> usize
     let n = least(values.len(), out.len() / 4);
     let mut k: usize = 0;
     while k < n {
-        le_floats_put::put_f32(out, 4 * k, values[k]);
+        le_put::put_f32(out, 4 * k, values[k]);
         k = k + 1;
     }
     n

@@ -22,10 +22,10 @@ use Rattle.draw.specs.declared.Fault as Fault
 use Rattle.running.specs.declared.State.{State}
 use Rattle.pulse_shape.specs.Prototype.{modeSPrototype, modeACPrototype}
 use Rattle.due_samples.specs.Due.{zeros}
-use Rattle.filling.specs.Over.{over}
+use Rattle.run_opening.specs.Over.{over}
 use Rattle.opening.specs.Opening.{half, Lent, openedOf, preparedOf, isRun, leftBy}
 use Rattle.opening.specs.declared.Prepared.{Prepared}
-use Rattle.opening.proofs.Decided.{filled}
+use Rattle.run_opening.proofs.Filled.{filled}
 use Rattle.opening.specs.declared.Opened as Opened
 use Rattle.tape_floats.specs.Floats.{floatsOf}
 use Rattle.tape_floats.proofs.Rows.{length-floats}

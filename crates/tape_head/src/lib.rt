@@ -46,7 +46,7 @@ fn check_draws(state: State, n: u64, tape: &[u8]) -> Beginning
     let rates = state.rates;
     let all = state.distributions;
     let end = 12135 + 65 * n as usize;
-    match draw_faults::first_fault(&tape[12135..end], rates, all) {
+    match draw_fields::first_fault(&tape[12135..end], rates, all) {
         Fault::Clean => noise_count(state, n, tape),
         Fault::At(_, _) => Beginning::Refused(7),
     }
@@ -116,7 +116,7 @@ fn before_taps(tape: &[u8]) -> Early
         return Early::Refused(11);
     }
     let s = settings::read(&tape[4..123]);
-    match settings_check::check(s) {
+    match settings::check(s) {
         Checked::Refused(q) => Early::Refused(refusals::number(q)),
         Checked::Accepted(_, _) => taps_section(tape),
     }
@@ -144,6 +144,6 @@ pub fn head(tape: &[u8], mode_s: &mut [f32], mode_ac: &mut [f32], memory: &mut [
     let proto_ac = p.mode_ac;
     let answer = opened_then(opened, tape);
     let wanted = is_begun(answer);
-    filling::fill(wanted, proto_s, proto_ac, mode_s, mode_ac, memory);
+    run_opening::fill(wanted, proto_s, proto_ac, mode_s, mode_ac, memory);
     answer
 }

@@ -1,6 +1,6 @@
 -- `run_opening::open` meets its contract.
 use Rattle.opening.specs.Opening.{half}
-use Rattle.opening.proofs.Decided.{opened-left}
+use Rattle.run_opening.proofs.Filled.{opened-left}
 use borrow.Author.Needs.{needs}
 use Rattle.run_opening.proofs.open.Statement.{statement}
 use Rattle.run_opening.proofs.open.Tie as tie

@@ -1,5 +1,0 @@
-pub mod InRange
-pub mod Starts
-pub mod HoldBack
-pub mod FirstClock
-pub mod NeverNan

@@ -1,1 +1,0 @@
-// Theorems about messages in range: times, hold-back, first clock, and that no number is ever a NaN. It has no code: see proofs/.

@@ -1,3 +1,0 @@
-pub mod Values
-pub mod ReplySizes
-pub mod SampleSizes
