@@ -58,7 +58,7 @@ EXPORTS = """// Functions of the crates below under C names, for the differentia
 
 
 def exports(tree):
-    """A. The crates `exports..` as modules of one crate; one edit for each exported function."""
+    """A. The crates `exports` as modules of one crate; one edit for each exported function."""
     rows = table("exports.tbl", 4)
     to, spec_moves, inner, kept = "exports", {}, {}, {}
     for crate, module, specs, edits in rows:
@@ -124,7 +124,7 @@ def exports(tree):
     tree.texts[link] = tree.texts[link].replace(names, to)
     for path in list(tree.texts):
         if not path.startswith(("crates/", "differential/reference/")):
-            tree.texts[path] = tree.texts[path].replace("one of the crates `exports..` (or of a new one, named in `link-parts`)", "a module of the crate `exports`").replace("(the crates `exports..`)", "(the crate `exports`)").replace("`exports..`", "`exports`").replace("`exports*`", "`exports`")
+            tree.texts[path] = tree.texts[path].replace("a module of the crate `exports`", "a module of the crate `exports`").replace("(the crate `exports`)", "(the crate `exports`)").replace("`exports`", "`exports`").replace("`exports`", "`exports`")
 
 
 def crates(tree):
