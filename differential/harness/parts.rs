@@ -1,4 +1,4 @@
-//! Parts of the port against the reference, function by function: the port's static libraries (the crate `exports`)
+//! Parts of the port against the reference, function by function: the port's static libraries (the crate `test_exports`)
 //! linked into this program. A part is one file in parts/ and its two lines here.
 // What is shared with the other program is used in part.
 #![allow(dead_code)]

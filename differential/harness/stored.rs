@@ -1,4 +1,4 @@
-//! The stored answers: a fixed sample of what the Rust answers, kept in crates/stored_answers/stdin and replayed there
+//! The stored answers: a fixed sample of what the Rust answers, kept in crates/test_floats/stdin and replayed there
 //! by the port. To add a function, give it a letter in `FUNCTIONS` and an arm in that crate's `answer`.
 
 use crate::random::{Random, SPECIAL};

@@ -14,14 +14,14 @@ use std::path::Path;
 
 /// A stored file by its path in the repository, and what makes it.
 const FILES: [(&str, fn() -> Vec<u8>); 10] = [
-    ("crates/byte_vectors/stdin", bytes::input),
-    ("crates/byte_vectors/stdout", bytes::lines),
-    ("crates/carrier_vectors/src/tables.rt", sines::tables),
-    ("crates/pulse_vectors/stdout", pulses::lines),
-    ("crates/reply_vectors/stdin", replies::records),
-    ("crates/reply_vectors/stdout", replies::lines),
-    ("crates/shape_vectors/stdout", shapes::lines),
-    ("crates/stored_answers/stdin", stored::file),
+    ("crates/test_le/stdin", bytes::input),
+    ("crates/test_le/stdout", bytes::lines),
+    ("crates/test_sin_cos/src/tables.rt", sines::tables),
+    ("crates/test_pulses/stdout", pulses::lines),
+    ("crates/test_replies/stdin", replies::records),
+    ("crates/test_replies/stdout", replies::lines),
+    ("crates/test_shapes/stdout", shapes::lines),
+    ("crates/test_floats/stdin", stored::file),
     ("tapes/cases", tapes::cases),
     ("tapes/small.tape", tapes::small),
 ];

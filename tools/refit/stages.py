@@ -21,7 +21,7 @@ def merge(tree):
 
 def fill_laws(tree):
     """The laws of filling what opening is lent leave `opening`'s Decided for a file of their own: they stand above `filling`."""
-    path = "crates/opening/proofs/Decided.antt"
+    path = "crates/run_open_checks/proofs/Decided.antt"
     text = tree.texts[path]
     mark = "\n  -- an opened run fills what was lent, a refusal leaves it\n"
     if text.count(mark) != 1:
@@ -38,10 +38,10 @@ def fill_laws(tree):
     new = re.sub(r"let fit = run-fits bytes", "let fit = run-fits level tapsS tapsAC bytes", new)
     keep = set(used(uses, re.sub(r"^use .*\n", "", left, flags=re.M)))
     tree.texts[path] = "".join(pruned(line, left, uses) for line in left.splitlines(True))
-    tree.texts["crates/opening/proofs/Filled.antt"] = new
+    tree.texts["crates/run_open_checks/proofs/Filled.antt"] = new
     names = set(re.findall(r"^ *pub ([^\s:]+) :", body, re.M))
     move_names(tree, ("opening", "proofs", "Decided"), names, ("opening", "proofs", "Filled"))
-    lib = "crates/opening/proofs/Lib.antt"
+    lib = "crates/run_open_checks/proofs/Lib.antt"
     tree.texts[lib] = tree.texts[lib].rstrip("\n") + "\npub mod Filled\n"
 
 

@@ -5,7 +5,7 @@ use lib.IntN.{pos}
 use lib.Ieee.{Float, binary64, ofBits, ofInt, le}
 use lib.Ieee.Scale.{finite}
 use Rattle.constants.specs.Rate.{largestOffset}
-use Rattle.float_bits.specs.Range.{within}
+use Rattle.float_narrow.specs.Range.{within}
 use Rattle.math.specs.Phase.{phaseWrap}
 use Rattle.refusals.specs.declared.Refusal.the-variants.{Distribution}
 use Rattle.refusals.specs.Answer.{Answer, accepted, refused}

@@ -2,7 +2,7 @@
 use mathlib.Core.Bool.{Bool, true, _&&_, cond}
 use lib.Ieee.{Float, binary64, mul, neg, lt, le}
 use lib.Ieee.Scale.{finite}
-use Rattle.float_bits.specs.Range.{within}
+use Rattle.float_narrow.specs.Range.{within}
 use Rattle.math.specs.Phase.{pi}
 use Rattle.distributions.specs.declared.CarrierOffset as Offset
 use Rattle.distributions.specs.declared.CarrierPhase as Phase

@@ -9,7 +9,7 @@ use lib.ListN.{length, getD, take, drop}
 use lib.Seq.{drop-cons}
 use lib.Ieee.{binary32, binary64, fits, ofBits}
 use lib.Ieee.Bits.{ofBits-fits}
-use Rattle.le_bytes.specs.LeBytes.{leAt}
+use Rattle.le_read.specs.LeBytes.{leAt}
 use Rattle.settings.proofs.Inside.{number-there}
 use Rattle.draw.specs.declared.Draw.{Draw}
 use Rattle.draw.specs.Draw.{bytesAt, picksAt, drawAt, Held}

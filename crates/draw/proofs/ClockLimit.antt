@@ -8,9 +8,9 @@ use lib.Ieee.{Float, nan, inf, fin, binary64, fits, ofBits, le, lt, eq}
 use lib.Ieee.Fits.{and-l, and-r}
 use lib.Ieee.Bits.{ofBits-fits}
 use lib.Ieee.Scale.{finite}
-use Rattle.rounding.proofs.Order.{Le}
-use Rattle.rounding.proofs.Val.{val-of, le-val, val-le}
-use Rattle.float_bits.specs.Range.{abs, within}
+use Rattle.float_rounding.proofs.Order.{Le}
+use Rattle.float_rounding.proofs.Val.{val-of, le-val, val-le}
+use Rattle.float_narrow.specs.Range.{abs, within}
 use Rattle.distributions.specs.Asked.{upTo, tenth}
 use Rattle.distributions.specs.declared.ClockError as Clock
 use Rattle.distributions.specs.Drawn.{errorOf, clockDrawFits}

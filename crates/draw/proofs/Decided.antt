@@ -4,7 +4,7 @@ use mathlib.Core.Path.{_≡_, ap}
 use mathlib.Core.Bool.{Bool, true, false, _&&_, cond}
 use lib.Ieee.{Float}
 use borrow.Author.Tests.{eq-eqb, ne-eqb}
-use Rattle.float_bits.specs.Range.{within}
+use Rattle.float_narrow.specs.Range.{within}
 use Rattle.distributions.specs.Asked.{tenth}
 use Rattle.distributions.specs.Drawn.{errorOf, clockDrawFits}
 use Rattle.message.specs.declared.ReplyKind.the-variants.{ModeAc}

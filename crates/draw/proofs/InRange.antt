@@ -7,7 +7,7 @@ use lib.Dec.{T, eqb, eqb→eq}
 use lib.Ieee.{Float, binary32, binary64, ofBits, le, lt}
 use lib.Ieee.Fits.{and-i, and-l, and-r}
 use lib.Ieee.Scale.{finite}
-use Rattle.float_bits.specs.Range.{within}
+use Rattle.float_narrow.specs.Range.{within}
 use Rattle.distributions.specs.Asked.{finiteNotNegative, tenth}
 use Rattle.distributions.specs.Drawn.{errorOf, offsetDrawFits, phaseDrawFits, clockDrawFits}
 use Rattle.message.specs.declared.Field.{Field}

@@ -4,8 +4,8 @@ use mathlib.Core.List.{List, [], _∷_}
 use lib.Dec.{T}
 use lib.ListN.{getD}
 use lib.Ieee.{binary32, binary64, fits, ofBits}
-use Rattle.le_bytes.specs.LeBytes.{numberAt}
-use Rattle.le_floats.specs.FloatReads.{f64At}
+use Rattle.le_read.specs.LeBytes.{numberAt}
+use Rattle.le_read_floats.specs.FloatReads.{f64At}
 use Rattle.message.specs.declared.Picks.{Picks}
 use Rattle.draw.specs.declared.Draw.{Draw}
 

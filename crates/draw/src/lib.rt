@@ -2,7 +2,7 @@
 ghost use mathlib.Core.Path.{_≡_};
 ghost use Rattle.draw.specs.Draw.{drawAt};
 ghost use Rattle.draw.specs.Config.{timeAfter};
-pub use le_at::byte_at;
+pub use le_read_or_zero::byte_at;
 use message::Picks;
 
 pub struct Draw {
@@ -26,5 +26,5 @@ pub enum Fault {
 pub fn time_after(before: f64, rest: &[u8]) -> f64
     ensures { λ r. ⌜ r ≡ timeAfter before (drawAt (now (rest .entry))) ⌝ }
 {
-    before + le_floats::f64_at(rest, 0)
+    before + le_read_floats::f64_at(rest, 0)
 }

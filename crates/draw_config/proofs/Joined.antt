@@ -13,7 +13,7 @@ use Rattle.message.specs.Types.{typeNumbered}
 use Rattle.message.specs.Making.{kindOf, made}
 use Rattle.message_config.specs.declared.MessageConfig.{MessageConfig}
 use Rattle.settings.specs.declared.Distributions.{Distributions}
-use Rattle.le_floats.specs.FloatReads.{f64At}
+use Rattle.le_read_floats.specs.FloatReads.{f64At}
 use Rattle.draw.specs.Draw.{drawAt}
 use Rattle.draw.specs.Config.{typeDrawn, kindDrawn, timeAfter, errorDrawn, bytesDrawn, configWith}
 use Rattle.draw_config.specs.Pending.{pendingOf, completedBy}

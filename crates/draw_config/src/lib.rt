@@ -47,9 +47,9 @@ pub fn pending(all: Distributions, last: f64, rest: &[u8]) -> MessageConfig
     MessageConfig {
         time: draw::time_after(last, rest),
         cn0: le_floats::f64_at(rest, 9),
-        offset: drawn_values::offset_of(carrier, le_floats::f64_at(rest, 21)),
-        phase: drawn_values::phase_of(phase, le_floats::f64_at(rest, 29)),
-        error: drawn_values::error_of(clock, le_floats::f64_at(rest, 37)),
+        offset: drawn_values::offset_of(carrier, le_read_floats::f64_at(rest, 21)),
+        phase: drawn_values::phase_of(phase, le_read_floats::f64_at(rest, 29)),
+        error: drawn_values::error_of(clock, le_read_floats::f64_at(rest, 37)),
         reply: Reply {
             kind: kind,
             bytes: [0; 14],
@@ -63,7 +63,7 @@ pub fn completed(c: MessageConfig, kind: u8, p: Picks) -> MessageConfig
 {
     let unmade = c.reply;
     let sent = unmade.kind;
-    let m = message_making::make(type_drawn(kind), p);
+    let m = message_make::make(type_drawn(kind), p);
     let made = m.reply;
     let bytes = made.bytes;
     MessageConfig {

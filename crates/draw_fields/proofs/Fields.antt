@@ -4,8 +4,8 @@ use mathlib.Core.Path.{_≡_}
 use mathlib.Core.List.{List, [], _∷_}
 use lib.ListN.{getD}
 use lib.Ieee.{Float, binary32, ofBits}
-use Rattle.le_bytes.specs.LeBytes.{numberAt}
-use Rattle.le_floats.specs.FloatReads.{f64At}
+use Rattle.le_read.specs.LeBytes.{numberAt}
+use Rattle.le_read_floats.specs.FloatReads.{f64At}
 use Rattle.message.specs.declared.Picks.{Picks}
 use Rattle.draw.specs.declared.Draw.{Draw}
 use Rattle.draw.specs.Draw.{bytesAt, picksAt, drawAt}

@@ -6,7 +6,7 @@ ghost use Rattle.message.specs.Making.{checked};
 ghost use Rattle.draw.specs.Fault.{typeFits, amplitudeFits, modeACLimit, clockFits, parameterFault, messageFault, drawFault, firstFault};
 use draw::Draw;
 use draw::Fault;
-use le_bytes::wide;
+use le_read::wide;
 use message::Field;
 use message::Picks;
 use message::ReplyKind;
@@ -100,8 +100,8 @@ fn clock_fits(all: Distributions, kind: u8, draw: f64) -> bool
     ensures { λ r. ⌜ r ≡ clockFits all kind draw ⌝ }
 {
     let clock = all.clock;
-    if drawn_values::clock_draw_fits(clock, draw) {
-        return within_limit(kind, drawn_values::error_of(clock, draw));
+    if draw_parameters::clock_draw_fits(clock, draw) {
+        return within_limit(kind, draw_parameters::error_of(clock, draw));
     }
     false
 }
@@ -122,7 +122,7 @@ fn message_fault(d: Draw) -> Field
 {
     let p = d.picks;
     match message::message_type(d.kind) {
-        TypeFound::Of(t) => message_making::field_fault(t, p),
+        TypeFound::Of(t) => message_make::field_fault(t, p),
         TypeFound::Unknown => Field::Fine,
     }
 }
@@ -135,10 +135,10 @@ fn parameter_fault(all: Distributions, d: Draw) -> Field
     let phase = all.phase;
     fault_or(
         4,
-        drawn_values::offset_draw_fits(carrier, d.carrier),
+        draw_parameters::offset_draw_fits(carrier, d.carrier),
         fault_or(
             5,
-            drawn_values::phase_draw_fits(phase, d.phase),
+            draw_parameters::phase_draw_fits(phase, d.phase),
             fault_or(6, clock_fits(all, d.kind, d.clock), message_fault(d)),
         ),
     )

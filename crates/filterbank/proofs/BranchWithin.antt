@@ -14,9 +14,9 @@ use lib.Ieee.Fits.{down-pos}
 use lib.Ieee.Scale.{overflow, round-same}
 use lib.Ieee.Order.{round-mono}
 use lib.Ieee.Digits.{back}
-use Rattle.rounding.proofs.Units.{G, G-exact, Units, units-of, lt-units, lt-finite, cross}
-use Rattle.rounding.proofs.More.{Rep, G-rep, rep-of, mul-all, sub-all, of-int, to-unsigned}
-use Rattle.float_bits.specs.Narrow.{narrow}
+use Rattle.float_rounding.proofs.Units.{G, G-exact, Units, units-of, lt-units, lt-finite, cross}
+use Rattle.float_rounding.proofs.More.{Rep, G-rep, rep-of, mul-all, sub-all, of-int, to-unsigned}
+use Rattle.float_narrow.specs.Narrow.{narrow}
 use Rattle.constants.specs.Rate.{four, branches}
 use Rattle.filterbank.specs.Taps.{scaled, numbered, branchOf, tauOf}
 use Rattle.filterbank.proofs.Laid.{le-or-lt}

@@ -10,9 +10,9 @@ use lib.Pow.{pow-pos, pow-lt}
 use lib.Ieee.{Float, nan, inf, fin, binary64, up, down, round, sum, add, mul, div, lt, le, fits, ofInt}
 use lib.Ieee.Fits.{down-pos}
 use lib.Ieee.Scale.{overflow}
-use Rattle.rounding.proofs.Units.{G, G-ge, G-le, Units, rounded, mul-units, units-of, same-sign, sum-less, cross-back}
-use Rattle.rounding.proofs.Order.{le-out}
-use Rattle.rounding.proofs.More.{of-int}
+use Rattle.float_rounding.proofs.Units.{G, G-ge, G-le, Units, rounded, mul-units, units-of, same-sign, sum-less, cross-back}
+use Rattle.float_rounding.proofs.Order.{le-out}
+use Rattle.float_rounding.proofs.More.{of-int}
 use Rattle.pulse_shape.proofs.DelayWithin.{div-units}
 use Rattle.constants.specs.Rate.{four}
 use Rattle.filterbank.specs.Clocked.{one, stepOf, startClock}

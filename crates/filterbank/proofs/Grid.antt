@@ -11,7 +11,7 @@ use lib.Dec.{T, lit<}
 use lib.Pow.{pow-pos}
 use lib.Ieee.{Float, fin, binary64, add, sub, le, ofInt}
 use lib.Ieee.Scale.{overflow}
-use Rattle.rounding.proofs.Units.{G, G-ge, G-le, Units, add-units, sub-units, le-units}
+use Rattle.float_rounding.proofs.Units.{G, G-ge, G-le, Units, add-units, sub-units, le-units}
 use Rattle.filterbank.specs.declared.Clock.{Clock}
 use Rattle.filterbank.specs.Clocked.{one, settle, advance}
 

@@ -10,7 +10,7 @@ use lib.IntN.{pos}
 use lib.Dec.{ltb}
 use lib.ListN.{length, getD, drop}
 use lib.Ieee.{Float, nan, binary32, binary64, ofBits, ofInt, toUnsigned, add, sub, mul, div, le}
-use Rattle.float_bits.specs.Narrow.{narrow}
+use Rattle.float_narrow.specs.Narrow.{narrow}
 use Rattle.constants.specs.Rate.{four}
 use Rattle.filterbank.specs.declared.Clock.{Clock}
 use Rattle.filterbank.specs.Taps.{one, scaled, branchOf, tauOf, branch, nextBranch, between, filterTaps}

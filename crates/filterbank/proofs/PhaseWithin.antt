@@ -5,7 +5,7 @@ use lib.IntN.{pos}
 use mathlib.Core.Bool.{false}
 use lib.Dec.{T}
 use lib.Ieee.{Float, fin, lt, le}
-use Rattle.rounding.proofs.More.{lt-from, nonneg}
+use Rattle.float_rounding.proofs.More.{lt-from, nonneg}
 use Rattle.constants.specs.Rate.{four}
 use Rattle.filterbank.specs.declared.Clock.{Clock}
 use Rattle.filterbank.specs.Clocked.{stepOf, startClock, advance}

@@ -6,7 +6,7 @@ use lib.Dec.{ltb, eqb}
 use lib.IntN.{pos}
 use lib.ListN.{length, getD, drop, replicate}
 use lib.Ieee.{Float, nan, binary32, binary64, ofBits, ofInt, toUnsigned, add, sub, mul}
-use Rattle.float_bits.specs.Narrow.{narrow}
+use Rattle.float_narrow.specs.Narrow.{narrow}
 use Rattle.constants.specs.Rate.{branches, tapsPerBranch, prototypeLength}
 use Rattle.pulse_shape.specs.Values.{values}
 

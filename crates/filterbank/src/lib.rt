@@ -23,7 +23,7 @@ fn tau_of(phase: f64, a: usize) -> f32
     requires { ⌜ a ≡ branchOf four phase ⌝ }
     ensures { λ r. ⌜ r ≡ tauOf four phase ⌝ }
 {
-    float_bits::narrow(phase * 256.0 - std::num::nearest_u64_to_f64(a as u64))
+    float_narrow::narrow(phase * 256.0 - std::num::nearest_u64_to_f64(a as u64))
 }
 
 // (1 - tau) * p[i] + tau * p[j].

@@ -1,7 +1,7 @@
-// Tests of a float's range: equal to their definitions, in specs/ of `float_bits`, on every input.
+// Tests of a float's range: equal to their definitions, in specs/ of `float_narrow`, on every input.
 ghost use mathlib.Core.Path.{_≡_};
 ghost use lib.Ieee.Scale.{finite as isFinite};
-ghost use Rattle.float_bits.specs.Range.{within as isWithin};
+ghost use Rattle.float_narrow.specs.Range.{within as isWithin};
 
 // x is neither a NaN nor an infinity.
 pub fn finite(x: f64) -> bool

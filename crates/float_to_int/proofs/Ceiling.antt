@@ -11,9 +11,9 @@ use lib.Pow.{pow-pos}
 use lib.Ieee.{Float, nan, inf, fin, binary64, up, down, lt, le, ofInt, toSigned, toUnsigned, fits}
 use lib.Ieee.Fits.{down-pos, and-l, and-r}
 use lib.Ieee.Exact.{HasValue}
-use Rattle.rounding.proofs.Order.{le-fin, fin-le, minus-one-lt}
-use Rattle.float_bits.proofs.Exact.{whole-value}
-use Rattle.float_bits.specs.Ceil.{ceilSigned, upward}
+use Rattle.float_rounding.proofs.Order.{le-fin, fin-le, minus-one-lt}
+use Rattle.float_narrow.proofs.Exact.{whole-value}
+use Rattle.float_narrow.specs.Ceil.{ceilSigned, upward}
 
 abbrev pub z : Float
 z = fin false 0 (pos 0)

@@ -8,7 +8,7 @@ use lib.IntN.{pos}
 use lib.Dec.{T, nltb→le, T-not}
 use lib.Ieee.{Float, nan, inf, fin, up, down, lt, le, toUnsigned}
 use lib.Ieee.Fits.{down-pos}
-use Rattle.rounding.proofs.Order.{le-fin, fin-le, minus-one-lt}
+use Rattle.float_rounding.proofs.Order.{le-fin, fin-le, minus-one-lt}
 
 abbrev pub one : Float
 one = fin false 1 (pos 0)

@@ -4,7 +4,7 @@ ghost use mathlib.Core.Bool.{false};
 ghost use lib.IntN.{pos};
 ghost use lib.Dec.{T};
 ghost use lib.Ieee.{lt, fin, toUnsigned};
-ghost use Rattle.float_bits.specs.Ceil.{ceilSigned};
+ghost use Rattle.float_narrow.specs.Ceil.{ceilSigned};
 
 // The least whole number that is no less than x, for an x above 0 and below 2^53.
 fn ceil_small(x: f64) -> i64

@@ -5,7 +5,7 @@ use mathlib.Core.Bool.{false}
 use lib.Dec.{lit≤}
 use lib.Ieee.{Float}
 use Rattle.math.specs.Carrier.{reduced, sineSum, cosineSum, quadrant, sinCos}
-use Rattle.rounding.proofs.Size.{Within, within-neg}
+use Rattle.float_rounding.proofs.Size.{Within, within-neg}
 use Rattle.math.proofs.Constants.{quarterUnits, piUnits}
 use Rattle.math.proofs.Reduction.{reduced-within}
 use Rattle.math.proofs.Sums.{unity, sineUnits, cosineUnits, sine-val, sine-le, cosine-val, cosine-le}

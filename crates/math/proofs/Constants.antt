@@ -3,7 +3,7 @@ use mathlib.Core.Path.{refl}
 use Prim.Native.Nat.{ℕ, _*_, _^_}
 use mathlib.Core.Bool.{true, false}
 use lib.Ieee.{ofBits, neg, mul, div}
-use Rattle.rounding.proofs.Val.{Val}
+use Rattle.float_rounding.proofs.Val.{Val}
 use Rattle.math.specs.Phase.{pi, twoPi}
 use Rattle.math.specs.Carrier.{halfPi, outerLimit, innerLimit}
 

@@ -7,9 +7,9 @@ use mathlib.Core.Bool.{Bool, true, false, _||_}
 use lib.Dec.{T, lit<}
 use lib.Ieee.{Float, nan, inf, fin, binary64, add, neg, lt, eq, le, fits}
 use lib.Ieee.Scale.{finite}
-use Rattle.rounding.proofs.Val.{Val, neg-val, le-val, val-le}
+use Rattle.float_rounding.proofs.Val.{Val, neg-val, le-val, val-le}
 use Rattle.math.specs.Phase.{pi, twoPi, phaseWrap, phaseWrapOnce}
-use Rattle.rounding.proofs.Size.{Within, number, sum-within}
+use Rattle.float_rounding.proofs.Size.{Within, number, sum-within}
 use Rattle.math.proofs.Constants.{piUnits, twoPiUnits, pi-val, twoPi-val}
 use Rattle.math.proofs.Wrapped.{wrapped, once-wrapped}
 

@@ -6,13 +6,13 @@ use native.Mathlib.Omega.{arith}
 use mathlib.Core.Bool.{Bool, true, false, not, cond}
 use lib.Dec.{T, ltb→lt, nltb→le, lit<}
 use lib.Ieee.{Float, binary64, ofBits, add, sub, mul, div, neg, lt}
-use Rattle.rounding.proofs.Val.{Val, neg-val}
+use Rattle.float_rounding.proofs.Val.{Val, neg-val}
 use Rattle.math.specs.declared.Reduced.{Reduced}
 use Rattle.math.specs.Phase.{pi}
 use Rattle.math.specs.Carrier.{halfPi, outerLimit, innerLimit, reduced}
-use Rattle.rounding.proofs.Compared.{lt-val}
-use Rattle.rounding.proofs.More.{sub-is}
-use Rattle.rounding.proofs.Size.{Within, apart}
+use Rattle.float_rounding.proofs.Compared.{lt-val}
+use Rattle.float_rounding.proofs.More.{sub-is}
+use Rattle.float_rounding.proofs.Size.{Within, apart}
 use Rattle.math.proofs.Constants.{quarterUnits, piUnits, pi-val, halfPi-val, outer-val, inner-val}
 
 -- five values by four tests

@@ -11,9 +11,9 @@ use lib.Pow.{pow-pos}
 use lib.Ieee.{Float, binary64, unlike, size, span, climb, round, mul}
 use lib.Ieee.Fits.{round-fits}
 use lib.Ieee.Scale.{overflow}
-use Rattle.rounding.proofs.Units.{G, G-le, G-mono, rounded}
-use Rattle.rounding.proofs.More.{Rep, G-rep, rep-of, round-value}
-use Rattle.rounding.proofs.Val.{Val, mul-val, add-opposite-r}
+use Rattle.float_rounding.proofs.Units.{G, G-le, G-mono, rounded}
+use Rattle.float_rounding.proofs.More.{Rep, G-rep, rep-of, round-value}
+use Rattle.float_rounding.proofs.Val.{Val, mul-val, add-opposite-r}
 use Rattle.math.specs.Carrier.{factorial, odd, sineCoefficient, cosineCoefficient, horner, sineSum, cosineSum}
 
 -- 1 in units

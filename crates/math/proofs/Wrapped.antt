@@ -10,14 +10,14 @@ use lib.Dec.{T, ltb→lt, nltb→le, lit<, lit≤}
 use lib.Pow.{pow-pos}
 use lib.Ieee.{Float, binary64, ofBits, add, sub, mul, neg, rem, lt, le, below, level, fits}
 use lib.Ieee.Scale.{finite}
-use Rattle.rounding.proofs.Units.{G, G-le, Units}
-use Rattle.rounding.proofs.More.{sub-all, sub-negative, sub-is}
-use Rattle.rounding.proofs.Val.{Val, val-units, minus-zero, neg-val, add-opposite-r}
+use Rattle.float_rounding.proofs.Units.{G, G-le, Units}
+use Rattle.float_rounding.proofs.More.{sub-all, sub-negative, sub-is}
+use Rattle.float_rounding.proofs.Val.{Val, val-units, minus-zero, neg-val, add-opposite-r}
 use Rattle.math.specs.Phase.{pi, twoPi, remEuclid, phaseWrap, phaseWrapOnce}
-use Rattle.rounding.proofs.Order.{le-out, le-out-no}
-use Rattle.rounding.proofs.Compared.{lt-val, le-val, no-level}
-use Rattle.rounding.proofs.Size.{Within, Number, number, units-within, apart, add-equal, add-small, le-or-lt, largest, rep-largest}
-use Rattle.rounding.proofs.Remainder.{rem-val}
+use Rattle.float_rounding.proofs.Order.{le-out, le-out-no}
+use Rattle.float_rounding.proofs.Compared.{lt-val, le-val, no-level}
+use Rattle.float_rounding.proofs.Size.{Within, Number, number, units-within, apart, add-equal, add-small, le-or-lt, largest, rep-largest}
+use Rattle.float_rounding.proofs.Remainder.{rem-val}
 use Rattle.math.proofs.Constants.{piUnits, twoPiUnits, pi-val, minus-pi-val, twoPi-val}
 
 -- ---- `phase_wrap_f64`

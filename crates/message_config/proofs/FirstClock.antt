@@ -13,11 +13,11 @@ use lib.Ieee.{Float, fin, binary64, neg, add, sub, mul, div, le, fits, ofInt}
 use lib.Ieee.Fits.{mul-fits}
 use lib.Ieee.Scale.{overflow}
 use Rattle.constants.specs.Rate.{four, longestPulses, replyLimit}
-use Rattle.rounding.proofs.Units.{G, G-le, Units, add-units}
-use Rattle.rounding.proofs.More.{sub-all, mul-all, of-int, nonneg, sub-is}
-use Rattle.rounding.proofs.Val.{val-units, neg-val}
-use Rattle.float_bits.specs.Ceil.{ceilSigned, upward}
-use Rattle.rounding.proofs.Size.{Within, units-within, le-or-lt}
+use Rattle.float_rounding.proofs.Units.{G, G-le, Units, add-units}
+use Rattle.float_rounding.proofs.More.{sub-all, mul-all, of-int, nonneg, sub-is}
+use Rattle.float_rounding.proofs.Val.{val-units, neg-val}
+use Rattle.float_narrow.specs.Ceil.{ceilSigned, upward}
+use Rattle.float_rounding.proofs.Size.{Within, units-within, le-or-lt}
 use Rattle.math.proofs.InRange.{tests-of-within}
 use Rattle.message.specs.declared.ReplyKind.{ReplyKind}
 use Rattle.message_config.specs.declared.Delays.{Delays}

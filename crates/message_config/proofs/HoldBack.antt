@@ -13,11 +13,11 @@ use lib.Ieee.{Float, nan, inf, fin, binary64, add, sub, div, lt, le, fits}
 use lib.Ieee.Digits.{back}
 use lib.Ieee.Scale.{finite}
 use Rattle.constants.specs.Rate.{four, holdBack}
-use Rattle.rounding.proofs.Units.{G, G-ge, Units, lt-units}
-use Rattle.rounding.proofs.More.{Rep}
-use Rattle.float_bits.specs.Ceil.{ceilSigned, upward}
-use Rattle.float_bits.specs.Range.{within}
-use Rattle.rounding.proofs.Size.{units-within, le-or-lt}
+use Rattle.float_rounding.proofs.Units.{G, G-ge, Units, lt-units}
+use Rattle.float_rounding.proofs.More.{Rep}
+use Rattle.float_narrow.specs.Ceil.{ceilSigned, upward}
+use Rattle.float_narrow.specs.Range.{within}
+use Rattle.float_rounding.proofs.Size.{units-within, le-or-lt}
 use Rattle.math.proofs.InRange.{tests-of-within}
 use Rattle.distributions.specs.Asked.{tenth}
 use Rattle.message.specs.declared.ReplyKind.{ReplyKind}

@@ -11,13 +11,13 @@ use lib.Ieee.Fits.{sub-fits}
 use lib.Ieee.Exact.{HasValue}
 use lib.Ieee.Scale.{finite}
 use Rattle.constants.specs.Rate.{tapsPerBranch, largestOffset}
-use Rattle.rounding.proofs.Order.{Signed, fin-le}
-use Rattle.rounding.proofs.Units.{Units}
-use Rattle.rounding.proofs.Val.{Val}
-use Rattle.float_bits.specs.Range.{within}
-use Rattle.float_bits.proofs.Exact.{whole-value}
-use Rattle.float_bits.proofs.Ranges.{within-finite, within-val}
-use Rattle.rounding.proofs.Size.{Within, number}
+use Rattle.float_rounding.proofs.Order.{Signed, fin-le}
+use Rattle.float_rounding.proofs.Units.{Units}
+use Rattle.float_rounding.proofs.Val.{Val}
+use Rattle.float_narrow.specs.Range.{within}
+use Rattle.float_narrow.proofs.Exact.{whole-value}
+use Rattle.float_narrow.proofs.Ranges.{within-finite, within-val}
+use Rattle.float_rounding.proofs.Size.{Within, number}
 use Rattle.math.proofs.Constants.{piUnits}
 use Rattle.distributions.specs.Asked.{tenth, offsetLimit}
 use Rattle.message.specs.declared.ReplyKind.{ReplyKind}

@@ -3,7 +3,7 @@ use mathlib.Core.Path.{_≡_, sym, ap, _∙_}
 use lib.IntN.{ℤ}
 use lib.Ieee.{Float, binary64, ofBits, ofInt, add, sub, mul, div}
 use Rattle.constants.specs.Rate.{four}
-use Rattle.float_bits.specs.Ceil.{ceilSigned}
+use Rattle.float_narrow.specs.Ceil.{ceilSigned}
 use Rattle.math.specs.Phase.{phaseWrap}
 use Rattle.math.proofs.Literals.{twoPi-is}
 use Rattle.message.specs.declared.ReplyKind.{ReplyKind}

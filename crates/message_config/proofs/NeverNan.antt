@@ -12,14 +12,14 @@ use lib.Ieee.{Float, nan, inf, fin, binary64, size, unlike, neg, add, sub, mul, 
 use lib.Ieee.Fits.{sub-fits}
 use lib.Ieee.Scale.{overflow, finite}
 use Rattle.constants.specs.Rate.{four, sampleRate}
-use Rattle.rounding.proofs.Units.{G, G-mono, G-le, Units}
-use Rattle.rounding.proofs.More.{of-int, sub-is}
-use Rattle.rounding.proofs.Val.{Val, mul-val, div-val}
-use Rattle.float_bits.specs.Ceil.{ceilSigned, upward}
-use Rattle.float_bits.proofs.Ranges.{within-finite}
+use Rattle.float_rounding.proofs.Units.{G, G-mono, G-le, Units}
+use Rattle.float_rounding.proofs.More.{of-int, sub-is}
+use Rattle.float_rounding.proofs.Val.{Val, mul-val, div-val}
+use Rattle.float_narrow.specs.Ceil.{ceilSigned, upward}
+use Rattle.float_narrow.proofs.Ranges.{within-finite}
 use Rattle.math.specs.Phase.{pi, twoPi}
-use Rattle.rounding.proofs.Size as Size
-use Rattle.rounding.proofs.Size.{Within, units-within, within-neg, sum-within, le-or-lt}
+use Rattle.float_rounding.proofs.Size as Size
+use Rattle.float_rounding.proofs.Size.{Within, units-within, within-neg, sum-within, le-or-lt}
 use Rattle.math.proofs.Constants.{piUnits, twoPiUnits, pi-val, twoPi-val}
 use Rattle.math.proofs.InRange.{Between, tests-of-within, wrapped-in-range}
 use Rattle.distributions.specs.Asked.{offsetLimit}

@@ -12,11 +12,11 @@ use lib.Ieee.Fits.{down-pos}
 use lib.Ieee.Nearest.{div-same}
 use lib.Ieee.Scale.{overflow, finite}
 use Rattle.constants.specs.Rate.{holdBack}
-use Rattle.rounding.proofs.Units.{G, G-ge, G-le, Units, units-of}
-use Rattle.rounding.proofs.More.{Rep, rep-of, sub-all, sub-negative}
-use Rattle.rounding.proofs.Val.{Val, val-units, add-same, add-opposite}
-use Rattle.float_bits.specs.Ceil.{ceilSigned, upward}
-use Rattle.rounding.proofs.Size.{Within, number}
+use Rattle.float_rounding.proofs.Units.{G, G-ge, G-le, Units, units-of}
+use Rattle.float_rounding.proofs.More.{Rep, rep-of, sub-all, sub-negative}
+use Rattle.float_rounding.proofs.Val.{Val, val-units, add-same, add-opposite}
+use Rattle.float_narrow.specs.Ceil.{ceilSigned, upward}
+use Rattle.float_rounding.proofs.Size.{Within, number}
 use Rattle.pulse_shape.proofs.DelayWithin.{div-units}
 use Rattle.message_config.specs.Timing.{one}
 use Rattle.message_config.proofs.InRange.{TimeInRange, DelayInRange, tenthUnits}

@@ -1,7 +1,7 @@
 -- Delay, start and filter clock error (SPECIFICATION 5.4, 5.5, 6.4), and the clock's phase at a reply's first sample, each operation rounded once in the Rust's order.
 use lib.IntN.{ℤ, pos}
 use lib.Ieee.{Float, binary64, ofInt, add, sub, mul, div}
-use Rattle.float_bits.specs.Ceil.{ceilSigned}
+use Rattle.float_narrow.specs.Ceil.{ceilSigned}
 use Rattle.pulse_shape.specs.GroupDelay.{modeACRatio}
 use Rattle.message.specs.declared.ReplyKind.{ReplyKind}
 use Rattle.message.specs.declared.ReplyKind.the-variants.{Short, Long, ModeAc}

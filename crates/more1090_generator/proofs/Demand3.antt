@@ -6,20 +6,20 @@ use native.Mathlib.Omega.{arith}
 use lib.ListN.{getD}
 use lib.Ieee.{Float}
 use Rattle.constants.specs.Rate.{four}
-use Rattle.call_lists.specs.PlainBench as Bench
+use Rattle.run_theory.specs.PlainBench as Bench
 use Rattle.refusals.specs.declared.Refusal as Refusal
 use Rattle.refusals.specs.Number.{numberOf}
-use Rattle.opening.specs.declared.Opened as Opened
-use Rattle.opening.specs.Opening as Opening
-use Rattle.running.specs.declared.State.{State}
-use Rattle.running.specs.declared.Counts.{Counts}
-use Rattle.running.specs.declared.Answer as Answer
-use Rattle.running.specs.Ended.{Left}
-use Rattle.running.specs.Calls.{runLeft}
-use Rattle.running.specs.Handed.{Lent, runsLeft}
-use Rattle.simulation.specs.Seen.{Numbered, stopped, refused, Seen, answerSeen, seenLeft, countsOf, answerOf, seenResult}
-use Rattle.simulation.specs.OpenedRuns.{Run, Opens, calls, gen, results, lastState, Demand3}
-use Rattle.simulation.proofs.Demand3.{opened-runs}
+use Rattle.run_open_checks.specs.declared.Opened as Opened
+use Rattle.run_open_checks.specs.Opening as Opening
+use Rattle.run_call.specs.declared.State.{State}
+use Rattle.run_call.specs.declared.Counts.{Counts}
+use Rattle.run_call.specs.declared.Answer as Answer
+use Rattle.run_call.specs.Ended.{Left}
+use Rattle.run_call.specs.Calls.{runLeft}
+use Rattle.run_call.specs.Handed.{Lent, runsLeft}
+use Rattle.run_theorem.specs.Seen.{Numbered, stopped, refused, Seen, answerSeen, seenLeft, countsOf, answerOf, seenResult}
+use Rattle.run_theorem.specs.OpenedRuns.{Run, Opens, calls, gen, results, lastState, Demand3}
+use Rattle.run_theorem.proofs.Demand3.{opened-runs}
 use Rattle.more1090_generator.specs.declared.FlatState.{FlatState}
 use Rattle.more1090_generator.specs.declared.FlatAnswer.{FlatAnswer}
 use Rattle.more1090_generator.specs.States.{flatOf}

@@ -9,15 +9,15 @@ use Rattle.constants.specs.Rate.{four}
 use Rattle.refusals.specs.declared.Refusal.{Refusal}
 use Rattle.refusals.specs.Number.{numberOf}
 use Rattle.settings.specs.declared.Distributions.{Distributions}
-use Rattle.opening.specs.declared.Opened as Opened
-use Rattle.opening.specs.Opening as Opening
-use Rattle.running.specs.declared.State.{State}
-use Rattle.run_plans.specs.declared.Stop.{Stop}
-use Rattle.running.specs.declared.Counts.{Counts}
-use Rattle.running.specs.declared.Answer as Answer
-use Rattle.running.specs.declared.Ran.{Ran}
-use Rattle.running.specs.Ended.{Left}
-use Rattle.running.specs.Calls.{runLeft}
+use Rattle.run_open_checks.specs.declared.Opened as Opened
+use Rattle.run_open_checks.specs.Opening as Opening
+use Rattle.run_call.specs.declared.State.{State}
+use Rattle.run_steps.specs.declared.Stop.{Stop}
+use Rattle.run_call.specs.declared.Counts.{Counts}
+use Rattle.run_call.specs.declared.Answer as Answer
+use Rattle.run_call.specs.declared.Ran.{Ran}
+use Rattle.run_call.specs.Ended.{Left, stopNumber}
+use Rattle.run_call.specs.Calls.{runLeft}
 use Rattle.more1090_generator.specs.declared.FlatDistribution.{FlatDistribution}
 use Rattle.more1090_generator.specs.declared.FlatState.{FlatState}
 use Rattle.more1090_generator.specs.declared.FlatOpened.{FlatOpened}
@@ -25,7 +25,6 @@ use Rattle.more1090_generator.specs.declared.FlatAnswer.{FlatAnswer}
 use Rattle.more1090_generator.specs.declared.FlatRan.{FlatRan}
 use Rattle.more1090_generator.specs.declared.Values.{Values}
 use Rattle.more1090_generator.specs.States.{carrierFlat, phaseFlat, clockFlat, carrierFrom, phaseFrom, clockFrom, ratesFlat, ratesFrom, flatOf, stateFrom, noState}
-use Rattle.running.specs.Ended.{stopNumber}
 use Rattle.more1090_generator.specs.Answers.{valuesFlat, openedFlat, told, answered, ranFlat, FlatLeft, leftFlat, flatRunLeft}
 
 pub state-flat : (s : State) (carrier phase clock : FlatDistribution) (ended : ℕ) → carrier ≡ carrierFlat (s .distributions .carrier) → phase ≡ phaseFlat (s .distributions .phase) → clock ≡ clockFlat (s .distributions .clock) → ended ≡ cond (s .ended) 1 0 → record { written = s .written; total = s .total; time = s .time; latest = s .latest; rates = ratesFlat (s .rates); «mode_s_delay» = s .delays .«mode_s»; «mode_ac_delay» = s .delays .«mode_ac»; carrier = carrier; phase = phase; clock = clock; ended = ended } ≡ flatOf s

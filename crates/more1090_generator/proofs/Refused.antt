@@ -5,12 +5,12 @@ use mathlib.Core.Option.{Option, none, some}
 use Prim.Native.Nat.{ℕ}
 use lib.Ieee.{Float}
 use Rattle.constants.specs.Rate.{four}
-use Rattle.call_lists.specs.PlainBench as Bench
-use Rattle.opening.specs.declared.Opened as Opened
-use Rattle.opening.specs.Opening as Opening
-use Rattle.running.specs.declared.State.{State}
-use Rattle.running.specs.Ended.{Left, leftBy, callLeft}
-use Rattle.running.specs.Calls.{refusedBy, runBy, callRefusal, runLeft}
+use Rattle.run_theory.specs.PlainBench as Bench
+use Rattle.run_open_checks.specs.declared.Opened as Opened
+use Rattle.run_open_checks.specs.Opening as Opening
+use Rattle.run_call.specs.declared.State.{State}
+use Rattle.run_call.specs.Ended.{Left, leftBy, callLeft}
+use Rattle.run_call.specs.Calls.{refusedBy, runBy, callRefusal, runLeft}
 use Rattle.more1090_generator.specs.States.{flatOf, stateFrom}
 use Rattle.more1090_generator.specs.Answers.{openedFlat, told, answered, ranFlat, FlatLeft, leftFlat, flatRunLeft}
 use Rattle.more1090_generator.proofs.StateBack.{state-back}

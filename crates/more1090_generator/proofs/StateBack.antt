@@ -5,7 +5,7 @@ use lib.Dec.{eqb}
 use Rattle.distributions.specs.declared.CarrierOffset as Carrier
 use Rattle.distributions.specs.declared.CarrierPhase as Phase
 use Rattle.distributions.specs.declared.ClockError as Clock
-use Rattle.running.specs.declared.State.{State}
+use Rattle.run_call.specs.declared.State.{State}
 use Rattle.more1090_generator.specs.States.{distributionOf, carrierFlat, phaseFlat, clockFlat, carrierFrom, phaseFrom, clockFrom, ratesFlat, ratesFrom, flatOf, stateFrom}
 
 carrier-back : (d : Carrier.CarrierOffset) → carrierFrom (carrierFlat d) ≡ d

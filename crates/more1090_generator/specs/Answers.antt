@@ -5,13 +5,13 @@ use lib.Ieee.{Float}
 use lib.ListN.{getD}
 use Rattle.refusals.specs.declared.Refusal.{Refusal}
 use Rattle.refusals.specs.Number.{numberOf, valuesOf}
-use Rattle.opening.specs.declared.Opened as Opened
-use Rattle.running.specs.declared.Counts.{Counts}
-use Rattle.running.specs.declared.Answer as Answer
-use Rattle.running.specs.declared.Ran.{Ran}
-use Rattle.running.specs.Ended.{stopNumber, Left}
-use Rattle.running.specs.Calls.{runLeft}
-use Rattle.running.specs.Handed.{Lent}
+use Rattle.run_open_checks.specs.declared.Opened as Opened
+use Rattle.run_call.specs.declared.Counts.{Counts}
+use Rattle.run_call.specs.declared.Answer as Answer
+use Rattle.run_call.specs.declared.Ran.{Ran}
+use Rattle.run_call.specs.Ended.{stopNumber, Left}
+use Rattle.run_call.specs.Calls.{runLeft}
+use Rattle.run_call.specs.Handed.{Lent}
 use Rattle.more1090_generator.specs.declared.FlatState.{FlatState}
 use Rattle.more1090_generator.specs.declared.FlatOpened.{FlatOpened}
 use Rattle.more1090_generator.specs.declared.FlatAnswer.{FlatAnswer}

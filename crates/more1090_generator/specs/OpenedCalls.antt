@@ -1,13 +1,13 @@
--- Demand 3 (SPECIFICATION 2.3) for callers in C, hypothesis and claim in one statement: `OpenedCalls`, at the end of this file. Where `more1090_open` answers refusal 0, it opened a run of which all is claimed that `simulation/specs/OpenedRuns` claims,
+-- Demand 3 (SPECIFICATION 2.3) for callers in C, hypothesis and claim in one statement: `OpenedCalls`, at the end of this file. Where `more1090_open` answers refusal 0, it opened a run of which all is claimed that `run_theorem/specs/OpenedRuns` claims,
 -- and calls of `more1090_run`, refused ones among them, with any draws, noise and buffers, answer and leave what run calls on it do, in C's numbers.
 use mathlib.Core.Path.{_≡_}
 use mathlib.Core.List.{List, [], _∷_, map}
 use Prim.Native.Nat.{ℕ}
 use lib.Ieee.{Float}
 use Rattle.constants.specs.Rate.{four}
-use Rattle.running.specs.Handed.{Lent}
-use Rattle.opening.specs.Opening as Opening
-use Rattle.simulation.specs.OpenedRuns.{Run, Opens, calls, results, bench, stateAfter, Demand3}
+use Rattle.run_call.specs.Handed.{Lent}
+use Rattle.run_open_checks.specs.Opening as Opening
+use Rattle.run_theorem.specs.OpenedRuns.{Run, Opens, calls, results, bench, stateAfter, Demand3}
 use Rattle.more1090_generator.specs.declared.FlatState.{FlatState}
 use Rattle.more1090_generator.specs.States.{flatOf}
 use Rattle.more1090_generator.specs.Answers.{openedFlat, FlatLeft, leftFlat, flatRunsLeft}

@@ -3,9 +3,9 @@ use Prim.Native.Nat.{ℕ}
 use mathlib.Core.List.{List}
 use lib.Ieee.{Float}
 use lib.ListN.{getD}
-use Rattle.call_lists.specs.PlainBench as Bench
-use Rattle.running.specs.declared.State.{State}
-use Rattle.running.specs.Generated.{genOf}
+use Rattle.run_theory.specs.PlainBench as Bench
+use Rattle.run_call.specs.declared.State.{State}
+use Rattle.run_call.specs.Generated.{genOf}
 use Rattle.more1090_generator.specs.declared.FlatAnswer.{FlatAnswer}
 use Rattle.more1090_generator.specs.Answers.{FlatLeft}
 

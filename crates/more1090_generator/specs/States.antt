@@ -7,7 +7,7 @@ use Rattle.distributions.specs.declared.CarrierOffset as Carrier
 use Rattle.distributions.specs.declared.CarrierPhase as Phase
 use Rattle.distributions.specs.declared.ClockError as Clock
 use Rattle.settings.specs.declared.MessagesPerSecond.{MessagesPerSecond}
-use Rattle.running.specs.declared.State.{State}
+use Rattle.run_call.specs.declared.State.{State}
 use Rattle.more1090_generator.specs.declared.FlatDistribution.{FlatDistribution}
 use Rattle.more1090_generator.specs.declared.FlatRates.{FlatRates}
 use Rattle.more1090_generator.specs.declared.FlatState.{FlatState}

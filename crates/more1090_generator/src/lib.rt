@@ -2,21 +2,21 @@
 ghost use mathlib.Core.Path.{_≡_};
 ghost use mathlib.Core.Bool.{cond};
 ghost use Rattle.constants.specs.Rate.{four};
-ghost use Rattle.opening.specs.Opening.{half, openedOf, leftBy};
+ghost use Rattle.run_open_checks.specs.Opening.{half, openedOf, leftBy};
 ghost use Rattle.more1090_generator.specs.States.{carrierFlat, phaseFlat, clockFlat, carrierFrom, phaseFrom, clockFrom, flatOf, stateFrom, noState};
-ghost use Rattle.running.specs.Ended.{stopNumber};
+ghost use Rattle.run_call.specs.Ended.{stopNumber};
 ghost use Rattle.more1090_generator.specs.Answers.{valuesFlat, openedFlat, answered, ranFlat, flatRunLeft};
 use distributions::CarrierOffset;
 use distributions::CarrierPhase;
 use distributions::ClockError;
 use message_config::Delays;
-use opening::Opened;
 use refusals::Refusal;
-use running::Answer;
-use running::Counts;
-use running::Ran;
-use running::State;
-use running::Stop;
+use run_call::Answer;
+use run_call::Counts;
+use run_call::Ran;
+use run_call::State;
+use run_call::Stop;
+use run_open_checks::Opened;
 use settings::Distributions;
 use settings::MessagesPerSecond;
 
@@ -402,7 +402,7 @@ pub extern "C" fn more1090_open(
 ) -> FlatOpened
     ensures { λ r. ⌜ (r ≡ openedFlat (openedOf four half (now («taps_s» .entry)) (now («taps_ac» .entry)) (now (settings .entry)) (record { modeS = now («mode_s» .entry); modeAC = now («mode_ac» .entry); memory = now (memory .entry) }))) × (record { modeS = now («mode_s» .exit); modeAC = now («mode_ac» .exit); memory = now (memory .exit) } ≡ leftBy four (now («taps_s» .entry)) (now («taps_ac» .entry)) (openedOf four half (now («taps_s» .entry)) (now («taps_ac» .entry)) (now (settings .entry)) (record { modeS = now («mode_s» .entry); modeAC = now («mode_ac» .entry); memory = now (memory .entry) })) (record { modeS = now («mode_s» .entry); modeAC = now («mode_ac» .entry); memory = now (memory .entry) })) ⌝ }
 {
-    let o = run_opening::open(settings, taps_s, taps_ac, mode_s, mode_ac, memory);
+    let o = run_open::open(settings, taps_s, taps_ac, mode_s, mode_ac, memory);
     opened_out(o)
 }
 
@@ -421,6 +421,6 @@ pub extern "C" fn more1090_run(
     ensures { λ r. ⌜ record { ran = r; memory = now (memory .exit); output = now (output .exit); records = now (records .exit) } ≡ flatRunLeft state (now («mode_s» .entry)) (now («mode_ac» .entry)) (now (memory .entry)) (now (draws .entry)) (now (noise .entry)) (now (output .entry)) (now (records .entry)) ⌝ }
 {
     let s = state_in(state);
-    let r = running::run(s, mode_s, mode_ac, memory, draws, noise, output, records);
+    let r = run_call::run(s, mode_s, mode_ac, memory, draws, noise, output, records);
     ran_out(r)
 }

@@ -1,11 +1,11 @@
 // Parity, flipped bits, classing and interrogators under C names.
 ghost use mathlib.Core.Path.{_≡_};
 ghost use Rattle.mode_s.specs.Parity.{parityOf};
-ghost use Rattle.parity_change.specs.Change.{changeAt, placeOf};
-ghost use Rattle.message_type.specs.Classing.{classOfBytes, classNumber};
-ghost use Rattle.interrogator.specs.Interrogators.{interrogatorOf, kindNumber, codeNumber};
+ghost use Rattle.mode_s_parity_change.specs.Change.{changeAt, placeOf};
+ghost use Rattle.message_classify.specs.Classing.{classOfBytes, classNumber};
+ghost use Rattle.message_interrogator.specs.Interrogators.{interrogatorOf, kindNumber, codeNumber};
 ghost use Rattle.more1090_parity.specs.Places.{placeNumber};
-use parity_change::FlippedBit;
+use mode_s_parity_change::FlippedBit;
 
 // The parity of bytes, however many.
 #[no_mangle]
@@ -20,7 +20,7 @@ pub extern "C" fn more1090_parity(bytes: &[u8]) -> u32
 pub extern "C" fn more1090_parity_change(place: u64) -> u32
     ensures { λ r. ⌜ r ≡ changeAt place ⌝ }
 {
-    parity_change::parity_change(place)
+    mode_s_parity_change::parity_change(place)
 }
 
 // The place whose flipped bit changes the parity so, or 2^64 - 1 for none.
@@ -28,7 +28,7 @@ pub extern "C" fn more1090_parity_change(place: u64) -> u32
 pub extern "C" fn more1090_flipped_bit(change: u32) -> u64
     ensures { λ r. ⌜ r ≡ placeNumber (placeOf change) ⌝ }
 {
-    match parity_change::flipped_bit(change) {
+    match mode_s_parity_change::flipped_bit(change) {
         FlippedBit::At(place) => place,
         FlippedBit::Nowhere => 0xffff_ffff_ffff_ffff,
     }
@@ -39,7 +39,7 @@ pub extern "C" fn more1090_flipped_bit(change: u32) -> u64
 pub extern "C" fn more1090_class(message: &[u8]) -> u8
     ensures { λ r. ⌜ r ≡ classNumber (classOfBytes (now (message .entry))) ⌝ }
 {
-    message_type::class_number(message_type::of_bytes(message))
+    message_classify::class_number(message_classify::of_bytes(message))
 }
 
 // Which interrogator message bytes, however many, answer: the kind, 0 for none, 1 for an II code, 2 for an SI code, 3 for unassigned; and the code, 0 where there is none.
@@ -47,7 +47,7 @@ pub extern "C" fn more1090_class(message: &[u8]) -> u8
 pub extern "C" fn more1090_interrogator(message: &[u8], code: &mut u32) -> u32
     ensures { λ r. ⌜ (r ≡ kindNumber (interrogatorOf (now (message .entry)))) × (now (code .exit) ≡ codeNumber (interrogatorOf (now (message .entry)))) ⌝ }
 {
-    let reading = interrogator::of_bytes(message);
-    *code = interrogator::code_number(reading);
-    interrogator::kind_number(reading)
+    let reading = message_interrogator::of_bytes(message);
+    *code = message_interrogator::code_number(reading);
+    message_interrogator::kind_number(reading)
 }

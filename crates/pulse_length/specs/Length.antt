@@ -1,8 +1,8 @@
 -- The samples of a message at the nominal clock rate, by the samples per pulse.
 use Prim.Native.Nat.{ℕ, _+_, _*_, _/_}
 use mathlib.Core.Bool.{Bool}
-use Rattle.pulses.specs.ModeS.{modeSLength}
-use Rattle.pulses.specs.ModeAC.{modeACLength}
+use Rattle.pulse_map.specs.ModeS.{modeSLength}
+use Rattle.pulse_map.specs.ModeAC.{modeACLength}
 
 -- each place of a Mode S message lasts one pulse
 unfoldable pub modeSNumSamples : ℕ → Bool → ℕ

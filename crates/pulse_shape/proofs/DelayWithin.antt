@@ -13,10 +13,10 @@ use lib.ListN.{length, getD}
 use lib.Ieee.{Float, nan, inf, fin, binary32, binary64, up, down, neg, add, sub, div, lt, le, eq, fits, ofInt, ofBits}
 use lib.Ieee.Fits.{and-l, and-r, down-pos, fits-widens}
 use lib.Ieee.Scale.{overflow}
-use Rattle.rounding.proofs.Units.{G, G-mono, G-zero, G-ge, G-le, Units, no-less, add-units, units-of, cross-back, lt-units}
-use Rattle.rounding.proofs.More.{sub-all, of-int, lt-from, nonneg}
-use Rattle.rounding.proofs.Order.{le-out, zero-le-fin}
-use Rattle.rounding.proofs.Val.{Val, val-units, minus-zero, div-val}
+use Rattle.float_rounding.proofs.Units.{G, G-mono, G-zero, G-ge, G-le, Units, no-less, add-units, units-of, cross-back, lt-units}
+use Rattle.float_rounding.proofs.More.{sub-all, of-int, lt-from, nonneg}
+use Rattle.float_rounding.proofs.Order.{le-out, zero-le-fin}
+use Rattle.float_rounding.proofs.Val.{Val, val-units, minus-zero, div-val}
 use Rattle.constants.specs.Rate.{four, branches, prototypeLength}
 use Rattle.pulse_shape.specs.declared.Crossing.{Crossing}
 use Rattle.pulse_shape.specs.declared.Crossing.the-variants.{At, Nowhere}

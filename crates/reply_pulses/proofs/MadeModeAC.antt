@@ -6,7 +6,7 @@ use lib.Dec.{eqb}
 use Rattle.message.specs.declared.Picks.{Picks}
 use Rattle.message.specs.declared.MessageType.the-variants.{ModeAc}
 use Rattle.message.specs.Making.{messageBytes, kindOf, filled, replyOf}
-use Rattle.pulses.specs.ModeAC.{modeACPulses}
+use Rattle.pulse_map.specs.ModeAC.{modeACPulses}
 use Rattle.reply_pulses.specs.ReplyPulses.{dataOf, spiOf, pulsesOf}
 
 data-held : (d s : ℕ) → d < 4096 → s < 2 → d % 256 + (d / 256 + 16 * s) % 16 * 256 ≡ d

@@ -10,10 +10,10 @@ use lib.Seq.{length-take-le}
 use Rattle.message.specs.declared.Reply.{Reply}
 use Rattle.message.specs.declared.ReplyKind.{ReplyKind}
 use Rattle.message.specs.declared.ReplyKind.the-variants.{Short, Long, ModeAc}
-use Rattle.pulses.specs.Map.{mapOf}
-use Rattle.pulses.proofs.Marked.{map-length}
-use Rattle.pulses.specs.ModeS.{modeSPulses, modeSLength, modeSBits}
-use Rattle.pulses.specs.ModeAC.{modeACPulses, modeACLength}
+use Rattle.pulse_map.specs.Map.{mapOf}
+use Rattle.pulse_map.proofs.Marked.{map-length}
+use Rattle.pulse_map.specs.ModeS.{modeSPulses, modeSLength, modeSBits}
+use Rattle.pulse_map.specs.ModeAC.{modeACPulses, modeACLength}
 use Rattle.pulse_length.specs.Length.{modeSNumSamples, modeACNumSamples}
 use Rattle.reply_pulses.specs.ReplyPulses.{dataOf, spiOf, pulsesOfKind, pulsesOf, placesOf, numSamplesOfKind, numSamplesOf}
 

@@ -7,9 +7,9 @@ use lib.ListN.{getD, take}
 use Rattle.message.specs.declared.Reply.{Reply}
 use Rattle.message.specs.declared.ReplyKind.{ReplyKind}
 use Rattle.message.specs.declared.ReplyKind.the-variants.{Short, Long, ModeAc}
-use Rattle.pulses.specs.declared.Pulses.{Pulses}
-use Rattle.pulses.specs.ModeS.{modeSPulses}
-use Rattle.pulses.specs.ModeAC.{modeACPulses}
+use Rattle.pulse_map.specs.declared.Pulses.{Pulses}
+use Rattle.pulse_map.specs.ModeS.{modeSPulses}
+use Rattle.pulse_map.specs.ModeAC.{modeACPulses}
 use Rattle.pulse_length.specs.Length.{modeSNumSamples, modeACNumSamples}
 
 -- Mode A/C is 2 bytes (SPECIFICATION 7.3): low first, SPI as bit 12

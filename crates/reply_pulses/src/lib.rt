@@ -6,7 +6,7 @@ ghost use Rattle.constants.specs.Rate.{four};
 ghost use Rattle.reply_pulses.specs.ReplyPulses.{dataOf, spiOf, pulsesOf, numSamplesOf};
 use message::Reply;
 use message::ReplyKind;
-use pulses::Pulses;
+use pulse_map::Pulses;
 
 fn wide(x: u8) -> u16
     ensures { λ r. ⌜ (r ≡ x) × (r < 256) ⌝ }
@@ -33,9 +33,9 @@ pub fn message_to_pulses(r: Reply) -> Pulses
     let b = r.bytes;
     let kind = r.kind;
     match kind {
-        ReplyKind::Short => pulses::mode_s_pulses(b, false),
-        ReplyKind::Long => pulses::mode_s_pulses(b, true),
-        ReplyKind::ModeAc => pulses::mode_ac_pulses(mode_ac_data(b), mode_ac_spi(b)),
+        ReplyKind::Short => pulse_map::mode_s_pulses(b, false),
+        ReplyKind::Long => pulse_map::mode_s_pulses(b, true),
+        ReplyKind::ModeAc => pulse_map::mode_ac_pulses(mode_ac_data(b), mode_ac_spi(b)),
     }
 }
 

@@ -12,7 +12,7 @@ use Rattle.message.specs.declared.ReplyKind.the-variants.{Short, ModeAc}
 use Rattle.message_config.specs.declared.Delays.{Delays}
 use Rattle.message_config.specs.declared.MessageConfig.{MessageConfig}
 use Rattle.message_config.specs.Config.{configClockPhase, configClockError, configRate, configPhase}
-use Rattle.pulses.specs.ModeAC.{modeACLength}
+use Rattle.pulse_map.specs.ModeAC.{modeACLength}
 use Rattle.filterbank.specs.Apply.{limitOf, applyFilterbank}
 use Rattle.filterbank.proofs.EndsByItself.{InRange, ends-within, values-counted, most-pulses}
 use Rattle.reply_pulses.specs.ReplyPulses.{spiOf, placesOf}

@@ -11,7 +11,7 @@ use lib.ListN.{length, getD, set, drop, length-set, length-drop}
 use lib.Seq.{getD-set-other, drop-cons}
 use lib.Ieee.{Float, nan, binary32, binary64, add, mul}
 use Rattle.constants.specs.Rate.{four}
-use Rattle.float_bits.specs.Narrow.{narrow}
+use Rattle.float_narrow.specs.Narrow.{narrow}
 use Rattle.math.specs.declared.SinCos.{SinCos}
 use Rattle.math.specs.Phase.{phaseWrapOnce}
 use Rattle.math.specs.Carrier.{sinCos}

@@ -3,7 +3,7 @@ use Prim.Native.Nat.{ℕ}
 use mathlib.Core.List.{List, [], _∷_}
 use lib.ListN.{length}
 use lib.Ieee.{Float, binary32, binary64, add, mul}
-use Rattle.float_bits.specs.Narrow.{narrow}
+use Rattle.float_narrow.specs.Narrow.{narrow}
 use Rattle.math.specs.Phase.{phaseWrapOnce}
 use Rattle.math.specs.Carrier.{sinCos}
 use Rattle.message.specs.declared.ReplyKind.{ReplyKind}

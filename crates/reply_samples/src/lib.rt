@@ -21,8 +21,8 @@ fn sample_at(amplitude: f32, value: f32, phase: f64) -> Sample
     let x = amplitude * value;
     let t = math::sin_cos(phase);
     Sample {
-        re: x * float_bits::narrow(t.cos),
-        im: x * float_bits::narrow(t.sin),
+        re: x * float_narrow::narrow(t.cos),
+        im: x * float_narrow::narrow(t.sin),
     }
 }
 

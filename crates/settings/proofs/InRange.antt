@@ -8,9 +8,9 @@ use lib.Dec.{T}
 use lib.Ieee.{Float, binary64, fits}
 use lib.Ieee.Bits.{ofBits-fits}
 use lib.Ieee.Scale.{finite}
-use Rattle.float_bits.specs.Range.{within}
+use Rattle.float_narrow.specs.Range.{within}
 use Rattle.math.specs.Phase.{phaseWrap}
-use Rattle.rounding.proofs.Size.{Within}
+use Rattle.float_rounding.proofs.Size.{Within}
 use Rattle.math.proofs.Constants.{piUnits}
 use Rattle.math.proofs.Wrapped.{wrapped}
 use Rattle.distributions.specs.Asked.{upTo, finiteNotNegative, offsetLimit, tenth, byKind, clampedNormal, carrierOffset, carrierPhase, clockError}
@@ -21,7 +21,7 @@ use Rattle.distributions.specs.declared.ClockError as Clock
 use Rattle.distributions.specs.declared.OffsetAnswer.the-variants as OffsetAnswer
 use Rattle.distributions.specs.declared.PhaseAnswer.the-variants as PhaseAnswer
 use Rattle.distributions.specs.declared.ClockAnswer.the-variants as ClockAnswer
-use Rattle.duration.specs.Duration.{mostSamples}
+use Rattle.settings_duration.specs.Duration.{mostSamples}
 use Rattle.settings.specs.declared.Settings.{Settings}
 use Rattle.settings.specs.declared.Distributions.{Distributions}
 use Rattle.settings.specs.declared.Checked.the-variants.{Accepted, Refused}

@@ -5,8 +5,8 @@ use mathlib.Core.List.{List}
 use native.Mathlib.Omega.{arith}
 use lib.ListN.{length, getD}
 use lib.Ieee.{Float, binary64, ofBits}
-use Rattle.le_bytes.specs.LeBytes.{leAt}
-use Rattle.le_floats.specs.FloatReads.{f64At}
+use Rattle.le_read.specs.LeBytes.{leAt}
+use Rattle.le_read_floats.specs.FloatReads.{f64At}
 use Rattle.distributions.specs.declared.Asked.{Asked}
 use Rattle.settings.specs.declared.MessagesPerSecond.{MessagesPerSecond}
 use Rattle.settings.specs.declared.Settings.{Settings}

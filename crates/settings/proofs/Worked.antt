@@ -5,14 +5,14 @@ use mathlib.Core.List.{List, [], _∷_, _++_}
 use lib.Ieee.{binary64, ofBits, ofInt, add, lt, le, eq}
 use lib.Ieee.Scale.{finite}
 use Rattle.constants.specs.Rate.{four}
-use Rattle.float_bits.specs.Range.{abs, within}
+use Rattle.float_narrow.specs.Range.{abs, within}
 use Rattle.math.specs.Phase.{phaseWrap}
-use Rattle.le_bytes.specs.LeBytes.{bytesOf, leOf, leAt, readAt}
+use Rattle.le_read.specs.LeBytes.{bytesOf, leOf, leAt, readAt}
 use Rattle.distributions.specs.Asked.{finiteNotNegative, upTo, offsetLimit, tenth, byKind, clampedNormal, carrierOffset, carrierPhase, clockError, offsetAnswer, phaseAnswer, clockAnswer}
 use Rattle.distributions.specs.declared.CarrierOffset.the-variants as Offset
 use Rattle.distributions.specs.declared.CarrierPhase.the-variants as Phase
 use Rattle.distributions.specs.declared.ClockError.the-variants as Clock
-use Rattle.duration.specs.Duration.{durationOf}
+use Rattle.settings_duration.specs.Duration.{durationOf}
 use Rattle.refusals.specs.declared.Refusal.the-variants as Refusal
 use Rattle.settings.specs.declared.Checked.{Checked}
 use Rattle.settings.specs.declared.Checked.the-variants.{Accepted, Refused}

@@ -8,7 +8,7 @@ use Rattle.distributions.specs.Asked.{finiteNotNegative, carrierOffset, carrier
 use Rattle.distributions.specs.declared.CarrierOffset.{CarrierOffset}
 use Rattle.distributions.specs.declared.CarrierPhase.{CarrierPhase}
 use Rattle.distributions.specs.declared.ClockError.{ClockError}
-use Rattle.duration.specs.Duration.{Answer, samples, refusal, durationOf}
+use Rattle.settings_duration.specs.Duration.{Answer, samples, refusal, durationOf}
 use Rattle.refusals.specs.declared.Refusal as Refusal
 use Rattle.refusals.specs.Answer as Answers
 use Rattle.settings.specs.declared.Settings.{Settings}

@@ -8,7 +8,7 @@ use Rattle.distributions.specs.declared.CarrierPhase.{CarrierPhase}
 use Rattle.distributions.specs.declared.OffsetAnswer as Offset
 use Rattle.distributions.specs.declared.PhaseAnswer as Phase
 use Rattle.distributions.specs.declared.ClockAnswer as Clock
-use Rattle.duration.specs.Duration.{samples, refusal, durationOf}
+use Rattle.settings_duration.specs.Duration.{samples, refusal, durationOf}
 use Rattle.refusals.specs.declared.Refusal.the-variants as Refusal
 use Rattle.settings.specs.declared.Settings.{Settings}
 use Rattle.settings.specs.declared.Distributions.{Distributions}

@@ -3,8 +3,8 @@ use Prim.Native.Nat.{ℕ, _+_}
 use mathlib.Core.List.{List, [], _∷_}
 use lib.ListN.{getD}
 use lib.Ieee.{Float, binary64, ofBits}
-use Rattle.le_bytes.specs.LeBytes.{numberAt}
-use Rattle.le_floats.specs.FloatReads.{f64At}
+use Rattle.le_read.specs.LeBytes.{numberAt}
+use Rattle.le_read_floats.specs.FloatReads.{f64At}
 use Rattle.distributions.specs.declared.Asked.{Asked}
 use Rattle.settings.specs.declared.MessagesPerSecond.{MessagesPerSecond}
 use Rattle.settings.specs.declared.Settings.{Settings}

@@ -11,8 +11,8 @@ use distributions::ClockAnswer;
 use distributions::ClockError;
 use distributions::OffsetAnswer;
 use distributions::PhaseAnswer;
-use duration::InSamples;
 use refusals::Refusal;
+use settings_duration::InSamples;
 
 // Messages per second for each message type, in the order of the types.
 pub struct MessagesPerSecond {
@@ -202,7 +202,8 @@ fn check_rates(n: u64, s: Settings) -> Checked
 pub fn check(s: Settings) -> Checked
     ensures { λ r. ⌜ r ≡ acceptedOf four s ⌝ }
 {
-    let InSamples::Samples(n) = duration::duration_as_samples(s.seconds, s.nanoseconds) else {
+    let InSamples::Samples(n) = settings_duration::duration_as_samples(s.seconds, s.nanoseconds)
+    else {
         return Checked::Refused(Refusal::Duration);
     };
     check_rates(n, s)

@@ -11,10 +11,10 @@ use lib.Seq.{take-all, drop-nil, drop-drop, drop-length}
 use lib.Ieee.{Float}
 use borrow.Author.Tests.{leb-true, leb-false}
 use Rattle.refusals.specs.declared.Refusal as Refusal
-use Rattle.running.specs.declared.Ran.{Ran}
-use Rattle.run_plans.specs.declared.Stop as Stop
-use Rattle.running.specs.declared.Answer as Answer
-use Rattle.running.specs.Calls.{runLeft}
+use Rattle.run_call.specs.declared.Ran.{Ran}
+use Rattle.run_steps.specs.declared.Stop as Stop
+use Rattle.run_call.specs.declared.Answer as Answer
+use Rattle.run_call.specs.Calls.{runLeft}
 use Rattle.tape_verdict.specs.declared.Feed.{Feed}
 use Rattle.tape_feed.specs.Feeding.{Fed, feedAfter, fedAfter, calledOf, fedThen, fedOf}
 

@@ -3,10 +3,10 @@ use Prim.Native.Nat.{ℕ, _+_, _*_, _%_, _^_}
 use mathlib.Core.List.{List, _++_}
 use lib.ListN.{take, drop}
 use lib.Ieee.{Float}
-use Rattle.running.specs.declared.Answer as Answer
-use Rattle.running.specs.declared.Ran.{Ran}
-use Rattle.running.specs.Ended.{Left}
-use Rattle.running.specs.Calls.{runLeft}
+use Rattle.run_call.specs.declared.Answer as Answer
+use Rattle.run_call.specs.declared.Ran.{Ran}
+use Rattle.run_call.specs.Ended.{Left}
+use Rattle.run_call.specs.Calls.{runLeft}
 use Rattle.tape_verdict.specs.declared.Feed.{Feed}
 
 -- a run so far, and what is lent to it for writing

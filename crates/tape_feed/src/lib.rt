@@ -2,8 +2,8 @@
 ghost use mathlib.Core.Path.{_≡_};
 ghost use Prim.Native.Nat.{_*_, _≤_, _<_, min};
 ghost use Rattle.tape_feed.specs.Feeding.{feedAfter, calledOf, fedOf};
-use running::Answer;
-use running::Ran;
+use run_call::Answer;
+use run_call::Ran;
 use tape_verdict::Feed;
 
 // Where k entries of a size end, within a length; no product, so that no count can overflow.
@@ -48,7 +48,7 @@ fn call(
     let a = place(f.taken, 65, draws.len());
     let b = place(f.records, 66, records.len());
     let s = f.state;
-    let r = running::run(
+    let r = run_call::run(
         s,
         mode_s,
         mode_ac,

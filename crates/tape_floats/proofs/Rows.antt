@@ -7,10 +7,10 @@ use native.Mathlib.Numerals.{add-one}
 use lib.ListN.{length, getD, take, drop, set, length-append, length-drop}
 use lib.Seq.{drop-drop, drop-cons, set-at, take-suc, length-take-le}
 use lib.Ieee.{Float, binary32, ofBits, toBits}
-use Rattle.le_bytes.specs.LeBytes.{leAt, numberAt, bytesOf, laid, put}
-use Rattle.le_bytes.proofs.Halves.{length-bytes}
+use Rattle.le_read.specs.LeBytes.{leAt, numberAt, bytesOf, laid, put}
+use Rattle.le_read.proofs.Halves.{length-bytes}
 use Rattle.settings.proofs.Inside.{number-there}
-use Rattle.record.proofs.Laid.{next-put}
+use Rattle.reply_record.proofs.Laid.{next-put}
 use Rattle.tape_floats.specs.Floats.{floatsOf, floatBytes}
 
 pub length-floats : (n : ℕ) (b : List ℕ) → length (floatsOf n b) ≡ n

@@ -3,7 +3,7 @@ use Prim.Native.Nat.{ℕ, zero, suc}
 use mathlib.Core.List.{List, [], _∷_, _++_}
 use lib.ListN.{drop}
 use lib.Ieee.{Float, binary32, ofBits, toBits}
-use Rattle.le_bytes.specs.LeBytes.{leAt, bytesOf}
+use Rattle.le_read.specs.LeBytes.{leAt, bytesOf}
 
 -- the first n values
 unfoldable pub floatsOf : ℕ → List ℕ → List Float

@@ -3,7 +3,7 @@ ghost use mathlib.Core.Path.{_≡_};
 ghost use mathlib.Core.List.{_++_};
 ghost use Prim.Native.Nat.{_/_, min};
 ghost use lib.ListN.{length, take, drop};
-ghost use Rattle.le_bytes.specs.LeBytes.{laid};
+ghost use Rattle.le_read.specs.LeBytes.{laid};
 ghost use Rattle.tape_floats.specs.Floats.{floatsOf, floatBytes};
 use constants::least;
 
@@ -14,7 +14,7 @@ pub fn floats(bytes: &[u8], out: &mut [f32]) -> usize
     let n = least(bytes.len() / 4, out.len());
     let mut k: usize = 0;
     while k < n {
-        out[k] = le_floats::f32_at(bytes, 4 * k);
+        out[k] = le_read_floats::f32_at(bytes, 4 * k);
         k = k + 1;
     }
     n
@@ -27,7 +27,7 @@ pub fn float_bytes(values: &[f32], out: &mut [u8]) -> usize
     let n = least(values.len(), out.len() / 4);
     let mut k: usize = 0;
     while k < n {
-        le_put::put_f32(out, 4 * k, values[k]);
+        le_write::put_f32(out, 4 * k, values[k]);
         k = k + 1;
     }
     n

@@ -10,16 +10,16 @@ use lib.Seq.{take-take, take-all, drop-drop}
 use lib.Ieee.{Float, binary32, ofBits}
 use borrow.Author.Tests.{le-leb, lt-leb, leb-true, leb-false}
 use Rattle.constants.specs.Rate.{four}
-use Rattle.le_bytes.specs.LeBytes.{leOf, leAt, readAt, inside}
+use Rattle.le_read.specs.LeBytes.{leOf, leAt, readAt, inside}
 use Rattle.settings.proofs.Inside.{number-there}
 use Rattle.settings.specs.Settings.{settingsOf}
 use Rattle.settings.specs.Accepted.{acceptedOf}
 use Rattle.settings.specs.declared.Checked as Checked
 use Rattle.draw.specs.Fault.{firstFault}
 use Rattle.draw.specs.declared.Fault as Fault
-use Rattle.running.specs.declared.State.{State}
-use Rattle.opening.specs.Opening.{half, Lent, openedOf, leftBy}
-use Rattle.opening.specs.declared.Opened as Opened
+use Rattle.run_call.specs.declared.State.{State}
+use Rattle.run_open_checks.specs.Opening.{half, Lent, openedOf, leftBy}
+use Rattle.run_open_checks.specs.declared.Opened as Opened
 use Rattle.tape_floats.specs.Floats.{floatsOf}
 use Rattle.tape_sections.specs.declared.Counted as Counted
 use Rattle.tape_sections.specs.Sections.{countThen, sectionAt, lengthThen, headLength}

@@ -8,9 +8,9 @@ use lib.Ieee.{Float}
 use lib.ListN.{length, take, drop, length-drop}
 use lib.Seq.{take-all, drop-length}
 use Rattle.constants.specs.Rate.{four}
-use Rattle.le_bytes.specs.Reads.{readU32}
-use Rattle.le_bytes.specs.declared.ReadU32 as U32
-use Rattle.le_bytes.proofs.Decided.{read-then}
+use Rattle.le_read.specs.Reads.{readU32}
+use Rattle.le_read.specs.declared.ReadU32 as U32
+use Rattle.le_read.proofs.Decided.{read-then}
 use Rattle.refusals.specs.Number.{numberOf}
 use Rattle.refusals.specs.declared.Refusal as Refusal
 use Rattle.settings.specs.Settings.{settingsOf}
@@ -19,14 +19,14 @@ use Rattle.settings.specs.declared.Checked as Checked
 use Rattle.settings.specs.declared.Distributions.{Distributions}
 use Rattle.draw.specs.Fault.{firstFault}
 use Rattle.draw.specs.declared.Fault as Fault
-use Rattle.running.specs.declared.State.{State}
+use Rattle.run_call.specs.declared.State.{State}
 use Rattle.pulse_shape.specs.Prototype.{modeSPrototype, modeACPrototype}
-use Rattle.due_samples.specs.Due.{zeros}
-use Rattle.run_opening.specs.Over.{over}
-use Rattle.opening.specs.Opening.{half, Lent, openedOf, preparedOf, isRun, leftBy}
-use Rattle.opening.specs.declared.Prepared.{Prepared}
-use Rattle.run_opening.proofs.Filled.{filled}
-use Rattle.opening.specs.declared.Opened as Opened
+use Rattle.run_due_samples.specs.Due.{zeros}
+use Rattle.run_open.specs.Over.{over}
+use Rattle.run_open_checks.specs.Opening.{half, Lent, openedOf, preparedOf, isRun, leftBy}
+use Rattle.run_open_checks.specs.declared.Prepared.{Prepared}
+use Rattle.run_open.proofs.Filled.{filled}
+use Rattle.run_open_checks.specs.declared.Opened as Opened
 use Rattle.tape_floats.specs.Floats.{floatsOf}
 use Rattle.tape_floats.proofs.Rows.{length-floats}
 use Rattle.tape_sections.specs.declared.Counted as Counted

@@ -7,12 +7,12 @@ use native.Mathlib.Omega.{arith}
 use lib.ListN.{length, take, drop}
 use borrow.Author.Tests.{leb-true}
 use Rattle.constants.specs.Rate.{four}
-use Rattle.le_bytes.specs.LeBytes.{leAt, readAt, inside}
+use Rattle.le_read.specs.LeBytes.{leAt, readAt, inside}
 use Rattle.draw.specs.Fault.{firstFault}
 use Rattle.draw.specs.declared.Fault as Fault
-use Rattle.running.specs.declared.State.{State}
-use Rattle.opening.specs.Opening.{Lent}
-use Rattle.opening.specs.declared.Opened as Opened
+use Rattle.run_call.specs.declared.State.{State}
+use Rattle.run_open_checks.specs.Opening.{Lent}
+use Rattle.run_open_checks.specs.declared.Opened as Opened
 use Rattle.tape_sections.specs.declared.Counted as Counted
 use Rattle.tape_sections.specs.Sections.{sectionAt}
 use Rattle.tape_sections.proofs.Counts.{counted}

@@ -5,16 +5,16 @@ use mathlib.Core.List.{List}
 use lib.ListN.{take, drop}
 use lib.Ieee.{Float}
 use Rattle.constants.specs.Rate.{modeSTaps}
-use Rattle.le_bytes.specs.LeBytes.{readAt}
+use Rattle.le_read.specs.LeBytes.{readAt}
 use Rattle.refusals.specs.Number.{numberOf}
 use Rattle.settings.specs.Settings.{settingsLength, settingsOf}
 use Rattle.settings.specs.Accepted.{acceptedOf}
 use Rattle.settings.specs.declared.Checked as Checked
 use Rattle.draw.specs.Fault.{firstFault}
 use Rattle.draw.specs.declared.Fault as Fault
-use Rattle.running.specs.declared.State.{State}
-use Rattle.opening.specs.Opening.{half, Lent, openedOf, leftBy}
-use Rattle.opening.specs.declared.Opened as Opened
+use Rattle.run_call.specs.declared.State.{State}
+use Rattle.run_open_checks.specs.Opening.{half, Lent, openedOf, leftBy}
+use Rattle.run_open_checks.specs.declared.Opened as Opened
 use Rattle.tape_floats.specs.Floats.{floatsOf}
 use Rattle.tape_sections.specs.declared.Counted as Counted
 use Rattle.tape_sections.specs.Sections.{mostDraws, tapsPlace, tapsCount, drawsPlace, noisePlace, sectionAt}

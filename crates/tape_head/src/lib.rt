@@ -3,14 +3,14 @@ ghost use mathlib.Core.Path.{_≡_};
 ghost use Prim.Native.Nat.{_+_, _*_, _≤_};
 ghost use lib.ListN.{length};
 ghost use Rattle.constants.specs.Rate.{four};
-ghost use Rattle.opening.specs.Opening.{half, preparedOf};
+ghost use Rattle.run_open_checks.specs.Opening.{half, preparedOf};
 ghost use Rattle.tape_sections.specs.Sections.{sectionAt};
 ghost use Rattle.tape_head.specs.Head.{noiseThen, drawsThen, openedThen, taps, tapsS, tapsAC, settingsBytes, tapsThen, earlyOf, begins, headOf};
 use draw::Fault;
-use le_bytes::ReadU32;
-use opening::Opened;
-use opening::Prepared;
-use running::State;
+use le_read::ReadU32;
+use run_call::State;
+use run_open_checks::Opened;
+use run_open_checks::Prepared;
 use settings::Checked;
 use tape_sections::Counted;
 pub use tape_sections::head_length;
@@ -32,7 +32,7 @@ fn noise_count(state: State, n: u64, tape: &[u8]) -> Beginning
     requires { ⌜ n ≤ 400 ⌝ }
     ensures { λ r. ⌜ r ≡ noiseThen four (now (tape .entry)) state n ⌝ }
 {
-    match le_bytes::le_u32(tape, 12135 + 65 * n as usize) {
+    match le_read::le_u32(tape, 12135 + 65 * n as usize) {
         ReadU32::Value(count) => Beginning::Run(state, n, count as u64),
         ReadU32::Past => Beginning::Refused(11),
     }
@@ -78,7 +78,7 @@ fn prepared(tape: &[u8], mode_s: usize, mode_ac: usize, memory: usize) -> Prepar
 {
     let taps = read_taps(tape);
     let all: &[f32] = &taps;
-    opening::prepare(
+    run_open_checks::prepare(
         &tape[4..123],
         &all[..1486],
         &all[1486..],
@@ -144,6 +144,6 @@ pub fn head(tape: &[u8], mode_s: &mut [f32], mode_ac: &mut [f32], memory: &mut [
     let proto_ac = p.mode_ac;
     let answer = opened_then(opened, tape);
     let wanted = is_begun(answer);
-    run_opening::fill(wanted, proto_s, proto_ac, mode_s, mode_ac, memory);
+    run_open::fill(wanted, proto_s, proto_ac, mode_s, mode_ac, memory);
     answer
 }

@@ -3,7 +3,7 @@
 ghost use mathlib.Core.Path.{_≡_};
 ghost use mathlib.Core.Bool.{cond};
 ghost use lib.ListN.{length};
-ghost use Rattle.tape_laws.specs.Reported.{Reported, recordsLent};
+ghost use Rattle.tape_theory.specs.Reported.{Reported, recordsLent};
 use tape_head::Beginning;
 use tape_verdict::Outcome;
 
@@ -28,7 +28,7 @@ pub fn run_tape(samples: bool, records: &mut [u8; 26400]) -> Outcome
     ensures { λ r. ⌜ Reported r (now (records .entry)) (now (records .exit)) ⌝ }
 {
     let mut bytes = [0u8; 38139];
-    let got = tape_reading::read_head(&mut bytes);
+    let got = tape_read::read_head(&mut bytes);
     let mut mode_s = [0.0f32; 1792];
     let mut mode_ac = [0.0f32; 1792];
     let mut memory = [0.0f32; 2252];

@@ -9,8 +9,8 @@ use lib.Dec.{leb}
 use lib.ListN.{length}
 use borrow.Author.Tests.{le-leb, lt-leb, leb-true}
 use Rattle.constants.specs.Rate.{four}
-use Rattle.le_bytes.specs.LeBytes.{leAt, numberAt, readAt, inside}
-use Rattle.le_bytes.proofs.Decided.{no-sum, read-there, read-past}
+use Rattle.le_read.specs.LeBytes.{leAt, numberAt, readAt, inside}
+use Rattle.le_read.proofs.Decided.{no-sum, read-there, read-past}
 use Rattle.settings.proofs.Inside.{number-there}
 use Rattle.tape_sections.specs.declared.Counted as Counted
 use Rattle.tape_sections.specs.Sections.{countThen, sectionAt, lengthThen, headLength}

@@ -5,7 +5,7 @@ use mathlib.Core.List.{List}
 use lib.Dec.{leb}
 use lib.ListN.{length}
 use Rattle.constants.specs.Rate.{modeSTaps, modeACTaps}
-use Rattle.le_bytes.specs.LeBytes.{readAt}
+use Rattle.le_read.specs.LeBytes.{readAt}
 use Rattle.tape_sections.specs.declared.Counted as Counted
 
 -- the most draws of a tape (SPECIFICATION 4.6)

@@ -36,7 +36,7 @@ pub fn section(tape: &[u8], at: usize, least: u64, most: u64, size: u32) -> Coun
     if tape.len() - 4 < at {
         return Counted::Wrong;
     }
-    let n = le_at::u32_at(tape, at) as u64;
+    let n = le_read_or_zero::u32_at(tape, at) as u64;
     let room = (tape.len() - (at + 4)) as u64;
     if fits(n, least, most, size as u64, room) {
         return Counted::Of(n);

@@ -1,9 +1,9 @@
 // The noise section of a tape on standard input, fed to its run in chunks, with the samples that come of it on standard output where they are asked for (cf32: interleaved little-endian f32).
-// What is read and written is not stated, since it is not known; that the noise is cut as tape_laws/specs/PlainTape asks, is.
+// What is read and written is not stated, since it is not known; that the noise is cut as tape_theory/specs/PlainTape asks, is.
 ghost use mathlib.Core.Path.{_≡_};
 ghost use mathlib.Core.Bool.{true, cond};
 ghost use Prim.Native.Nat.{_-_, _≤_, min};
-ghost use Rattle.tape_laws.specs.PlainTape.{FedCut};
+ghost use Rattle.tape_theory.specs.PlainTape.{FedCut};
 use libc::STDERR_FILENO;
 use libc::STDIN_FILENO;
 use libc::STDOUT_FILENO;
@@ -118,7 +118,7 @@ pub fn feed_section(
     while 0 < turns {
         let mut row = [0.0f32; 16384];
         let mut output = [0.0f32; 16386];
-        let n = tape_reading::read_values(want as usize, &mut row);
+        let n = tape_read::read_values(want as usize, &mut row);
         let before = f.state.written;
         f = tape_feed::feed_noise(
             f,

@@ -11,9 +11,9 @@ use lib.Seq.{take-all, take-take, drop-drop, length-take-le}
 use borrow.Author.Tests.{eq-eqb, ne-eqb, leb-true, leb-false}
 use Rattle.io.specs.Counts.{Counts}
 use Rattle.io.specs.Digits.{digits, Fewest}
-use Rattle.le_bytes.specs.LeBytes.{leAt, numberAt, laid}
+use Rattle.le_read.specs.LeBytes.{leAt, numberAt, laid}
 use Rattle.settings.proofs.Inside.{number-there}
-use Rattle.record.proofs.Laid.{none-laid}
+use Rattle.reply_record.proofs.Laid.{none-laid}
 use Rattle.tape_text.specs.Text.{decimal, number, hex, hexLine, messageOf, lineOf, linesOf, header, samplesWord, refusedWord, runText, refusedText, Put}
 use Rattle.tape_text.proofs.Puts.{then-put, put-length, length-hex}
 use Rattle.tape_text.proofs.Decimal.{length-digits, decimal-fewest, few-digits}

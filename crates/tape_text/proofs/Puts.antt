@@ -6,10 +6,10 @@ use native.Mathlib.Omega.{arith}
 use native.Mathlib.Numerals.{add-one}
 use lib.ListN.{length, getD, take, set, length-append}
 use lib.Seq.{take-suc, length-take-le}
-use Rattle.le_bytes.specs.LeBytes.{laid}
-use Rattle.le_bytes.proofs.Halves.{laid-one}
-use Rattle.le_bytes.proofs.RoundTrip.{length-laid}
-use Rattle.record.proofs.Laid.{next}
+use Rattle.le_read.specs.LeBytes.{laid}
+use Rattle.le_read.proofs.Halves.{laid-one}
+use Rattle.le_read.proofs.RoundTrip.{length-laid}
+use Rattle.reply_record.proofs.Laid.{next}
 use Rattle.tape_text.specs.Text.{hexDigit, hex, Put}
 
 -- xs was put, then ys behind it

@@ -8,13 +8,13 @@ use native.Mathlib.Omega.{arith}
 use lib.ListN.{length, getD, take, drop, length-append}
 use lib.Seq.{getD-append-seam, take-at, drop-at}
 use borrow.Author.Tests.{ne-eqb}
-use Rattle.le_bytes.specs.LeBytes.{bytesOf}
-use Rattle.le_bytes.proofs.Halves.{length-bytes}
+use Rattle.le_read.specs.LeBytes.{bytesOf}
+use Rattle.le_read.proofs.Halves.{length-bytes}
 use Rattle.message.specs.declared.ReplyKind.{ReplyKind}
 use Rattle.message.specs.declared.ReplyKind.the-variants.{Short, Long, ModeAc}
 use Rattle.message_config.specs.declared.MessageConfig.{MessageConfig}
-use Rattle.record.specs.Record.{messageLength, floatBytes, otherBytes, recordBytes}
-use Rattle.record.proofs.RecordLength.{float-length}
+use Rattle.reply_record.specs.Record.{messageLength, floatBytes, otherBytes, recordBytes}
+use Rattle.reply_record.proofs.RecordLength.{float-length}
 use Rattle.tape_text.specs.Text.{messageOf}
 
 pub at-most-14 : (k : ReplyKind) → messageLength k ≤ 14

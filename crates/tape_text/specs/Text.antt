@@ -5,7 +5,7 @@ use mathlib.Core.Path.{_≡_}
 use mathlib.Core.List.{List, [], _∷_, _++_}
 use lib.Dec.{eqb, ltb}
 use lib.ListN.{length, getD, take, drop}
-use Rattle.le_bytes.specs.LeBytes.{leAt, laid}
+use Rattle.le_read.specs.LeBytes.{leAt, laid}
 
 -- a number in decimal, with k digits at most
 unfoldable pub digitsOf : ℕ → ℕ → List ℕ

@@ -4,10 +4,10 @@ ghost use Prim.Native.Nat.{_+_, _*_, _/_, _≤_, _<_};
 ghost use lib.ListN.{length, getD, take};
 ghost use mathlib.Core.List.{_∷_, []};
 ghost use Rattle.io.specs.Counts.{Counts};
-ghost use Rattle.le_bytes.specs.LeBytes.{laid};
+ghost use Rattle.le_read.specs.LeBytes.{laid};
 ghost use Rattle.tape_text.specs.Text.{number, hexDigit, hex, hexLine, messageOf, lineOf, linesOf, runText, refusedText, Put};
 use constants::least;
-use le_bytes::wide;
+use le_read::wide;
 
 fn hex_digit(d: u8) -> u8
     requires { ⌜ d < 16 ⌝ }
@@ -95,9 +95,9 @@ fn put_line(rec: &[u8], out: &mut [u8], at: usize) -> usize
     requires { ⌜ (66 ≤ length (now rec)) × (at + 92 ≤ length (now out)) ⌝ }
     ensures { λ r. ⌜ Put (lineOf (now (rec .entry))) (now (out .entry)) at (now (out .exit)) r × (r ≤ at + 92) ⌝ }
 {
-    let a = put_number(le_at::u64_at(rec, 40), 32, out, at);
+    let a = put_number(le_read_or_zero::u64_at(rec, 40), 32, out, at);
     let b = put_number(wide(rec[48]), 32, out, a);
-    let c = put_number(le_at::u16_at(rec, 49) as u64, 32, out, b);
+    let c = put_number(le_read_or_zero::u16_at(rec, 49) as u64, 32, out, b);
     put_message(rec, out, c)
 }
 

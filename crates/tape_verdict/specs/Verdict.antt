@@ -3,9 +3,9 @@ use Prim.Native.Nat.{ℕ}
 use mathlib.Core.Bool.{Bool, true, false, cond}
 use lib.Dec.{eqb}
 use Rattle.refusals.specs.Number.{numberOf}
-use Rattle.running.specs.declared.State.{State}
-use Rattle.run_plans.specs.declared.Stop as Stop
-use Rattle.running.specs.declared.Answer as Answer
+use Rattle.run_call.specs.declared.State.{State}
+use Rattle.run_steps.specs.declared.Stop as Stop
+use Rattle.run_call.specs.declared.Answer as Answer
 use Rattle.tape_verdict.specs.declared.Feed.{Feed}
 use Rattle.tape_verdict.specs.declared.Outcome as Outcome
 

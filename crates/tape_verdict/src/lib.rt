@@ -2,9 +2,9 @@
 ghost use mathlib.Core.Path.{_≡_};
 ghost use mathlib.Core.Bool.{cond};
 ghost use Rattle.tape_verdict.specs.Verdict.{startOf, stopThen, verdictOf, judgedOf, outcomeOf, outcomeDone};
-use run_plans::Stop;
-use running::Answer;
-use running::State;
+use run_call::Answer;
+use run_call::State;
+use run_steps::Stop;
 
 // A run so far: its state, the draws taken, the records written, and what its last call answered.
 pub struct Feed {

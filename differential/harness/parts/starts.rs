@@ -1,4 +1,4 @@
-//! The crates `distributions`, `message_config` and `reply_adding`: what is accepted, what a draw becomes, starts and
+//! The crates `distributions`, `message_config` and `reply_add`: what is accepted, what a draw becomes, starts and
 //! phases; last, whole replies added into working memory.
 
 use crate::parts::shape::{delays_of, prototypes_of};

@@ -5,8 +5,8 @@ use mathlib.Core.Path.{_≡_, ap}
 use native.Mathlib.Omega.{arith}
 use borrow.Author.Needs.{needs}
 use Rattle.tape_verdict.specs.declared.Outcome as Outcome
-use Rattle.tape_laws.specs.Reported.{Reported}
-use Rattle.tape_laws.proofs.Reported.{recordsIn, few-reported}
+use Rattle.tape_theory.specs.Reported.{Reported}
+use Rattle.tape_theory.proofs.Reported.{recordsIn, few-reported}
 use Rattle.cf32.proofs.convert.Statement.{statement}
 use Rattle.cf32.proofs.convert.Tie as tie
 

@@ -6,7 +6,7 @@ use Rattle.distributions.proofs.Literals.{offsetLimit-is}
 use mathlib.Core.Path.{_≡_, refl}
 use lib.Ieee.{binary64, ofBits}
 use Rattle.constants.specs.Rate.{four}
-use Rattle.float_bits.specs.Range.{within}
+use Rattle.float_narrow.specs.Range.{within}
 use Rattle.distributions.proofs.carrier_offset.Statement.{statement}
 use Rattle.distributions.proofs.carrier_offset.Tie as tie
 

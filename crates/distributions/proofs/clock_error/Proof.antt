@@ -5,7 +5,7 @@ use Rattle.distributions.proofs.ByKind.{kind-0, kind-1, kind-other}
 use Rattle.distributions.proofs.Literals.{tenth-is}
 use mathlib.Core.Path.{_≡_, refl}
 use lib.Ieee.{binary64, ofBits}
-use Rattle.float_bits.specs.Range.{within}
+use Rattle.float_narrow.specs.Range.{within}
 use Rattle.distributions.proofs.clock_error.Statement.{statement}
 use Rattle.distributions.proofs.clock_error.Tie as tie
 

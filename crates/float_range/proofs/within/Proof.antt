@@ -1,5 +1,5 @@
 -- `float_range::within` meets its contract.
-use Rattle.float_bits.proofs.Ranges.{within-test}
+use Rattle.float_narrow.proofs.Ranges.{within-test}
 use Rattle.float_range.proofs.within.Statement.{statement}
 use Rattle.float_range.proofs.within.Tie as tie
 

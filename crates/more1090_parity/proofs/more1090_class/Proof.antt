@@ -1,7 +1,7 @@
 -- `more1090_class` meets its contract.
 use mathlib.Core.Path.{ap, _∙_}
 use borrow.Author.Needs.{needs}
-use Rattle.message_type.specs.Classing.{classNumber}
+use Rattle.message_classify.specs.Classing.{classNumber}
 use Rattle.more1090_parity.proofs.more1090_class.Statement.{statement}
 use Rattle.more1090_parity.proofs.more1090_class.Tie as tie
 

@@ -3,9 +3,9 @@ use Prim.Native.Nat.{ℕ}
 use mathlib.Core.Path.{_≡_, sym, ap, _∙_}
 use mathlib.Core.Option.{Option}
 use borrow.Author.Needs.{needs}
-use Rattle.parity_change.specs.declared.FlippedBit.{FlippedBit}
-use Rattle.parity_change.specs.declared.FlippedBit.the-variants.{At, Nowhere}
-use Rattle.parity_change.specs.Change.{foundOf}
+use Rattle.mode_s_parity_change.specs.declared.FlippedBit.{FlippedBit}
+use Rattle.mode_s_parity_change.specs.declared.FlippedBit.the-variants.{At, Nowhere}
+use Rattle.mode_s_parity_change.specs.Change.{foundOf}
 use Rattle.more1090_parity.specs.Places.{placeNumber}
 use Rattle.more1090_parity.proofs.more1090_flipped_bit.Statement.{statement}
 use Rattle.more1090_parity.proofs.more1090_flipped_bit.Tie as tie

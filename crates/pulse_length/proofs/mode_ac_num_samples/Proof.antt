@@ -1,6 +1,6 @@
 -- `pulse_length::mode_ac_num_samples` meets its contract.
 use mathlib.Core.Path.{refl}
-use Rattle.pulses.specs.ModeAC.{modeACLength}
+use Rattle.pulse_map.specs.ModeAC.{modeACLength}
 use Rattle.pulse_length.specs.Length.{modeACNumSamples}
 use Rattle.pulse_length.proofs.mode_ac_num_samples.Statement.{statement}
 use Rattle.pulse_length.proofs.mode_ac_num_samples.Tie as tie

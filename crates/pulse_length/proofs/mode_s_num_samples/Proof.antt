@@ -1,6 +1,6 @@
 -- `pulse_length::mode_s_num_samples` meets its contract.
 use mathlib.Core.Path.{refl}
-use Rattle.pulses.specs.ModeS.{modeSBits, modeSLength}
+use Rattle.pulse_map.specs.ModeS.{modeSBits, modeSLength}
 use Rattle.pulse_length.specs.Length.{modeSNumSamples}
 use Rattle.pulse_length.proofs.mode_s_num_samples.Statement.{statement}
 use Rattle.pulse_length.proofs.mode_s_num_samples.Tie as tie

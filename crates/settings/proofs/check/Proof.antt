@@ -1,7 +1,7 @@
 -- `settings::check` meets its contract.
 use borrow.Author.Needs.{needs}
 use mathlib.Core.Path.{sym, ap, _∙_}
-use Rattle.duration.specs.Duration.{answerOf}
+use Rattle.settings_duration.specs.Duration.{answerOf}
 use Rattle.settings.proofs.Decided.{duration-refused, duration-passes}
 use Rattle.settings.proofs.check.Statement.{statement}
 use Rattle.settings.proofs.check.Tie as tie

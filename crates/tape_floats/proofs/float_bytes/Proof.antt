@@ -3,8 +3,8 @@ use borrow.Author.Needs.{needs}
 use Prim.Native.Nat.{ℕ, _-_, _≤_, _/_, min}
 use mathlib.Core.Path.{_≡_, sym, ap, _∙_}
 use lib.ListN.{length, take}
-use Rattle.le_bytes.specs.LeBytes.{laid}
-use Rattle.record.proofs.Laid.{none-laid}
+use Rattle.le_read.specs.LeBytes.{laid}
+use Rattle.reply_record.proofs.Laid.{none-laid}
 use Rattle.tape_floats.specs.Floats.{floatBytes}
 use Rattle.tape_floats.proofs.Rows.{write-next}
 use Rattle.tape_floats.proofs.float_bytes.Statement.{statement}

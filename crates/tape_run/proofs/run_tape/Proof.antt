@@ -4,7 +4,7 @@ use native.Mathlib.Omega.{arith}
 use mathlib.Core.Path.{_≡_, refl, sym}
 use borrow.Author.Needs.{needs}
 use Rattle.tape_head.proofs.Within.{begun-within}
-use Rattle.tape_laws.proofs.Reported.{opened-with, reported-refused, reported-run}
+use Rattle.tape_theory.proofs.Reported.{opened-with, reported-refused, reported-run}
 use Rattle.tape_run.proofs.run_tape.Statement.{statement}
 use Rattle.tape_run.proofs.run_tape.Tie as tie
 

@@ -1,4 +1,4 @@
--- `tape_stream::feed_section` is safe, ends, and feeds its run noise that is cut as tape_laws/specs/PlainTape asks.
+-- `tape_stream::feed_section` is safe, ends, and feeds its run noise that is cut as tape_theory/specs/PlainTape asks.
 use Prim.Native.Nat.{ℕ, _+_, _-_, _*_, _≤_, _<_, min, zero-le}
 use mathlib.Core.Bool.{false}
 use mathlib.Core.Logic.{_⊎_, inl, inr}
@@ -6,7 +6,7 @@ use mathlib.Core.Path.{_≡_, refl, sym, ap, _∙_}
 use native.Mathlib.Omega.{arith}
 use lib.ListN.{length}
 use lib.Seq.{length-take-le}
-use Rattle.tape_laws.proofs.Section.{Going, going-first, going-end, no-more, fewer-left, turned, next-turn}
+use Rattle.tape_theory.proofs.Section.{Going, going-first, going-end, no-more, fewer-left, turned, next-turn}
 use Rattle.tape_stream.proofs.feed_section.Statement.{statement}
 use Rattle.tape_stream.proofs.feed_section.Tie as tie
 

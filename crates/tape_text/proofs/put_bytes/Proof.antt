@@ -4,8 +4,8 @@ use Prim.Native.Nat.{_-_, _≤_}
 use mathlib.Core.Path.{_≡_, ap, _∙_}
 use lib.ListN.{length, take, length-set}
 use lib.Seq.{take-all}
-use Rattle.le_bytes.specs.LeBytes.{laid}
-use Rattle.record.proofs.Laid.{none-laid, next-byte}
+use Rattle.le_read.specs.LeBytes.{laid}
+use Rattle.reply_record.proofs.Laid.{none-laid, next-byte}
 use Rattle.tape_text.proofs.put_bytes.Statement.{statement}
 use Rattle.tape_text.proofs.put_bytes.Tie as tie
 

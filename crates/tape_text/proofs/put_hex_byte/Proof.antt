@@ -3,7 +3,7 @@ use borrow.Author.Needs.{needs}
 use Prim.Native.Nat.{_+_}
 use native.Mathlib.Omega.{arith}
 use lib.ListN.{length-set}
-use Rattle.le_bytes.proofs.Halves.{laid-one}
+use Rattle.le_read.proofs.Halves.{laid-one}
 use Rattle.tape_text.proofs.Puts.{hex-byte}
 use Rattle.tape_text.proofs.put_hex_byte.Statement.{statement}
 use Rattle.tape_text.proofs.put_hex_byte.Tie as tie

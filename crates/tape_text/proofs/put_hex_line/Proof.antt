@@ -2,7 +2,7 @@
 use borrow.Author.Needs.{needs}
 use mathlib.Core.Path.{refl}
 use lib.ListN.{length-set}
-use Rattle.le_bytes.proofs.Halves.{laid-one}
+use Rattle.le_read.proofs.Halves.{laid-one}
 use Rattle.tape_text.proofs.Lines.{hex-line-put}
 use Rattle.tape_text.proofs.put_hex_line.Statement.{statement}
 use Rattle.tape_text.proofs.put_hex_line.Tie as tie

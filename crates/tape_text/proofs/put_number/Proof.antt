@@ -2,7 +2,7 @@
 use borrow.Author.Needs.{needs}
 use native.Mathlib.Omega.{arith}
 use lib.ListN.{length-set}
-use Rattle.le_bytes.proofs.Halves.{laid-one}
+use Rattle.le_read.proofs.Halves.{laid-one}
 use Rattle.tape_text.proofs.Decimal.{few-digits}
 use Rattle.tape_text.proofs.Lines.{number-put}
 use Rattle.tape_text.proofs.put_number.Statement.{statement}

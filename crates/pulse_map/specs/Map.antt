@@ -1,0 +1,24 @@
+-- A pulse map, from the list of the places where pulses stand.
+use Prim.Native.Nat.{ℕ, zero, suc}
+use mathlib.Core.Bool.{Bool, true, false}
+use mathlib.Core.List.{List, [], _∷_}
+use lib.Dec.{eqb}
+use Rattle.pulse_map.specs.declared.Pulses.{Pulses}
+
+abbrev pub or : Bool → Bool → Bool
+or true b = true
+or false b = b
+
+-- a pulse stands at place k: k is one of the places
+unfoldable pub pulseAt : List ℕ → ℕ → Bool
+pulseAt [] k = false
+pulseAt (p ∷ ps) k = or (eqb p k) (pulseAt ps k)
+
+-- the same for each of n places, from k on
+unfoldable pub mapFrom : List ℕ → ℕ → ℕ → List Bool
+mapFrom ps k zero = []
+mapFrom ps k (suc n) = pulseAt ps k ∷ mapFrom ps (suc k) n
+
+-- the map of a reply: 240 places, of which it takes so many
+unfoldable pub mapOf : List ℕ → ℕ → Pulses
+mapOf ps places = record { on = mapFrom ps 0 240; len = places }

@@ -1,0 +1,29 @@
+-- The pulses of a Mode A/C reply.
+use Prim.Native.Nat.{ℕ, zero, suc}
+use mathlib.Core.Bool.{Bool, true, false}
+use mathlib.Core.List.{List, [], _∷_, _++_}
+use Rattle.mode_ac.specs.Data.{bitOf}
+use Rattle.mode_ac.specs.Places.{placeOf}
+use Rattle.pulse_map.specs.declared.Pulses.{Pulses}
+use Rattle.pulse_map.specs.Map.{mapOf}
+
+-- 52 places with SPI, else 43
+unfoldable pub modeACLength : Bool → ℕ
+modeACLength true = 52
+modeACLength false = 43
+
+abbrev pub onlyIf : Bool → ℕ → List ℕ
+onlyIf true p = p ∷ []
+onlyIf false p = []
+
+-- the places of those bits that are set, of so many, from bit n on
+unfoldable pub dataPlaces : ℕ → ℕ → ℕ → List ℕ
+dataPlaces d zero n = []
+dataPlaces d (suc left) n = onlyIf (bitOf d n) (placeOf n) ++ dataPlaces d left (suc n)
+
+-- pulses 0, the twelve bits', 42, and 51 for SPI
+unfoldable pub modeACPlaces : ℕ → Bool → List ℕ
+modeACPlaces d spi = 0 ∷ (dataPlaces d 12 0 ++ (42 ∷ onlyIf spi 51))
+
+unfoldable pub modeACPulses : ℕ → Bool → Pulses
+modeACPulses d spi = mapOf (modeACPlaces d spi) (modeACLength spi)

@@ -1,0 +1,41 @@
+-- The pulses of a Mode S message.
+use Prim.Native.Nat.{ℕ, zero, suc, _+_, _-_, _*_, _/_, _%_, _^_}
+use mathlib.Core.Bool.{Bool, true, false}
+use mathlib.Core.List.{List, [], _∷_}
+use lib.ListN.{getD}
+use Rattle.pulse_map.specs.declared.Pulses.{Pulses}
+use Rattle.pulse_map.specs.Map.{mapOf}
+
+-- a long message has 112 bits, a short one 56
+unfoldable pub modeSBits : Bool → ℕ
+modeSBits true = 112
+modeSBits false = 56
+
+-- two places for each bit, after 16 for the preamble
+unfoldable pub modeSLength : Bool → ℕ
+modeSLength long = 16 + 2 * modeSBits long
+
+-- bit k of a byte, highest first
+unfoldable pub byteBit : ℕ → ℕ → ℕ
+byteBit x k = x / 2 ^ (7 - k) % 2
+
+-- bit n of a message
+unfoldable pub bitOf : List ℕ → ℕ → ℕ
+bitOf m n = byteBit (getD m (n / 8) 0) (n % 8)
+
+-- the pair of bit n, from place 16 on: its first place for 1, its second for 0
+abbrev pub pairPlace : ℕ → ℕ → ℕ
+pairPlace n zero = 16 + 2 * n + 1
+pairPlace n (suc b) = 16 + 2 * n
+
+-- a pulse for each of so many bits, from bit n on
+unfoldable pub bitPlaces : List ℕ → ℕ → ℕ → List ℕ
+bitPlaces m zero n = []
+bitPlaces m (suc left) n = pairPlace n (bitOf m n) ∷ bitPlaces m left (suc n)
+
+-- pulses 0, 2, 7, 9, then a pair per bit
+unfoldable pub modeSPlaces : List ℕ → Bool → List ℕ
+modeSPlaces m long = 0 ∷ 2 ∷ 7 ∷ 9 ∷ bitPlaces m (modeSBits long) 0
+
+unfoldable pub modeSPulses : List ℕ → Bool → Pulses
+modeSPulses m long = mapOf (modeSPlaces m long) (modeSLength long)

@@ -1,0 +1,54 @@
+-- The samples of a wave over pulses laid late are those of the reply.
+use Prim.Native.Nat.{ℕ, zero, suc, _≤_}
+use mathlib.Core.Path.{_≡_, refl, sym, ap, _∙_}
+use mathlib.Core.Bool.{Bool, cond}
+use mathlib.Core.List.{List, [], _∷_}
+use lib.Dec.{ltb}
+use lib.ListN.{length}
+use lib.Ieee.{Float}
+use Rattle.constants.specs.Rate.{four}
+use Rattle.message.specs.declared.ReplyKind.{ReplyKind}
+use Rattle.message.specs.declared.ReplyKind.the-variants.{Short, Long, ModeAc}
+use Rattle.message_config.specs.declared.Delays.{Delays}
+use Rattle.message_config.specs.declared.MessageConfig.{MessageConfig}
+use Rattle.message_config.specs.Config.{configClockPhase, configClockError, configRate, configPhase}
+use Rattle.filterbank.specs.declared.Clock.{Clock}
+use Rattle.filterbank.specs.LaidPulses.{late}
+use Rattle.filterbank.specs.Clocked.{stepOf, startClock, advance}
+use Rattle.filterbank.specs.Apply.{clockValues, limitOf, fuelOf, valueAt, applyFilterbank}
+use Rattle.filterbank.proofs.ValueAt.{value-late}
+use Rattle.reply_pulses.specs.ReplyPulses.{pulsesOf, placesOf}
+use Rattle.reply_samples.specs.Samples.{turned, samplesBy, prototypeOf, replySamples}
+use Rattle.reply_add.specs.Mirror.{isModeAC, lateValue, waveOf, waveSamples}
+use Rattle.reply_pulses.proofs.Places.{places-len, places-most}
+
+-- ---- the same value at every clock
+value-alike : (prototype : List Float) (pulses : List Bool) → length pulses ≤ 240 → (s : Clock) → lateValue prototype (late pulses) s ≡ valueAt four prototype pulses s
+unfolding lateValue
+value-alike prototype pulses h s = value-late four prototype pulses s h
+
+values-alike : (f g : Clock → Float) → ((s : Clock) → f s ≡ g s) → (fuel limit : ℕ) (d : Float) (s : Clock) → clockValues fuel limit d f s ≡ clockValues fuel limit d g s
+unfolding clockValues
+values-alike f g h zero limit d s = refl
+values-alike f g h (suc fuel) limit d s =
+    ap (λ (v : Float). cond (ltb (s .index) limit) (v ∷ clockValues fuel limit d f (advance d s)) []) (h s)
+    ∙ ap (λ (l : List Float). cond (ltb (s .index) limit) (g s ∷ l) []) (values-alike f g h fuel limit d (advance d s))
+
+pub wave-samples : (prototype : List Float) (delays : Delays) (amplitude : Float) (c : MessageConfig)
+    → waveSamples prototype (late (placesOf (c .reply))) (waveOf c amplitude delays (pulsesOf (c .reply) .len)) ≡ samplesBy four prototype delays amplitude c
+unfolding waveSamples waveOf samplesBy applyFilterbank
+wave-samples prototype delays amplitude c =
+    ap (λ (n : ℕ). turned amplitude (configRate four c) (configPhase four delays c) (clockValues (fuelOf four (limitOf n)) (limitOf n) (stepOf four (configClockError c)) (lateValue prototype (late (placesOf (c .reply)))) (startClock four (configClockPhase delays c)))) (sym (places-len (c .reply)))
+    ∙ ap (turned amplitude (configRate four c) (configPhase four delays c)) (values-alike (lateValue prototype (late (placesOf (c .reply)))) (valueAt four prototype (placesOf (c .reply))) (value-alike prototype (placesOf (c .reply)) (places-most (c .reply))) (fuelOf four (limitOf (length (placesOf (c .reply))))) (limitOf (length (placesOf (c .reply)))) (stepOf four (configClockError c)) (startClock four (configClockPhase delays c)))
+
+-- ---- the prototype of a kind
+kind-prototype : (k : ReplyKind) (modeS modeAC : List Float) → prototypeOf k modeS modeAC ≡ cond (isModeAC k) modeAC modeS
+unfolding prototypeOf isModeAC
+kind-prototype Short modeS modeAC = refl
+kind-prototype Long modeS modeAC = refl
+kind-prototype ModeAc modeS modeAC = refl
+
+pub samples-kind : (modeS modeAC : List Float) (delays : Delays) (amplitude : Float) (c : MessageConfig) (b : Bool) → isModeAC (c .reply .kind) ≡ b → samplesBy four (cond b modeAC modeS) delays amplitude c ≡ replySamples four modeS modeAC delays amplitude c
+unfolding replySamples
+samples-kind modeS modeAC delays amplitude c b e =
+    ap (λ (t : Bool). samplesBy four (cond t modeAC modeS) delays amplitude c) (sym e) ∙ ap (λ (p : List Float). samplesBy four p delays amplitude c) (sym (kind-prototype (c .reply .kind) modeS modeAC))

@@ -1,0 +1,79 @@
+-- `fill_values` meets its contract. The invariant: what is written and what is left to write come to all values.
+use borrow.Author.Needs.{needs}
+use Prim.Native.Nat.{_≤_, _-_, _*_}
+use mathlib.Core.Path.{_≡_}
+use mathlib.Core.List.{_++_}
+use lib.ListN.{length, take, length-set}
+use Rattle.filterbank.specs.Apply.{clockValues}
+use Rattle.reply_add.specs.Mirror.{lateValue, lateValues}
+use Rattle.reply_add.proofs.Filling.{fill-first, fill-next, fill-stop, fill-full}
+use Rattle.reply_add.proofs.fill_values.Statement.{statement}
+use Rattle.reply_add.proofs.fill_values.Tie as tie
+
+abbrev Inv-loop : tie.InvT-loop
+Inv-loop prototype laid step limit values₀ fuel clock₀ n₀ values clock n =
+    (n ≤ fuel)
+    × (length values ≡ 1968)
+    × (take n values ++ clockValues (fuel - n) limit step (lateValue prototype laid) clock ≡ lateValues prototype laid limit step clock₀)
+
+abbrev μ-loop : tie.MeasureT-loop
+μ-loop prototype laid step limit values₀ fuel clock₀ n₀ values clock n = fuel - n
+
+mul-fuel : tie.Need-mul-fuel Inv-loop μ-loop
+mul-fuel c = search needs
+
+loop-holds : tie.Need-loop-holds Inv-loop μ-loop
+loop-holds c =
+    let a = c .before .before .args in
+    (search needs, search needs, fill-first (lateValue (a .prototype .now) (a .laid .now)) (a .limit) (a .step) (8 * a .limit) (a .values .now) (a .first))
+
+same-length : tie.Need-same-length Inv-loop μ-loop
+same-length c = search needs
+
+returns : tie.Need-returns Inv-loop μ-loop
+returns c =
+    let l = c .before .before .before .loop in
+    let a = c .before .before .before .before .before .before .args in
+    (fill-stop (lateValue (a .prototype .now) (a .laid .now)) (a .limit) (a .step) (8 * a .limit - l .n) (l .n) (l .values) (l .clock) _ (c .if1 .taken) (l .inv .2), search needs, l .inv .1)
+
+value-at-requires : tie.Need-value-at-requires Inv-loop μ-loop
+value-at-requires c κs = search needs
+
+mul-values : tie.Need-mul-values Inv-loop μ-loop
+mul-values c = search needs
+
+slice-write-values : tie.Need-slice-write-values Inv-loop μ-loop
+slice-write-values c = search needs
+
+advance-requires : tie.Need-advance-requires Inv-loop μ-loop
+advance-requires c κs = search needs
+
+add-n : tie.Need-add-n Inv-loop μ-loop
+add-n c = search needs
+
+loop-less : tie.Need-loop-less Inv-loop μ-loop
+loop-less c = search needs
+
+loop-again : tie.Need-loop-again Inv-loop μ-loop
+loop-again c =
+    let i = c .before .before in
+    let t = i .before .before in
+    let l = t .before .loop in
+    let b = t .before .before .before .before in
+    let a = b .args in (
+      search needs,
+      simp length-set (search needs),
+      fill-next (lateValue (a .prototype .now) (a .laid .now)) (a .limit) (a .step) (8 * a .limit) (l .n) (l .values) (l .clock) _ _ _ (t .loop-test .taken) (search needs) (i .if1 .left) (b .pre .1) (c .before .value-at .ensures) (c .advance .ensures) (l .inv .2),
+    )
+
+same-length-2 : tie.Need-same-length-2 Inv-loop μ-loop
+same-length-2 c = search needs
+
+returns-2 : tie.Need-returns-2 Inv-loop μ-loop
+returns-2 c =
+    let l = c .before .loop in
+    let a = c .before .before .before .before .args in
+    (fill-full (lateValue (a .prototype .now) (a .laid .now)) (a .limit) (a .step) (8 * a .limit) (l .n) (l .values) (l .clock) _ (c .loop-test .left) (l .inv .2), search needs, l .inv .1)
+
+pub fill-values-spec : {M : Type 1} → statement M
+fill-values-spec = tie.close (tie.spec Inv-loop μ-loop mul-fuel loop-holds same-length returns value-at-requires mul-values slice-write-values advance-requires add-n loop-less loop-again same-length-2 returns-2)

@@ -1,0 +1,54 @@
+-- What functions within this crate give, as their contracts name it. No public contract cites this file.
+use Prim.Native.Nat.{ℕ}
+use mathlib.Core.Path.{_≡_}
+use mathlib.Core.Bool.{Bool, true, false}
+use mathlib.Core.List.{List}
+use lib.ListN.{length}
+use lib.Ieee.{Float}
+use Rattle.constants.specs.Rate.{four}
+use Rattle.message.specs.declared.ReplyKind.{ReplyKind}
+use Rattle.message.specs.declared.ReplyKind.the-variants.{Short, Long, ModeAc}
+use Rattle.message_config.specs.declared.Delays.{Delays}
+use Rattle.message_config.specs.declared.MessageConfig.{MessageConfig}
+use Rattle.message_config.specs.Config.{configClockPhase, configClockError, configRate, configPhase}
+use Rattle.filterbank.specs.declared.Clock.{Clock}
+use Rattle.filterbank.specs.Taps.{filterTaps}
+use Rattle.filterbank.specs.LaidPulses.{lateSum}
+use Rattle.filterbank.specs.Clocked.{stepOf, startClock}
+use Rattle.filterbank.specs.Apply.{clockValues, limitOf, fuelOf}
+use Rattle.reply_samples.specs.declared.Sample.{Sample}
+use Rattle.reply_add.specs.declared.Wave.{Wave}
+use Rattle.reply_samples.specs.Samples.{turned}
+use Rattle.reply_samples.specs.Added.{addedReply, addedCount}
+
+unfoldable pub isModeAC : ReplyKind → Bool
+isModeAC Short = false
+isModeAC Long = false
+isModeAC ModeAc = true
+
+-- the filterbank's value at a clock, over pulses laid late
+unfoldable pub lateValue : List Float → List Bool → Clock → Float
+lateValue prototype laid clock = lateSum (filterTaps four prototype (clock .phase)) laid (clock .index)
+
+-- the filterbank's values from a clock on, over pulses laid late
+abbrev pub lateValues : List Float → List Bool → ℕ → Float → Clock → List Float
+lateValues prototype laid limit step first = clockValues (fuelOf four limit) limit step (lateValue prototype laid) first
+
+-- the wave of a message whose reply has so many places
+unfoldable pub waveOf : MessageConfig → Float → Delays → ℕ → Wave
+waveOf c amplitude delays len =
+    record {
+      clock = startClock four (configClockPhase delays c);
+      step = stepOf four (configClockError c);
+      phase = configPhase four delays c;
+      rate = configRate four c;
+      amplitude = amplitude;
+      limit = limitOf len;
+    }
+
+unfoldable pub waveSamples : List Float → List Bool → Wave → List Sample
+waveSamples prototype laid w = turned (w .amplitude) (w .rate) (w .phase) (lateValues prototype laid (w .limit) (w .step) (w .clock))
+
+-- samples added into memory from a place on, and their number answered
+abbrev pub Adds : List Float → ℕ → List Sample → List Float → ℕ → Type 0
+Adds m place zs m′ r = (m′ ≡ addedReply four m place zs) × (r ≡ addedCount four m place (length zs))

@@ -1,0 +1,126 @@
+// Samples that are due, written at once from working memory: the memory's numbers with their noise go to output, and their places are cleared.
+ghost use mathlib.Core.Path.{_≡_};
+ghost use Prim.Native.Nat.{_+_, _*_, _/_, _%_, _≤_, _<_, min};
+ghost use lib.ListN.{length, drop, take};
+ghost use Rattle.run_theory.specs.Buffers.{laid};
+ghost use Rattle.run_due_samples.specs.Due.{mix, zeros, samplesOf, clearOf, fitsOf, Lent, dueOf};
+
+// Writes a stretch of the memory with its noise.
+fn mix_stretch(
+    memory: &[f32],
+    noise: &[f32],
+    output: &mut [f32],
+    p: usize,
+    from: usize,
+    at: usize,
+    len: usize,
+)
+    requires { ⌜ (p + len ≤ length (now memory)) × (from + len ≤ length (now noise)) × (at + len ≤ length (now output)) ⌝ }
+    ensures { λ _. ⌜ now (output .exit) ≡ laid at (mix (drop p (now (memory .entry))) (take len (drop from (now (noise .entry))))) (now (output .entry)) ⌝ }
+{
+    let mut i: usize = 0;
+    while i < len {
+        output[at + i] = memory[p + i] + noise[from + i] * 0.0009765625;
+        i = i + 1;
+    }
+}
+
+// Clears a stretch of the memory.
+fn clear_stretch(memory: &mut [f32], p: usize, len: usize)
+    requires { ⌜ p + len ≤ length (now memory) ⌝ }
+    ensures { λ _. ⌜ now (memory .exit) ≡ laid p (zeros len) (now (memory .entry)) ⌝ }
+{
+    let mut i: usize = 0;
+    while i < len {
+        memory[p + i] = 0.0;
+        i = i + 1;
+    }
+}
+
+// Writes a stretch of the memory with its noise, and clears it: by two loops, so that the clearing is one call of `memset`.
+fn stretch(
+    memory: &mut [f32],
+    noise: &[f32],
+    output: &mut [f32],
+    p: usize,
+    from: usize,
+    at: usize,
+    len: usize,
+)
+    requires { ⌜ (p + len ≤ length (now memory)) × (from + len ≤ length (now noise)) × (at + len ≤ length (now output)) ⌝ }
+    ensures { λ _. ⌜ (now (output .exit) ≡ laid at (mix (drop p (now (memory .entry))) (take len (drop from (now (noise .entry))))) (now (output .entry))) × (now (memory .exit) ≡ laid p (zeros len) (now (memory .entry))) ⌝ }
+{
+    mix_stretch(memory, noise, output, p, from, at, len);
+    clear_stretch(memory, p, len);
+}
+
+fn least(a: usize, b: usize) -> usize
+    ensures { λ r. ⌜ r ≡ min a b ⌝ }
+{
+    if a < b { a } else { b }
+}
+
+// The place of a sample in the memory.
+fn ring(n: u64) -> usize
+    ensures { λ r. ⌜ r ≡ n % 1126 ⌝ }
+{
+    (n % 1126) as usize
+}
+
+// Writes samples from sample `written` on, two numbers each, stretch by stretch.
+fn write_all(
+    memory: &mut [f32],
+    noise: &[f32],
+    output: &mut [f32],
+    written: u64,
+    from: usize,
+    at: usize,
+    values: usize,
+)
+    requires { ⌜ (length (now memory) ≡ 2252) × (values % 2 ≡ 0) × (from + values ≤ length (now noise)) × (at + values ≤ length (now output)) ⌝ }
+    ensures { λ _. ⌜ (now (output .exit) ≡ laid at (samplesOf (now (memory .entry)) written (take values (drop from (now (noise .entry))))) (now (output .entry))) × (now (memory .exit) ≡ clearOf (now (memory .entry)) written (values / 2)) ⌝ }
+{
+    let mut p = 2 * ring(written);
+    let mut done: usize = 0;
+    while done < values {
+        let len = least(2252 - p, values - done);
+        stretch(memory, noise, output, p, from + done, at + done, len);
+        done = done + len;
+        p = 0;
+    }
+}
+
+// Memory has its length, and noise and output hold so many samples and n more.
+fn fits(memory: usize, noise: usize, output: usize, samples: usize, n: usize) -> bool
+    ensures { λ r. ⌜ r ≡ fitsOf memory noise output samples n ⌝ }
+{
+    if memory != 2252 {
+        return false;
+    }
+    let room = least(noise, output) / 2;
+    if room < samples {
+        return false;
+    }
+    if room - samples < n {
+        return false;
+    }
+    true
+}
+
+// Writes n samples that are due, after so many of the call. Where what is lent does not hold them, nothing is changed.
+pub fn write_due(
+    memory: &mut [f32],
+    noise: &[f32],
+    output: &mut [f32],
+    written: u64,
+    samples: usize,
+    n: usize,
+)
+    ensures { λ _. ⌜ record { memory = now (memory .exit); output = now (output .exit) } ≡ dueOf (now (noise .entry)) written samples n (record { memory = now (memory .entry); output = now (output .entry) }) ⌝ }
+{
+    if !fits(memory.len(), noise.len(), output.len(), samples, n) {
+        return;
+    }
+    let at = 2 * samples;
+    write_all(memory, noise, output, written, at, at, 2 * n);
+}

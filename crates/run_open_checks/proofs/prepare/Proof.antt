@@ -1,0 +1,29 @@
+-- `prepare` meets its contract.
+use Rattle.run_open_checks.specs.Opening.{half}
+use Rattle.run_open_checks.proofs.Decided.{prepared}
+use borrow.Author.Needs.{needs}
+use Rattle.run_open_checks.proofs.prepare.Statement.{statement}
+use Rattle.run_open_checks.proofs.prepare.Tie as tie
+
+mode-s-prototype-requires : tie.Need-mode-s-prototype-requires
+mode-s-prototype-requires c κs = search needs
+
+mode-ac-prototype-requires : tie.Need-mode-ac-prototype-requires
+mode-ac-prototype-requires c κs = search needs
+
+slice-aggregate-judge : tie.Need-slice-aggregate-judge
+slice-aggregate-judge c = search needs
+
+slice-aggregate-judge-2 : tie.Need-slice-aggregate-judge-2
+slice-aggregate-judge-2 c = search needs
+
+judge-requires : tie.Need-judge-requires
+judge-requires c κs = (c .before .before .before .mode-s-prototype .ensures, c .before .before .mode-ac-prototype .ensures)
+
+returns : tie.Need-returns
+returns c =
+    let a = c .before .before .before .before .before .before .before .before .args in
+    prepared half (a .taps-s .now) (a .taps-ac .now) (a .settings .now) (a .mode-s) (a .mode-ac) (a .memory) (c .judge .ensures) (c .before .before .before .before .mode-s-prototype .ensures) (c .before .before .before .mode-ac-prototype .ensures)
+
+pub prepare-spec : {M : Type 1} → statement M
+prepare-spec = tie.close (tie.spec mode-s-prototype-requires mode-ac-prototype-requires slice-aggregate-judge slice-aggregate-judge-2 judge-requires returns)

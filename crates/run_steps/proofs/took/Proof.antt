@@ -1,0 +1,17 @@
+-- `took` meets its contract.
+use borrow.Author.Needs.{needs}
+use Rattle.run_steps.proofs.Joined.{took-is}
+use Rattle.run_steps.proofs.took.Statement.{statement}
+use Rattle.run_steps.proofs.took.Tie as tie
+
+wrapping-add-usize-requires : tie.Need-wrapping-add-usize-requires
+wrapping-add-usize-requires c κs = search needs
+
+wrapping-add-usize-requires-2 : tie.Need-wrapping-add-usize-requires-2
+wrapping-add-usize-requires-2 c κs = search needs
+
+returns : tie.Need-returns
+returns c = took-is _ _ _ _ _ _ (c .before .wrapping-add-usize .ensures) (c .wrapping-add-usize2 .ensures)
+
+pub took-spec : {M : Type 1} → statement M
+took-spec = tie.close (tie.spec wrapping-add-usize-requires wrapping-add-usize-requires-2 returns)

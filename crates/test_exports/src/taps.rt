@@ -1,0 +1,54 @@
+// The filterbank under C names, for the differential harness to call: each function only calls, and promises what it calls promises.
+ghost use mathlib.Core.Path.{_≡_};
+ghost use lib.ListN.{take};
+ghost use Rattle.constants.specs.Rate.{four};
+ghost use Rattle.filterbank.specs.Taps.{filterTaps};
+ghost use Rattle.filterbank.specs.LaidPulses.{late, lateSum};
+ghost use Rattle.filterbank.specs.Clocked.{stepOf, startClock, advance, in64};
+use filterbank::Clock;
+
+#[no_mangle]
+pub extern "C" fn port_filter_taps(prototype: &[f32], phase: f64, out: &mut [f32; 7])
+    ensures { λ _. ⌜ now (out .exit) ≡ filterTaps four (now (prototype .entry)) phase ⌝ }
+{
+    let taps = filterbank::filter_taps(prototype, phase);
+    *out = taps;
+}
+
+// The sum at a place, of the first `len` places as `lay_late` lays them.
+#[no_mangle]
+pub extern "C" fn port_pulse_sum(taps: &[f32; 7], on: &[bool; 240], len: usize, index: usize) -> f32
+    ensures { λ r. ⌜ r ≡ lateSum (now (taps .entry)) (late (take len (now (on .entry)))) index ⌝ }
+{
+    let t = *taps;
+    let places = *on;
+    let laid = filterbank_apply::lay_late(places, len);
+    filterbank_apply::pulse_sum(t, &laid, index)
+}
+
+// The clock before the first sample: its phase, and in `index` its index.
+#[no_mangle]
+pub extern "C" fn port_start_clock(phase: f64, index: &mut usize) -> f64
+    ensures { λ r. ⌜ (r ≡ startClock four phase .phase) × (now (index .exit) ≡ startClock four phase .index) ⌝ }
+{
+    let clock = filterbank_apply::start_clock(phase);
+    *index = clock.index;
+    clock.phase
+}
+
+// The phase after one sample more of a clock with an error, and the index.
+#[no_mangle]
+pub extern "C" fn port_next_clock(phase: f64, error: f64, index: &mut usize) -> f64
+    ensures { λ r. ⌜ (r ≡ in64 (advance (stepOf four error) (record { phase = phase; index = now (index .entry) })) .phase) × (now (index .exit) ≡ in64 (advance (stepOf four error) (record { phase = phase; index = now (index .entry) })) .index) ⌝ }
+{
+    let at = *index;
+    let next = filterbank_apply::advance(
+        Clock {
+            phase: phase,
+            index: at,
+        },
+        filterbank_apply::clock_step(error),
+    );
+    *index = next.index;
+    next.phase
+}
