@@ -10,7 +10,7 @@ use native.Mathlib.Numerals.{add-one, unary-clauses}
 use lib.ListN.{length, getD, set, take, drop, replicate, length-take}
 use lib.Seq.{paste, paste-zero, paste-suc, take-all}
 pub use Rattle.float_rounding.proofs.Size.{le-or-lt}
-use Rattle.filterbank.specs.LaidPulses.{late}
+use Rattle.filterbank.specs.PaddedPulsesModel.{late}
 
 -- the places before the loop, all off
 abbrev pub off : List Bool

@@ -10,7 +10,7 @@ use lib.ListN.{length, getD, replicate, List·getD-append, List·getD-eq-default
 use lib.Seq.{getD-append-add}
 use lib.Ieee.{Float, binary32, ofBits, add}
 use Rattle.filterbank.specs.PulseSum.{sumWhere, pulseBack, pulseSum}
-use Rattle.filterbank.specs.LaidPulses.{late, lateSum}
+use Rattle.filterbank.specs.PaddedPulsesModel.{late, lateSum}
 use Rattle.filterbank.proofs.Laid.{le-or-lt}
 
 -- ---- places of a list that are off at its end

@@ -16,7 +16,7 @@ use Rattle.filterbank.specs.declared.Clock.{Clock}
 use Rattle.filterbank.specs.Taps.{one, scaled, branchOf, tauOf, branch, nextBranch, between, filterTaps}
 use Rattle.pulse_shape.specs.Values.{valuesFrom}
 use Rattle.filterbank.specs.PulseSum.{sumWhere}
-use Rattle.filterbank.specs.LaidPulses.{lateSum}
+use Rattle.filterbank.specs.PaddedPulsesModel.{lateSum}
 use Rattle.filterbank.specs.Clocked.{stepOf, startClock, settle, advance, in64}
 
 -- 256.0, 1.0 and 4.0

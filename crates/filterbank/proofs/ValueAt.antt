@@ -12,7 +12,7 @@ use Rattle.pulse_shape.proofs.Whole.{length-values}
 use Rattle.filterbank.specs.declared.Clock.{Clock}
 use Rattle.filterbank.specs.Taps.{branchOf, tauOf, branch, nextBranch, between, filterTaps}
 use Rattle.filterbank.specs.PulseSum.{pulseSum}
-use Rattle.filterbank.specs.LaidPulses.{late, lateSum}
+use Rattle.filterbank.specs.PaddedPulsesModel.{late, lateSum}
 use Rattle.filterbank.specs.Apply.{valueAt}
 use Rattle.filterbank.proofs.LateSum.{late-sum}
 

@@ -1,5 +1,5 @@
 pub mod Taps
 pub mod PulseSum
-pub mod LaidPulses
+pub mod PaddedPulsesModel
 pub mod Clocked
 pub mod Apply

@@ -5,7 +5,7 @@ ghost use Rattle.filterbank.specs.Clocked.{stepOf, startClock, advance as advan
 ghost use mathlib.Core.Bool.{cond};
 ghost use lib.ListN.{take};
 ghost use lib.Ieee.{binary32, add};
-ghost use Rattle.filterbank.specs.LaidPulses.{late, lateSum};
+ghost use Rattle.filterbank.specs.PaddedPulsesModel.{late, lateSum};
 use constants::least;
 use filterbank::Clock;
 

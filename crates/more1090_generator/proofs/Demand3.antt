@@ -14,9 +14,9 @@ use Rattle.run_open_checks.specs.Opening as Opening
 use Rattle.run_call.specs.declared.State.{State}
 use Rattle.run_call.specs.declared.Counts.{Counts}
 use Rattle.run_call.specs.declared.Answer as Answer
-use Rattle.run_call.specs.Ended.{Left}
-use Rattle.run_call.specs.Calls.{runLeft}
-use Rattle.run_call.specs.Handed.{Lent, runsLeft}
+use Rattle.run_call.specs.Buffers.{Left, Lent}
+use Rattle.run_call.specs.CallModel.{runLeft}
+use Rattle.run_call.specs.Calls.{runsLeft}
 use Rattle.run_theorem.specs.Seen.{Numbered, stopped, refused, Seen, answerSeen, seenLeft, countsOf, answerOf, seenResult}
 use Rattle.run_theorem.specs.OpenedRuns.{Run, Opens, calls, gen, results, lastState, Demand3}
 use Rattle.run_theorem.proofs.Demand3.{opened-runs}

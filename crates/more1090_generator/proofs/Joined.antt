@@ -16,8 +16,9 @@ use Rattle.run_steps.specs.declared.Stop.{Stop}
 use Rattle.run_call.specs.declared.Counts.{Counts}
 use Rattle.run_call.specs.declared.Answer as Answer
 use Rattle.run_call.specs.declared.Ran.{Ran}
-use Rattle.run_call.specs.Ended.{Left, stopNumber}
-use Rattle.run_call.specs.Calls.{runLeft}
+use Rattle.run_call.specs.Buffers.{Left}
+use Rattle.run_call.specs.Given.{stopNumber}
+use Rattle.run_call.specs.CallModel.{runLeft}
 use Rattle.more1090_generator.specs.declared.FlatDistribution.{FlatDistribution}
 use Rattle.more1090_generator.specs.declared.FlatState.{FlatState}
 use Rattle.more1090_generator.specs.declared.FlatOpened.{FlatOpened}

@@ -9,8 +9,8 @@ use Rattle.run_theory.specs.PlainBench as Bench
 use Rattle.run_open_checks.specs.declared.Opened as Opened
 use Rattle.run_open_checks.specs.Opening as Opening
 use Rattle.run_call.specs.declared.State.{State}
-use Rattle.run_call.specs.Ended.{Left, leftBy, callLeft}
-use Rattle.run_call.specs.Calls.{refusedBy, runBy, callRefusal, runLeft}
+use Rattle.run_call.specs.Buffers.{Left}
+use Rattle.run_call.specs.CallModel.{leftBy, callLeft, refusedBy, runBy, callRefusal, runLeft}
 use Rattle.more1090_generator.specs.States.{flatOf, stateFrom}
 use Rattle.more1090_generator.specs.Answers.{openedFlat, told, answered, ranFlat, FlatLeft, leftFlat, flatRunLeft}
 use Rattle.more1090_generator.proofs.StateBack.{state-back}

@@ -9,9 +9,9 @@ use Rattle.run_open_checks.specs.declared.Opened as Opened
 use Rattle.run_call.specs.declared.Counts.{Counts}
 use Rattle.run_call.specs.declared.Answer as Answer
 use Rattle.run_call.specs.declared.Ran.{Ran}
-use Rattle.run_call.specs.Ended.{stopNumber, Left}
-use Rattle.run_call.specs.Calls.{runLeft}
-use Rattle.run_call.specs.Handed.{Lent}
+use Rattle.run_call.specs.Buffers.{Left, Lent}
+use Rattle.run_call.specs.Given.{stopNumber}
+use Rattle.run_call.specs.CallModel.{runLeft}
 use Rattle.more1090_generator.specs.declared.FlatState.{FlatState}
 use Rattle.more1090_generator.specs.declared.FlatOpened.{FlatOpened}
 use Rattle.more1090_generator.specs.declared.FlatAnswer.{FlatAnswer}

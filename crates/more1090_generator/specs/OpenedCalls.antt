@@ -5,7 +5,7 @@ use mathlib.Core.List.{List, [], _∷_, map}
 use Prim.Native.Nat.{ℕ}
 use lib.Ieee.{Float}
 use Rattle.constants.specs.Rate.{four}
-use Rattle.run_call.specs.Handed.{Lent}
+use Rattle.run_call.specs.Buffers.{Lent}
 use Rattle.run_open_checks.specs.Opening as Opening
 use Rattle.run_theorem.specs.OpenedRuns.{Run, Opens, calls, results, bench, stateAfter, Demand3}
 use Rattle.more1090_generator.specs.declared.FlatState.{FlatState}

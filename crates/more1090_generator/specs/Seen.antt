@@ -5,7 +5,7 @@ use lib.Ieee.{Float}
 use lib.ListN.{getD}
 use Rattle.run_theory.specs.PlainBench as Bench
 use Rattle.run_call.specs.declared.State.{State}
-use Rattle.run_call.specs.Generated.{genOf}
+use Rattle.run_call.specs.StateGenerator.{genOf}
 use Rattle.more1090_generator.specs.declared.FlatAnswer.{FlatAnswer}
 use Rattle.more1090_generator.specs.Answers.{FlatLeft}
 

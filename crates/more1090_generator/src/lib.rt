@@ -4,7 +4,7 @@ ghost use mathlib.Core.Bool.{cond};
 ghost use Rattle.constants.specs.Rate.{four};
 ghost use Rattle.run_open_checks.specs.Opening.{half, openedOf, leftBy};
 ghost use Rattle.more1090_generator.specs.States.{carrierFlat, phaseFlat, clockFlat, carrierFrom, phaseFrom, clockFrom, flatOf, stateFrom, noState};
-ghost use Rattle.run_call.specs.Ended.{stopNumber};
+ghost use Rattle.run_call.specs.Given.{stopNumber};
 ghost use Rattle.more1090_generator.specs.Answers.{valuesFlat, openedFlat, answered, ranFlat, flatRunLeft};
 use distributions::CarrierOffset;
 use distributions::CarrierPhase;

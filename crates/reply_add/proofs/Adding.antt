@@ -15,17 +15,17 @@ use Rattle.pulse_map.specs.declared.Pulses.{Pulses}
 use Rattle.message_config.specs.declared.Onset.{Onset}
 use Rattle.message_config.specs.Config.{onsetOf}
 use Rattle.filterbank.specs.declared.Clock.{Clock}
-use Rattle.filterbank.specs.LaidPulses.{late}
+use Rattle.filterbank.specs.PaddedPulsesModel.{late}
 use Rattle.filterbank.specs.Clocked.{stepOf, startClock}
 use Rattle.filterbank.specs.Apply.{limitOf}
 use Rattle.reply_pulses.specs.ReplyPulses.{pulsesOf, placesOf}
 use Rattle.reply_pulses.proofs.Places.{len-most}
 use Rattle.reply_samples.specs.declared.Sample.{Sample}
 use Rattle.reply_samples.specs.Samples.{turned, samplesBy, replySamples, replyCount}
-use Rattle.reply_samples.specs.Added.{addedReply, addedCount}
+use Rattle.reply_samples.specs.RingModel.{addedReply, addedCount}
 use Rattle.reply_samples.proofs.Counts.{turned-length, samples-counted}
 use Rattle.reply_add.specs.declared.Wave.{Wave}
-use Rattle.reply_add.specs.Mirror.{Adds, isModeAC, lateValues, waveOf, waveSamples}
+use Rattle.reply_add.specs.AddModel.{Adds, isModeAC, lateValues, waveOf, waveSamples}
 use Rattle.reply_add.proofs.LateWave.{wave-samples, samples-kind}
 
 pub pulses-most : (r : Reply) (p : Pulses) → p ≡ pulsesOf r → p .len ≤ 240

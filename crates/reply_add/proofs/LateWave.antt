@@ -13,13 +13,13 @@ use Rattle.message_config.specs.declared.Delays.{Delays}
 use Rattle.message_config.specs.declared.MessageConfig.{MessageConfig}
 use Rattle.message_config.specs.Config.{configClockPhase, configClockError, configRate, configPhase}
 use Rattle.filterbank.specs.declared.Clock.{Clock}
-use Rattle.filterbank.specs.LaidPulses.{late}
+use Rattle.filterbank.specs.PaddedPulsesModel.{late}
 use Rattle.filterbank.specs.Clocked.{stepOf, startClock, advance}
 use Rattle.filterbank.specs.Apply.{clockValues, limitOf, fuelOf, valueAt, applyFilterbank}
 use Rattle.filterbank.proofs.ValueAt.{value-late}
 use Rattle.reply_pulses.specs.ReplyPulses.{pulsesOf, placesOf}
 use Rattle.reply_samples.specs.Samples.{turned, samplesBy, prototypeOf, replySamples}
-use Rattle.reply_add.specs.Mirror.{isModeAC, lateValue, waveOf, waveSamples}
+use Rattle.reply_add.specs.AddModel.{isModeAC, lateValue, waveOf, waveSamples}
 use Rattle.reply_pulses.proofs.Places.{places-len, places-most}
 
 -- ---- the same value at every clock

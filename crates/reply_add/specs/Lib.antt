@@ -1,1 +1,1 @@
-pub mod Mirror
+pub mod AddModel

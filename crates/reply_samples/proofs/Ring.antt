@@ -13,7 +13,7 @@ use lib.Ieee.{Float}
 use Rattle.constants.specs.Rate.{four}
 use Rattle.filterbank.proofs.Laid.{le-or-lt}
 use Rattle.reply_samples.specs.declared.Sample.{Sample}
-use Rattle.reply_samples.specs.Added.{ringPlaces, addedAt, nextPlace, addedFrom, isPlace, addedReply}
+use Rattle.reply_samples.specs.RingModel.{ringPlaces, addedAt, nextPlace, addedFrom, isPlace, addedReply}
 use Rattle.reply_samples.proofs.Turns.{added-length}
 
 -- among W places the next is one more, and 0 after the last

@@ -17,7 +17,7 @@ use Rattle.math.specs.Phase.{phaseWrapOnce}
 use Rattle.math.specs.Carrier.{sinCos}
 use Rattle.reply_samples.specs.declared.Sample.{Sample}
 use Rattle.reply_samples.specs.Samples.{sampleAt, turned}
-use Rattle.reply_samples.specs.Added.{addedAt, nextPlace, addedFrom, isPlace, addedReply, addedCount}
+use Rattle.reply_samples.specs.RingModel.{addedAt, nextPlace, addedFrom, isPlace, addedReply, addedCount}
 
 -- ---- the functions that the loop calls
 pub next-on : (p : ℕ) → p < 1125 → p + 1 ≡ nextPlace four p

@@ -6,7 +6,7 @@ ghost use lib.ListN.{length, getD, set};
 ghost use lib.Ieee.{binary32, nan, add};
 ghost use Rattle.constants.specs.Rate.{four};
 ghost use Rattle.reply_samples.specs.Samples.{sampleAt, turned};
-ghost use Rattle.reply_samples.specs.Added.{addedAt, nextPlace, addedFrom, addedReply, addedCount};
+ghost use Rattle.reply_samples.specs.RingModel.{addedAt, nextPlace, addedFrom, addedReply, addedCount};
 
 // A complex sample.
 pub struct Sample {

@@ -2,8 +2,8 @@
 ghost use mathlib.Core.Path.{_≡_};
 ghost use Prim.Native.Nat.{_%_};
 ghost use Rattle.constants.specs.Rate.{four};
-ghost use Rattle.reply_samples.specs.Added.{ringPlaces};
-ghost use Rattle.run_add_reply.specs.Recorded.{memoryWith, recordsWith};
+ghost use Rattle.reply_samples.specs.RingModel.{ringPlaces};
+ghost use Rattle.run_add_reply.specs.RecordedModel.{memoryWith, recordsWith};
 use message_config::Delays;
 use message_config::MessageConfig;
 

@@ -11,8 +11,8 @@ use lib.Ieee.{Float, nan}
 use borrow.Author.Tests.{le-leb, eq-eqb, lt-ltb}
 use Rattle.constants.specs.Rate.{four}
 use Rattle.le_read.specs.LeBytes as LeBytes
-use Rattle.run_theory.specs.Machine.{put}
-use Rattle.run_theory.specs.Buffers.{laid}
+use Rattle.run_call_model.specs.Machine.{put}
+use Rattle.run_call_model.specs.Buffers.{laid}
 use Rattle.message_config.specs.declared.Delays.{Delays}
 use Rattle.message_config.specs.declared.MessageConfig.{MessageConfig}
 use Rattle.settings.specs.declared.Distributions.{Distributions}
@@ -23,10 +23,10 @@ use Rattle.draw_config.proofs.Message.{completed-is}
 use Rattle.reply_record.specs.Record.{recordBytes, recordAt}
 use Rattle.reply_samples.specs.declared.Sample.{Sample}
 use Rattle.reply_samples.specs.Samples.{replySamples, replyCount}
-use Rattle.reply_samples.specs.Added.{addedAt, addedFrom, isPlace, addedReply, addedCount}
+use Rattle.reply_samples.specs.RingModel.{addedAt, addedFrom, isPlace, addedReply, addedCount}
 use Rattle.reply_samples.proofs.Ring.{next-ring}
 use Rattle.reply_samples.proofs.Counts.{samples-counted}
-use Rattle.run_add_reply.specs.Recorded.{messageAt, memoryWith, recordsWith}
+use Rattle.run_add_reply.specs.RecordedModel.{messageAt, memoryWith, recordsWith}
 use Rattle.run_generator.specs.Real.{pairOf, Filters, real}
 
 module _ (f : Filters) (total : ℕ) where

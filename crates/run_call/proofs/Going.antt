@@ -6,16 +6,19 @@ use native.Mathlib.Omega.{arith}
 use lib.ListN.{length, take, drop, length-drop}
 use lib.Seq.{take-all}
 use lib.Ieee.{Float, nan}
-use Rattle.run_theory.specs.Turns as Theory
+use Rattle.run_call_model.specs.Turns as Theory
 use Rattle.run_call.specs.declared.State.{State}
 use Rattle.run_steps.specs.declared.Turn.{Turn}
 use Rattle.run_steps.specs.declared.Next as Next
 use Rattle.run_steps.specs.declared.Stop as Stop
 use Rattle.run_call.specs.declared.Answer as Answer
 use Rattle.run_call.specs.declared.Ran.{Ran}
-use Rattle.run_steps.specs.Plans.{stopRead}
-use Rattle.run_call.specs.Turns.{genOf, Inside, turnRead, restAfter, Went, StepSays}
-use Rattle.run_call.specs.Ended.{stopGiven, firstBy, ranBy, Left, leftBy, callLeft}
+use Rattle.run_steps.specs.PlanModel.{stopRead}
+use Rattle.run_call.specs.StepModel.{Inside, turnRead, restAfter, Went, StepSays}
+use Rattle.run_call.specs.StateGenerator.{genOf}
+use Rattle.run_call.specs.Buffers.{Left}
+use Rattle.run_call.specs.CallModel.{firstBy, ranBy, leftBy, callLeft}
+use Rattle.run_call.specs.Given.{stopGiven}
 
 given-read : (w : Stop.Stop) → stopGiven (stopRead w) ≡ w
 unfolding stopGiven stopRead

@@ -7,8 +7,8 @@ use lib.ListN.{length}
 use Rattle.run_theory.specs.Generator.{Generator, Sample, silence, add}
 use Rattle.run_theory.specs.PlainRun.{Kind, ignored, ends, reply}
 use Rattle.run_theory.specs.PlainBench.{Refusal, Call, Lent, lentOf, Step, halt, drain, due, taking, refusalOf, fuel}
-use Rattle.run_theory.specs.Machine.{later, window, rd, wr, put, State, Ran, stateStep, wrote, took, noted, machineOn, machineSteps, machineCall, machineRun}
-use Rattle.run_theory.proofs.Ring.{length-wr}
+use Rattle.run_call_model.specs.Machine.{later, window, rd, wr, put, State, Ran, stateStep, wrote, took, noted, machineOn, machineSteps, machineCall, machineRun}
+use Rattle.run_call_model.proofs.Ring.{length-wr}
 
 module _ (G : Generator) (o : G .Value) where
   open Generator G using (Value, Draw, Time, after, adds)

@@ -13,12 +13,14 @@ use Rattle.refusals.specs.declared.Refusal as Refusal
 use Rattle.run_generator.specs.Real.{loud}
 use Rattle.run_call.specs.declared.State.{State}
 use Rattle.run_call_checks.specs.declared.Loud as Loud
-use Rattle.run_call_checks.specs.Noise.{loudFrom, loudRead}
+use Rattle.run_call_checks.specs.NoiseModel.{loudFrom, loudRead}
 use Rattle.run_call.specs.declared.Ran.{Ran}
-use Rattle.run_call.specs.Turns.{genOf}
-use Rattle.run_call.specs.Ended.{Left, callLeft}
-use Rattle.run_call_checks.specs.Checks.{wrongMemory, wrongBuffers, faultRead}
-use Rattle.run_call.specs.Calls.{refusalGiven, refusedBy, runBy, callRefusal, runLeft}
+use Rattle.run_call.specs.StateGenerator.{genOf}
+use Rattle.run_call.specs.Buffers.{Left}
+use Rattle.run_call.specs.CallModel.{callLeft, refusedBy, runBy, callRefusal, runLeft}
+use Rattle.run_call_checks.specs.Checks.{wrongMemory}
+use Rattle.run_call_checks.specs.ChecksModel.{wrongBuffers, faultRead}
+use Rattle.run_call.specs.Given.{refusalGiven}
 
 -- ---- refusal 9
 module _ {X : Type 0} (q : X) (x : Option X) where

@@ -7,14 +7,13 @@ use lib.ListN.{length}
 use lib.Ieee.{Float, nan}
 use borrow.Author.Tests.{eq-eqb}
 use Rattle.run_theory.specs.PlainBench as Bench
-use Rattle.run_theory.specs.Machine as Machine
-use Rattle.run_theory.proofs.Turns.{call-state, call-result}
+use Rattle.run_call_model.specs.Machine as Machine
+use Rattle.run_call_model.proofs.Turns.{call-state, call-result}
 use Rattle.run_call.specs.declared.State.{State}
-use Rattle.run_call.specs.Turns.{genOf}
-use Rattle.run_call.specs.Ended.{leftBy, callLeft}
+use Rattle.run_call.specs.StateGenerator.{genOf}
+use Rattle.run_call.specs.CallModel.{leftBy, callLeft, refusedBy, runBy, callRefusal, runLeft}
 use Rattle.run_call_checks.specs.Checks.{wrongMemory}
-use Rattle.run_call.specs.Calls.{refusedBy, runBy, callRefusal, runLeft}
-use Rattle.run_call.specs.Handed.{machineOf, ranGiven, leftGiven}
+use Rattle.run_call.specs.MachineModel.{machineOf, ranGiven, leftGiven}
 
 module _ (s : State) (modeS modeAC memory : List Float) (c : Bench.Call (genOf s modeS modeAC)) where
   -- the theory's call

@@ -4,12 +4,13 @@ use mathlib.Core.List.{List, [], _∷_}
 use lib.ListN.{length}
 use lib.Ieee.{Float, nan}
 use Rattle.run_theory.specs.PlainBench as Bench
-use Rattle.run_theory.specs.Machine as Machine
+use Rattle.run_call_model.specs.Machine as Machine
 use Rattle.run_call.specs.declared.State.{State}
-use Rattle.run_call.specs.Turns.{genOf}
-use Rattle.run_call.specs.Ended.{Left}
-use Rattle.run_call.specs.Calls.{runLeft}
-use Rattle.run_call.specs.Handed.{stateOf, ranGiven, leftGiven, Lent, runsLeft, callOf, runsGiven}
+use Rattle.run_call.specs.StateGenerator.{genOf}
+use Rattle.run_call.specs.Buffers.{Left, Lent}
+use Rattle.run_call.specs.CallModel.{runLeft}
+use Rattle.run_call.specs.Calls.{runsLeft, callOf}
+use Rattle.run_call.specs.MachineModel.{stateOf, ranGiven, leftGiven, runsGiven}
 use Rattle.run_call.proofs.RunIsTheTheorys.{run-is}
 use Rattle.run_call.proofs.MemoryKept.{run-kept}
 

@@ -11,15 +11,15 @@ use Rattle.constants.specs.Rate.{four}
 use Rattle.run_theory.specs.Generator.{Generator, startFrom}
 use Rattle.run_theory.specs.PlainRun.{kindOf}
 use Rattle.run_theory.specs.PlainBench as Bench
-use Rattle.run_theory.specs.Machine.{later}
-use Rattle.run_theory.specs.Buffers.{laid}
-use Rattle.run_theory.specs.Turns as Turns
-use Rattle.run_theory.specs.Plans as Plans
-use Rattle.run_theory.specs.Plans.{Plan, stopAt, drainMany, dueMany, ignore, endRun, addReply}
-use Rattle.run_theory.proofs.Turns.{wroteTurn}
-use Rattle.run_theory.proofs.Plans as Theory
-use Rattle.run_theory.proofs.Batched.{nextTurn, nearer}
-use Rattle.run_due_samples.specs.Due.{Lent, dueOf}
+use Rattle.run_call_model.specs.Machine.{later}
+use Rattle.run_call_model.specs.Buffers.{laid}
+use Rattle.run_call_model.specs.Turns as Turns
+use Rattle.run_call_model.specs.Plans as Plans
+use Rattle.run_call_model.specs.Plans.{Plan, stopAt, drainMany, dueMany, ignore, endRun, addReply}
+use Rattle.run_call_model.proofs.Turns.{wroteTurn}
+use Rattle.run_call_model.proofs.Plans as Theory
+use Rattle.run_call_model.proofs.Batched.{nextTurn, nearer}
+use Rattle.run_due_samples.specs.DueModel.{Lent, dueOf}
 use Rattle.run_due_samples.proofs.AnyDraws.{any-samples, any-memory}
 use Rattle.draw.specs.Draw.{drawAt}
 use Rattle.draw.specs.Config.{timeAfter, configOf}
@@ -27,7 +27,7 @@ use Rattle.draw_config.specs.Pending.{pendingOf}
 use Rattle.draw_config.proofs.Message.{pending-time, pending-start}
 use Rattle.message_config.specs.declared.MessageConfig.{MessageConfig}
 use Rattle.reply_record.specs.Record.{recordBytes}
-use Rattle.run_add_reply.specs.Recorded.{memoryWith, recordsWith}
+use Rattle.run_add_reply.specs.RecordedModel.{memoryWith, recordsWith}
 use Rattle.reply_samples.specs.Samples.{replySamples}
 use Rattle.run_generator.specs.Real.{draws}
 use Rattle.run_generator.proofs.RealDrawLaws.{line-length}
@@ -35,9 +35,10 @@ use Rattle.run_call.specs.declared.State.{State}
 use Rattle.run_steps.specs.declared.Turn.{Turn}
 use Rattle.run_steps.specs.declared.Stop as Stop
 use Rattle.run_steps.specs.declared.Plan as Plan
-use Rattle.run_steps.specs.Plans.{counted, planRead, chosen}
-use Rattle.run_steps.specs.Moved.{wroteBy, tookBy, haltedBy, movedBy}
-use Rattle.run_call.specs.Turns.{filtersOf, genOf, Inside, turnRead, restAfter, Went, StepSays}
+use Rattle.run_steps.specs.PlanModel.{counted, planRead, chosen}
+use Rattle.run_steps.specs.ProgressModel.{wroteBy, tookBy, haltedBy, movedBy}
+use Rattle.run_call.specs.StepModel.{Inside, turnRead, restAfter, Went, StepSays}
+use Rattle.run_call.specs.StateGenerator.{filtersOf, genOf}
 use Rattle.run_call.proofs.Adding.{added-put, counts, added-by, recorded-by}
 use Rattle.run_call.proofs.Writing.{wrote-memory, wrote-output}
 

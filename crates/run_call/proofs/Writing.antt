@@ -5,8 +5,8 @@ use mathlib.Core.List.{List}
 use Prim.Native.Nat.{ℕ, _+_, _*_, _≤_}
 use lib.ListN.{length, take, drop}
 use lib.Ieee.{Float}
-use Rattle.run_theory.specs.Buffers.{laid}
-use Rattle.run_due_samples.specs.Due.{samplesOf, clearOf, Lent, dueOf}
+use Rattle.run_call_model.specs.Buffers.{laid}
+use Rattle.run_due_samples.specs.DueModel.{samplesOf, clearOf, Lent, dueOf}
 use Rattle.run_due_samples.proofs.LentTest.{fits-if}
 
 made : List Float → List Float → Lent

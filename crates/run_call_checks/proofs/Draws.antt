@@ -10,7 +10,7 @@ use lib.Ieee.{Float, lt}
 use borrow.Author.Tests.{ltb-true, ltb-false, lt-ltb, le-ltb}
 use Rattle.run_theory.specs.Generator.{Generator}
 use Rattle.run_theory.specs.PlainBench as Bench
-use Rattle.run_theory.proofs.FlatLists.{draws-none, draws-cons}
+use Rattle.run_call_model.proofs.FlatLists.{draws-none, draws-cons}
 use Rattle.message.specs.declared.Field as Field
 use Rattle.settings.specs.declared.Distributions.{Distributions}
 use Rattle.settings.specs.declared.MessagesPerSecond.{MessagesPerSecond}
@@ -19,7 +19,7 @@ use Rattle.draw.specs.Config.{timeAfter}
 use Rattle.draw.specs.Fault.{drawFault, faultAt, faultFrom, firstFault}
 use Rattle.draw.specs.declared.Fault as Fault
 use Rattle.run_generator.specs.Real.{faultOf}
-use Rattle.run_call_checks.specs.Checks.{jumpOf, faultRead, asked}
+use Rattle.run_call_checks.specs.ChecksModel.{jumpOf, faultRead, asked}
 
 module _ (time latest : Float) (draws : List ℕ) where
   pub few-bytes : length draws < 65 → false ≡ jumpOf time latest draws

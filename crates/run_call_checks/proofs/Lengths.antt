@@ -4,7 +4,8 @@ use mathlib.Core.Bool.{Bool, true, false, not, _||_, false≢true}
 use Prim.Native.Nat.{ℕ, _%_}
 use lib.Dec.{eqb}
 use borrow.Author.Tests.{eq-eqb, ne-eqb, eqb-true}
-use Rattle.run_call_checks.specs.Checks.{wrongMemory, wrongBuffers}
+use Rattle.run_call_checks.specs.Checks.{wrongMemory}
+use Rattle.run_call_checks.specs.ChecksModel.{wrongBuffers}
 
 module _ (memory modeS modeAC output draws : ℕ) where
   abbrev Wrong : Bool

@@ -13,7 +13,7 @@ use Rattle.run_theory.specs.PlainBench as Bench
 use Rattle.float_narrow.specs.Range.{within}
 use Rattle.run_generator.specs.Real.{loud}
 use Rattle.run_call_checks.specs.declared.Loud as Loud
-use Rattle.run_call_checks.specs.Noise.{loudFrom, loudRead}
+use Rattle.run_call_checks.specs.NoiseModel.{loudFrom, loudRead}
 
 module _ (noise : List Float) (k : ℕ) where
   abbrev v : Float

@@ -1,39 +1,9 @@
--- Refusals 9 and 7 of a run call: what is lent has a wrong length, or a draw is at fault, in the code's own tests; the plain bench has them as `wrongLengths` and `drawRefusal`.
-use Prim.Native.Nat.{ℕ, _%_}
-use mathlib.Core.Bool.{Bool, false, cond, not, _||_}
-use mathlib.Core.List.{List, []}
-use mathlib.Core.Option.{Option, none, some}
-use lib.Dec.{eqb, ltb}
-use lib.ListN.{length}
-use lib.Ieee.{Float, lt}
+-- Refusal 9 of a run call for the buffers of its opening.
+use Prim.Native.Nat.{ℕ}
+use mathlib.Core.Bool.{Bool, not, _||_}
+use lib.Dec.{eqb}
 use Rattle.constants.specs.Rate.{four, workingMemory, prototypeLength}
-use Rattle.run_theory.specs.Generator.{Generator}
-use Rattle.run_theory.specs.PlainBench as Bench
-use Rattle.run_theory.specs.FloatGenerator.{nought}
-use Rattle.settings.specs.declared.Distributions.{Distributions}
-use Rattle.settings.specs.declared.MessagesPerSecond.{MessagesPerSecond}
-use Rattle.draw.specs.Draw.{drawAt}
-use Rattle.draw.specs.Config.{timeAfter}
-use Rattle.draw.specs.declared.Fault as Fault
-use Rattle.run_generator.specs.Real.{real}
 
 -- Refusal 9 (SPECIFICATION 3.1) of opening's buffers
 abbrev pub wrongMemory : ℕ → ℕ → ℕ → Bool
 wrongMemory memory modeS modeAC = not (eqb memory (workingMemory four)) || not (eqb modeS (prototypeLength four)) || not (eqb modeAC (prototypeLength four))
-
--- and of a run call's own: output empty or of odd length, or draw bytes no multiple of 65
-abbrev pub wrongBuffers : ℕ → ℕ → Bool
-wrongBuffers output draws = eqb output 0 || not (eqb (output % 2) 0) || not (eqb (draws % 65) 0)
-
--- a first lent draw jumps back
-unfoldable pub jumpOf : Float → Float → List ℕ → Bool
-jumpOf time latest draws = cond (ltb (length draws) 65) false (lt (timeAfter time (drawAt draws)) latest)
-
--- the first fault of draws, as the plain bench refuses it
-unfoldable pub faultRead : Fault.Fault → Option Bench.Refusal
-faultRead Fault.the-variants.Clean = none
-faultRead (Fault.the-variants.At k field) = some (Bench.wrongDraw k field)
-
--- the generator of rates and distributions: the check of draws turns on nothing else
-abbrev pub asked : MessagesPerSecond → Distributions → Generator
-asked rates all = real (record { rates = rates; distributions = all; delays = record { «mode_s» = nought; «mode_ac» = nought }; modeS = []; modeAC = [] }) 0

@@ -1,2 +1,3 @@
-pub mod Noise
+pub mod NoiseModel
 pub mod Checks
+pub mod ChecksModel

@@ -5,11 +5,11 @@ use Prim.Native.Nat.{ℕ, zero, suc, _%_}
 use lib.Ieee.{Float, nan}
 use Rattle.run_theory.specs.Generator.{Pair, silence, noisy}
 use Rattle.run_theory.specs.PlainBench.{pairs, flatten}
-use Rattle.run_theory.specs.Machine.{window, rd, wr}
-use Rattle.run_theory.specs.Batch.{written, cleared}
+use Rattle.run_call_model.specs.Machine.{window, rd, wr}
+use Rattle.run_call_model.specs.Batch.{written, cleared}
 use Rattle.constants.specs.Rate.{four}
 use Rattle.run_theory.specs.FloatGenerator.{Draws, generator}
-use Rattle.run_due_samples.specs.Due.{gen, samplesOf, clearOf}
+use Rattle.run_due_samples.specs.DueModel.{gen, samplesOf, clearOf}
 
 module _ (S : Draws) (total : ℕ) where
   same-written : (vs : List (Pair Float)) (m : List Float) (w : ℕ) → written (generator S four total) nan m w vs ≡ written gen nan m w vs

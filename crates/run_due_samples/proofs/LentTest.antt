@@ -8,8 +8,8 @@ use lib.Dec.{eqb, leb}
 use lib.Ieee.{Float}
 use lib.ListN.{length, take, drop}
 use borrow.Author.Tests.{eqb-true, leb-true, eq-eqb, le-leb}
-use Rattle.run_theory.specs.Buffers.{laid}
-use Rattle.run_due_samples.specs.Due.{samplesOf, clearOf, fitsOf, Lent, dueOf}
+use Rattle.run_call_model.specs.Buffers.{laid}
+use Rattle.run_due_samples.specs.DueModel.{samplesOf, clearOf, fitsOf, Lent, dueOf}
 
 pub record Fits (memory noise output k n : ℕ) : Type 0 where
   pub memory-is : memory ≡ 2252

@@ -8,15 +8,16 @@ use native.Mathlib.Omega.{arith}
 use lib.ListN.{length, getD, set, take, drop, length-set, length-drop, length-replicate, take-append-drop}
 use lib.Seq.{drop-drop, length-take-le}
 use Rattle.run_theory.specs.PlainBench.{pairs, flatten}
-use Rattle.run_theory.specs.Batch.{written, cleared}
-use Rattle.run_theory.proofs.Batch.{length-written}
+use Rattle.run_call_model.specs.Batch.{written, cleared}
+use Rattle.run_call_model.proofs.Batch.{length-written}
 use lib.Ieee.{Float, nan, binary32, ofBits, add, mul}
-use Rattle.run_theory.specs.Buffers.{laid}
-use Rattle.run_theory.proofs.FlatLists.{laid-beyond, laid-laid, length-flatten, length-pairs}
-use Rattle.run_theory.proofs.Stretch.{stretch-output, stretch-memory, place-wraps, written-more, cleared-laid}
-use Rattle.run_theory.proofs.FloatLaws.{scale-bits, nought-bits}
+use Rattle.run_call_model.specs.Buffers.{laid}
+use Rattle.run_call_model.proofs.FlatLists.{laid-beyond, laid-laid, length-flatten, length-pairs}
+use Rattle.run_call_model.proofs.Stretch.{stretch-output, stretch-memory, place-wraps, written-more, cleared-laid}
+use Rattle.run_call_model.proofs.FloatLaws.{scale-bits, nought-bits}
 use Rattle.run_theory.specs.FloatGenerator.{nought}
-use Rattle.run_due_samples.specs.Due.{gen, mix, zeros, samplesOf, clearOf}
+use Rattle.run_theory.specs.Zeros.{zeros}
+use Rattle.run_due_samples.specs.DueModel.{gen, mix, samplesOf, clearOf}
 
 -- ---- a stretch: no number, one number more
 no-mix : (xs : List Float) → mix xs [] ≡ []

@@ -2,8 +2,9 @@
 ghost use mathlib.Core.Path.{_≡_};
 ghost use Prim.Native.Nat.{_+_, _*_, _/_, _%_, _≤_, _<_, min};
 ghost use lib.ListN.{length, drop, take};
-ghost use Rattle.run_theory.specs.Buffers.{laid};
-ghost use Rattle.run_due_samples.specs.Due.{mix, zeros, samplesOf, clearOf, fitsOf, Lent, dueOf};
+ghost use Rattle.run_call_model.specs.Buffers.{laid};
+ghost use Rattle.run_theory.specs.Zeros.{zeros};
+ghost use Rattle.run_due_samples.specs.DueModel.{mix, samplesOf, clearOf, fitsOf, Lent, dueOf};
 
 // Writes a stretch of the memory with its noise.
 fn mix_stretch(

@@ -3,9 +3,9 @@ use Prim.Native.Nat.{ℕ, _^_, _≤_}
 use lib.Ieee.{Float}
 use Rattle.constants.specs.Rate.{four}
 use Rattle.run_theory.specs.Laws.{Laws}
-use Rattle.run_theory.specs.Machine.{runs}
+use Rattle.run_call_model.specs.Machine.{runs}
 use Rattle.run_theory.proofs.ListClaim.{Demand3}
-use Rattle.run_theory.proofs.FloatLaws.{laws, float-demand3}
+use Rattle.run_call_model.proofs.FloatLaws.{laws, float-demand3}
 use Rattle.run_generator.specs.Real.{Filters, draws, real}
 use Rattle.run_generator.proofs.FiltersInRange.{FiltersInRange}
 use Rattle.run_generator.proofs.RealDrawLaws.{real-draw-laws}

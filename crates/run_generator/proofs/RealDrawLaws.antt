@@ -28,7 +28,7 @@ use Rattle.run_theory.specs.Generator.{from, startFrom}
 use Rattle.run_theory.specs.PlainRun.{reply, kind}
 use Rattle.run_theory.proofs.StepFacts.{reply-fits, reply-start}
 use Rattle.run_theory.proofs.Times.{NonNeg, GoodTime}
-use Rattle.run_theory.proofs.FloatLaws.{DrawLaws}
+use Rattle.run_call_model.proofs.FloatLaws.{DrawLaws}
 use Rattle.run_generator.specs.Real.{pairOf, HeldDraw, Filters, draws, real}
 use Rattle.run_generator.proofs.ReplyBytes.{made-bytes}
 use Rattle.run_generator.proofs.DrawInRange.{fine-of, gap-of, message-error}

@@ -28,7 +28,7 @@ use Rattle.run_theory.specs.PlainBench.{Call, Result}
 use Rattle.run_theory.proofs.ListClaim.{allSamples, Demand3}
 use Rattle.run_theory.proofs.EverySample.{Both, KeptBySums, every-sample}
 use Rattle.run_theory.specs.FloatGenerator.{noiseScale}
-use Rattle.run_theory.proofs.FloatLaws.{laws}
+use Rattle.run_call_model.proofs.FloatLaws.{laws}
 use Rattle.run_theory.proofs.Times.{GoodTime}
 use Rattle.draw.specs.Config.{configOf}
 use Rattle.reply_samples.specs.declared.Sample.{Sample}

@@ -6,10 +6,10 @@ use mathlib.Core.List.{List}
 use lib.ListN.{length}
 use lib.Ieee.{Float}
 use Rattle.constants.specs.Rate.{four}
-use Rattle.run_due_samples.specs.Due.{zeros}
+use Rattle.run_theory.specs.Zeros.{zeros}
 use Rattle.pulse_shape.specs.Prototype.{modeSPrototype, modeACPrototype}
 use Rattle.pulse_shape.proofs.Whole.{length-prototype}
-use Rattle.run_open.specs.Over.{over}
+use Rattle.run_open.specs.FillModel.{over}
 use Rattle.run_open.proofs.Filling.{over-whole}
 use Rattle.run_open_checks.specs.declared.Opened.{Opened}
 use Rattle.run_open_checks.specs.declared.Prepared.{Prepared}

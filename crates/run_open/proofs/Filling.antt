@@ -7,10 +7,10 @@ use native.Mathlib.Omega.{arith}
 use lib.Ieee.{Float}
 use lib.ListN.{length, getD, set, take, drop}
 use lib.Seq.{take-suc, take-suc-set, take-all, drop-cons, drop-length, set-at, append-snoc, length-take-le}
-use Rattle.run_theory.proofs.FlatLists.{replicate-snoc}
+use Rattle.run_call_model.proofs.FlatLists.{replicate-snoc}
 use Rattle.run_theory.specs.FloatGenerator.{nought}
-use Rattle.run_due_samples.specs.Due.{zeros}
-use Rattle.run_open.specs.Over.{over}
+use Rattle.run_theory.specs.Zeros.{zeros}
+use Rattle.run_open.specs.FillModel.{over}
 
 -- one turn of a copy, and what it comes to
 pub copy-next : (from to whole : List Float) (k : ℕ) (d : Float) → k < length from → k < length whole → to ≡ take k from ++ drop k whole → set to k (getD from k d) ≡ take (k + 1) from ++ drop (k + 1) whole

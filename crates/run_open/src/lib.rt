@@ -2,8 +2,8 @@
 ghost use mathlib.Core.Bool.{cond};
 ghost use mathlib.Core.Path.{_≡_};
 ghost use lib.ListN.{length};
-ghost use Rattle.run_due_samples.specs.Due.{zeros};
-ghost use Rattle.run_open.specs.Over.{over};
+ghost use Rattle.run_theory.specs.Zeros.{zeros};
+ghost use Rattle.run_open.specs.FillModel.{over};
 ghost use Rattle.constants.specs.Rate.{four};
 ghost use Rattle.run_open_checks.specs.Opening.{half, openedOf, isRun, leftBy};
 use constants::least;

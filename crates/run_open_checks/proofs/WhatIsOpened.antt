@@ -7,7 +7,7 @@ use lib.Dec.{T}
 use lib.Ieee.{Float, nan, binary32, fits, ofBits, lt}
 use lib.Ieee.Bits.{ofBits-fits}
 use Rattle.constants.specs.Rate.{four}
-use Rattle.run_theory.specs.Machine as Machine
+use Rattle.run_call_model.specs.Machine as Machine
 use Rattle.message_config.proofs.InRange.{zeroF}
 use Rattle.pulse_shape.specs.declared.Crossing.the-variants.{At}
 use Rattle.pulse_shape.specs.Prototype.{modeSPrototype, modeACPrototype}
@@ -15,7 +15,7 @@ use Rattle.pulse_shape.specs.Accepted.{allWithin16}
 use Rattle.pulse_shape.specs.GroupDelay.{groupDelay, modeACGroupDelay}
 use Rattle.run_generator.proofs.FiltersInRange as Range
 use Rattle.run_call.specs.declared.State.{State}
-use Rattle.run_call.specs.Turns.{filtersOf, genOf}
+use Rattle.run_call.specs.StateGenerator.{filtersOf, genOf}
 use Rattle.settings.specs.declared.Distributions.{Distributions}
 use Rattle.settings.specs.declared.Checked as Checked
 use Rattle.settings.specs.Settings.{settingsOf}

@@ -7,7 +7,7 @@ use lib.ListN.{length}
 use lib.Ieee.{Float, binary32, ofBits}
 use Rattle.constants.specs.Rate.{prototypeLength, workingMemory}
 use Rattle.run_theory.specs.FloatGenerator.{nought}
-use Rattle.run_due_samples.specs.Due.{zeros}
+use Rattle.run_theory.specs.Zeros.{zeros}
 use Rattle.pulse_shape.specs.declared.Crossing as Crossing
 use Rattle.pulse_shape.specs.Prototype.{modeSPrototype, modeACPrototype}
 use Rattle.pulse_shape.specs.Accepted.{allWithin16, modeSTapsAccepted, modeACTapsAccepted}

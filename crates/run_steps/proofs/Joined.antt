@@ -6,7 +6,7 @@ use lib.Ieee.{Float}
 use Rattle.run_steps.specs.declared.Plan.{Plan}
 use Rattle.run_steps.specs.declared.Turn.{Turn}
 use Rattle.run_steps.specs.declared.Next as Next
-use Rattle.run_steps.specs.Moved.{wroteBy, tookBy, movedBy}
+use Rattle.run_steps.specs.ProgressModel.{wroteBy, tookBy, movedBy}
 
 pub wrote-is : (t : Turn) (n : ℕ) (latest : Float) (a b : ℕ) → a ≡ (t .written + n) % 2 ^ 64 → b ≡ (t .samples + n) % 2 ^ 64
     → record { written = a; time = t .time; latest = latest; ended = t .ended; taken = t .taken; samples = b; records = t .records; next = Next.the-variants.Wrote } ≡ wroteBy t n latest

@@ -10,7 +10,7 @@ use borrow.Author.Tests.{le-ltb}
 use mir.Syntax.{w64}
 use mir.Val.{Fits, SFits, toZ, ofZ}
 use mir.Facts.{toZ-ofZ}
-use Rattle.run_steps.specs.Plans.{isNegative}
+use Rattle.run_steps.specs.PlanModel.{isNegative}
 
 sign : (z : ℤ) → ltZ z (pos 0) ≡ isNegative z
 sign (pos n) = le-ltb n 0 (omega arith)

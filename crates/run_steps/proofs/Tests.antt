@@ -8,14 +8,14 @@ use lib.Ieee.{Float}
 use borrow.Author.Tests.{lt-ltb, le-ltb}
 use Rattle.run_theory.specs.Generator.{from, startFrom}
 use Rattle.run_theory.specs.PlainRun.{Kind, kindOf}
-use Rattle.run_theory.specs.Plans as Theory
-use Rattle.run_theory.proofs.Plans as Laws
+use Rattle.run_call_model.specs.Plans as Theory
+use Rattle.run_call_model.proofs.Plans as Laws
 use Rattle.message_config.specs.declared.Delays.{Delays}
 use Rattle.message_config.specs.declared.MessageConfig.{MessageConfig}
 use Rattle.message_config.specs.Config.{configStart}
 use Rattle.run_steps.specs.declared.Stop as Stop
 use Rattle.run_steps.specs.declared.Plan as Plan
-use Rattle.run_steps.specs.Plans.{counted, stopRead, planRead, isNegative, chosen}
+use Rattle.run_steps.specs.PlanModel.{counted, stopRead, planRead, isNegative, chosen}
 
 pub few-room : (room : ℕ) → room < 2 → stopRead Stop.the-variants.OutputFull ≡ Theory.stopFor room
 unfolding stopRead

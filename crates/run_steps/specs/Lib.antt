@@ -1,2 +1,2 @@
-pub mod Plans
-pub mod Moved
+pub mod PlanModel
+pub mod ProgressModel

@@ -5,10 +5,10 @@ ghost use Prim.Native.Nat.{_-_, _<_, _^_, min};
 ghost use lib.IntN.{pos};
 ghost use Rattle.run_theory.specs.Generator.{startFrom};
 ghost use Rattle.run_theory.specs.PlainRun.{kindOf};
-ghost use Rattle.run_theory.specs.Plans.{planEnded, planReply, planDraw, stopFor, someOr, dueMany};
-ghost use Rattle.run_steps.specs.Plans.{counted, stopRead, planRead, isNegative, chosen};
+ghost use Rattle.run_call_model.specs.Plans.{planEnded, planReply, planDraw, stopFor, someOr, dueMany};
+ghost use Rattle.run_steps.specs.PlanModel.{counted, stopRead, planRead, isNegative, chosen};
 ghost use lib.Ieee.{lt};
-ghost use Rattle.run_steps.specs.Moved.{wroteBy, tookBy, haltedBy, movedBy};
+ghost use Rattle.run_steps.specs.ProgressModel.{wroteBy, tookBy, haltedBy, movedBy};
 use message_config::Delays;
 use message_config::MessageConfig;
 
@@ -48,7 +48,7 @@ fn capped(due: u64, room: usize) -> usize
 
 // How many of the samples due can be written; none where a stop comes first.
 fn batch(due: u64, room: usize, noise: usize) -> usize
-    ensures { λ r. ⌜ r ≡ Rattle.run_theory.specs.Plans.batch due room noise ⌝ }
+    ensures { λ r. ⌜ r ≡ Rattle.run_call_model.specs.Plans.batch due room noise ⌝ }
 {
     capped(due, least(room / 2, noise / 2))
 }
@@ -93,7 +93,7 @@ fn due_before(first: u64, written: u64) -> u64
 
 // The samples due by the start of a draw at its time.
 fn due(n: u64, time: f64, room: usize, noise: usize) -> Plan
-    ensures { λ r. ⌜ planRead r ≡ someOr (λ k. dueMany k time) (Rattle.run_theory.specs.Plans.batch n room noise) room ⌝ }
+    ensures { λ r. ⌜ planRead r ≡ someOr (λ k. dueMany k time) (Rattle.run_call_model.specs.Plans.batch n room noise) room ⌝ }
 {
     let k = batch(n, room, noise);
     if k == 0 {

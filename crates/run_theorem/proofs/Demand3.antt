@@ -15,11 +15,11 @@ use Rattle.run_theory.specs.Generator.{Generator}
 use Rattle.run_theory.specs.PlainRun.{timeOf, ended, replies}
 use Rattle.run_theory.specs.PlainBench as Bench
 use Rattle.run_theory.specs.Demand3.{Prefix, plainOutput, plainLines, Reach}
-use Rattle.run_theory.specs.Machine as Machine
-use Rattle.run_theory.proofs.FlatLists.{pairs-flatten}
-use Rattle.run_theory.proofs.InStep.{Matches}
+use Rattle.run_call_model.specs.Machine as Machine
+use Rattle.run_call_model.proofs.FlatLists.{pairs-flatten}
+use Rattle.run_call_model.proofs.InStep.{Matches}
 use Rattle.run_theory.proofs.ListClaim as Theory
-use Rattle.run_theory.proofs.Demand3.{matched}
+use Rattle.run_call_model.proofs.Demand3.{matched}
 use Rattle.run_generator.specs.Real.{HeldDraw}
 use Rattle.run_generator.proofs.RealDemand3.{real-laws, real-demand3}
 use Rattle.pulse_shape.specs.Prototype.{modeSPrototype, modeACPrototype}
@@ -28,10 +28,12 @@ use Rattle.run_steps.specs.declared.Stop as Stop
 use Rattle.run_call.specs.declared.State.{State}
 use Rattle.run_call.specs.declared.Counts.{Counts}
 use Rattle.run_call.specs.declared.Answer as Answer
-use Rattle.run_call.specs.Generated.{filtersOf}
-use Rattle.run_call.specs.Ended.{stopGiven, Left}
-use Rattle.run_call.specs.Calls.{runLeft}
-use Rattle.run_call.specs.Handed.{machineOf, stateOf, ranGiven, leftGiven, Lent, callOf, runsLeft, runsGiven}
+use Rattle.run_call.specs.StateGenerator.{filtersOf}
+use Rattle.run_call.specs.Buffers.{Left, Lent}
+use Rattle.run_call.specs.Given.{stopGiven}
+use Rattle.run_call.specs.CallModel.{runLeft}
+use Rattle.run_call.specs.Calls.{callOf, runsLeft}
+use Rattle.run_call.specs.MachineModel.{machineOf, stateOf, ranGiven, leftGiven, runsGiven}
 use Rattle.run_call.proofs.RunsAreTheTheorys.{given-state, runs-are}
 use Rattle.run_open_checks.specs.declared.Opened as Opened
 use Rattle.run_open_checks.specs.Opening as Opening

@@ -19,7 +19,7 @@ use Rattle.pulse_shape.specs.Prototype.{modeSPrototype, modeACPrototype}
 use Rattle.pulse_shape.proofs.Whole.{length-prototype}
 use Rattle.run_generator.proofs.SampleSizes.{samples-sized}
 use Rattle.run_call.specs.declared.State.{State}
-use Rattle.run_call.specs.Generated.{filtersOf, genOf}
+use Rattle.run_call.specs.StateGenerator.{filtersOf, genOf}
 use Rattle.run_open_checks.specs.declared.Opened as Opened
 use Rattle.run_open_checks.specs.Opening as Opening
 use Rattle.run_open_checks.proofs.WhatIsOpened.{opened-run-in-range, what-is-opened}

@@ -16,10 +16,11 @@ use Rattle.run_call_checks.specs.Checks.{wrongMemory}
 use Rattle.run_call.specs.declared.State.{State}
 use Rattle.run_call.specs.declared.Answer.{Answer}
 use Rattle.run_call.specs.declared.Answer.the-variants.{Refused}
-use Rattle.run_call.specs.Generated.{genOf}
-use Rattle.run_call.specs.Ended.{Left, leftBy, callLeft}
-use Rattle.run_call.specs.Calls.{refusalGiven, refusedBy, runBy, callRefusal, runLeft}
-use Rattle.run_call.specs.Handed.{Lent, callOf}
+use Rattle.run_call.specs.StateGenerator.{genOf}
+use Rattle.run_call.specs.Buffers.{Left, Lent}
+use Rattle.run_call.specs.CallModel.{leftBy, callLeft, refusedBy, runBy, callRefusal, runLeft}
+use Rattle.run_call.specs.Given.{refusalGiven}
+use Rattle.run_call.specs.Calls.{callOf}
 use Rattle.run_theorem.specs.RunRefusals.{CallCause, Answered, refused, stopped}
 
 module _ (s : State) (modeS modeAC memory : List Float) (l : Lent) where

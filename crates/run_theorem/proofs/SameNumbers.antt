@@ -3,8 +3,7 @@ use mathlib.Core.Path.{_≡_, refl}
 use mathlib.Core.List.{_∷_}
 use Rattle.run_theory.specs.PlainBench as Bench
 use Rattle.refusals.specs.Number.{numberOf, valuesOf}
-use Rattle.run_call.specs.Calls.{refusalGiven}
-use Rattle.run_call.specs.Ended.{stopNumber, stopGiven}
+use Rattle.run_call.specs.Given.{refusalGiven, stopNumber, stopGiven}
 
 pub same-numbers : (q : Bench.Refusal) → numberOf (refusalGiven q) ∷ valuesOf (refusalGiven q) ≡ Bench.numbers q
 unfolding refusalGiven numberOf valuesOf

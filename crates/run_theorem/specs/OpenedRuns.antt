@@ -20,9 +20,9 @@ use Rattle.run_generator.specs.Real.{HeldDraw}
 use Rattle.run_steps.specs.declared.Stop as Stop
 use Rattle.run_call.specs.declared.State.{State}
 use Rattle.run_call.specs.declared.Answer as Answer
-use Rattle.run_call.specs.Generated.{genOf}
-use Rattle.run_call.specs.Ended.{Left}
-use Rattle.run_call.specs.Handed.{Lent, runsLeft, callOf}
+use Rattle.run_call.specs.StateGenerator.{genOf}
+use Rattle.run_call.specs.Buffers.{Left, Lent}
+use Rattle.run_call.specs.Calls.{runsLeft, callOf}
 use Rattle.run_open_checks.specs.declared.Opened as Opened
 use Rattle.run_open_checks.specs.Opening as Opening
 use Rattle.run_theorem.specs.Seen.{seenLeft, seenResult}

@@ -11,9 +11,10 @@ use Rattle.run_call_checks.specs.Checks.{wrongMemory}
 use Rattle.run_steps.specs.declared.Stop.{Stop}
 use Rattle.run_call.specs.declared.State.{State}
 use Rattle.run_call.specs.declared.Answer as Answer
-use Rattle.run_call.specs.Generated.{genOf}
-use Rattle.run_call.specs.Calls.{refusalGiven}
-use Rattle.run_call.specs.Handed.{Lent, callOf}
+use Rattle.run_call.specs.StateGenerator.{genOf}
+use Rattle.run_call.specs.Given.{refusalGiven}
+use Rattle.run_call.specs.Calls.{callOf}
+use Rattle.run_call.specs.Buffers.{Lent}
 
 module _ (s : State) (modeS modeAC memory : List Float) (l : Lent) where
   -- 9 for memory, prototypes or buffers; 7 and 8 as the plain bench has them, where 9 has no cause

@@ -7,8 +7,9 @@ use Rattle.refusals.specs.Number.{numberOf, valuesOf}
 use Rattle.run_call.specs.declared.State.{State}
 use Rattle.run_call.specs.declared.Counts.{Counts}
 use Rattle.run_call.specs.declared.Answer as Answer
-use Rattle.run_call.specs.Generated.{genOf}
-use Rattle.run_call.specs.Ended.{stopNumber, Left}
+use Rattle.run_call.specs.StateGenerator.{genOf}
+use Rattle.run_call.specs.Buffers.{Left}
+use Rattle.run_call.specs.Given.{stopNumber}
 
 -- an answer: a stop, numbered in the order of the specification's steps; or a refusal's number and values
 pub data Numbered : Type 0 where

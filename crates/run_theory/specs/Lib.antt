@@ -1,3 +1,4 @@
+pub mod Zeros
 pub mod Each
 pub mod Generator
 pub mod PlainRun
@@ -5,9 +6,4 @@ pub mod PlainBench
 pub mod Laws
 pub mod Refusals
 pub mod Demand3
-pub mod Machine
-pub mod Buffers
-pub mod Batch
-pub mod Turns
-pub mod Plans
 pub mod FloatGenerator

@@ -210,7 +210,7 @@ module _ (G : Generator) where
   benchOn go b l (due t v l′) = go (record { taken = b .taken; used = b .used ++ (v ∷ []); mark = latest (b .mark) t }) l′
   benchOn go b l (taking d k l′) = go (record { taken = b .taken ++ (d ∷ []); used = b .used; mark = b .mark }) l′
 
-  -- The call repeats these steps until one stops it. The number bounds the steps; proofs/EnoughFuel.antt shows that `fuel` is enough.
+  -- The call repeats these steps until one stops it. The number bounds the steps; run_call_model/proofs/EnoughFuel.antt shows that `fuel` is enough.
   abbrev pub benchSteps : ℕ → Bench → Lent → Benched
   benchSteps zero b l = record { bench = b; rest = l; stop = wantsDraws }
   benchSteps (suc f) b l = benchOn (λ b′ l′. benchSteps f b′ l′) b l (benchStep b l)

@@ -14,9 +14,9 @@ use Rattle.refusals.specs.declared.Refusal as Refusal
 use Rattle.run_call.specs.declared.Ran.{Ran}
 use Rattle.run_steps.specs.declared.Stop as Stop
 use Rattle.run_call.specs.declared.Answer as Answer
-use Rattle.run_call.specs.Calls.{runLeft}
+use Rattle.run_call.specs.CallModel.{runLeft}
 use Rattle.tape_verdict.specs.declared.Feed.{Feed}
-use Rattle.tape_feed.specs.Feeding.{Fed, feedAfter, fedAfter, calledOf, fedThen, fedOf}
+use Rattle.tape_feed.specs.FeedModel.{Fed, feedAfter, fedAfter, calledOf, fedThen, fedOf}
 
 -- ---- places
 pub inside-place : (k size len : ℕ) → 0 < size → k ≤ len / size → size * k ≤ len

@@ -1,7 +1,7 @@
 // A run that is fed a chunk of its noise. The public function is equal to a definition of specs/ on every input.
 ghost use mathlib.Core.Path.{_≡_};
 ghost use Prim.Native.Nat.{_*_, _≤_, _<_, min};
-ghost use Rattle.tape_feed.specs.Feeding.{feedAfter, calledOf, fedOf};
+ghost use Rattle.tape_feed.specs.FeedModel.{feedAfter, calledOf, fedOf};
 use run_call::Answer;
 use run_call::Ran;
 use tape_verdict::Feed;

@@ -21,8 +21,8 @@ use Rattle.draw.specs.Fault.{firstFault}
 use Rattle.draw.specs.declared.Fault as Fault
 use Rattle.run_call.specs.declared.State.{State}
 use Rattle.pulse_shape.specs.Prototype.{modeSPrototype, modeACPrototype}
-use Rattle.run_due_samples.specs.Due.{zeros}
-use Rattle.run_open.specs.Over.{over}
+use Rattle.run_theory.specs.Zeros.{zeros}
+use Rattle.run_open.specs.FillModel.{over}
 use Rattle.run_open_checks.specs.Opening.{half, Lent, openedOf, preparedOf, isRun, leftBy}
 use Rattle.run_open_checks.specs.declared.Prepared.{Prepared}
 use Rattle.run_open.proofs.Filled.{filled}

@@ -12,18 +12,18 @@ use Rattle.run_theory.specs.Generator.{Generator}
 use Rattle.run_theory.specs.PlainRun.{Kind, ignored, ends, reply}
 use Rattle.run_theory.specs.PlainBench.{Lent, Step, halt, drain, due, taking, drawsOf}
 use Rattle.run_theory.specs.PlainBench as Bench
-use Rattle.run_theory.specs.Machine as Machine
-use Rattle.run_theory.specs.Turns as Theory
+use Rattle.run_call_model.specs.Machine as Machine
+use Rattle.run_call_model.specs.Turns as Theory
 use Rattle.run_theory.proofs.StepFacts.{Says, step-says}
-use Rattle.run_theory.proofs.FlatLists.{length-draws}
+use Rattle.run_call_model.proofs.FlatLists.{length-draws}
 use Rattle.run_call.specs.declared.State.{State}
 use Rattle.run_call.specs.declared.Ran.{Ran}
 use Rattle.run_call.specs.declared.Answer as Answer
-use Rattle.run_call.specs.Ended.{Left, leftBy, callLeft}
-use Rattle.run_call.specs.Turns.{genOf}
-use Rattle.run_call.specs.Calls.{refusedBy, runBy, callRefusal, runLeft}
+use Rattle.run_call.specs.Buffers.{Left}
+use Rattle.run_call.specs.CallModel.{leftBy, callLeft, refusedBy, runBy, callRefusal, runLeft}
+use Rattle.run_call.specs.StateGenerator.{genOf}
 use Rattle.tape_verdict.specs.Verdict.{startOf}
-use Rattle.tape_feed.specs.Feeding.{feedAfter, fedAfter, calledOf, fedThen, fedOf}
+use Rattle.tape_feed.specs.FeedModel.{feedAfter, fedAfter, calledOf, fedThen, fedOf}
 use Rattle.tape_theory.specs.Fed.{Held, begun, Chunk, lend, keep, fedAll, leftFor}
 
 -- ---- a call's steps write no more records than they take draws

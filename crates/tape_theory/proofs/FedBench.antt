@@ -17,7 +17,7 @@ use Rattle.run_theory.proofs.ListClaim.{isDone}
 use Rattle.run_theory.proofs.PlainFacts.{ended-still, replies-still}
 use Rattle.run_theory.proofs.StepFacts.{used-slots, Says, step-says, reply-fits}
 use Rattle.run_theory.proofs.Reached.{Reached, Left, reached-drain, reached-due, reached-take, left-drain, left-due, left-take}
-use Rattle.run_theory.proofs.Counted.{Moved, moved}
+use Rattle.run_call_model.proofs.Counted.{Moved, moved}
 
 module _ (G : Generator) (L : Laws G) where
   open Generator G using (Draw, Time, t0, after, start, hold, total)

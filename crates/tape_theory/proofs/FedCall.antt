@@ -18,21 +18,20 @@ use Rattle.run_theory.specs.PlainBench as Bench
 use Rattle.run_theory.specs.PlainBench.{pairs, flatten, join, over, drawsOf, firstLoud, Lent, lentOf, Bench, bench0, Benched, benchSteps, fuel}
 use Rattle.run_theory.specs.Laws.{Laws}
 use Rattle.run_theory.specs.Demand3.{plainLines, plainOutput}
-use Rattle.run_theory.specs.Machine as Machine
-use Rattle.run_theory.proofs.FlatLists.{AllOf, length-pairs, flatten-pairs, pairs-after, length-flatten, flatten-append, join-append, length-join, take-over, drop-over, length-over, length-draws, draws-cons}
-use Rattle.run_theory.proofs.InStep.{Matches, matches-first, Kept, loop-kept}
-use Rattle.run_theory.proofs.LatestTime.{refusal-alike}
+use Rattle.run_call_model.specs.Machine as Machine
+use Rattle.run_call_model.proofs.FlatLists.{AllOf, length-pairs, flatten-pairs, pairs-after, length-flatten, flatten-append, join-append, length-join, take-over, drop-over, length-over, length-draws, draws-cons}
+use Rattle.run_call_model.proofs.InStep.{Matches, matches-first, Kept, loop-kept}
+use Rattle.run_call_model.proofs.LatestTime.{refusal-alike}
 use Rattle.run_theory.proofs.Reached.{reached-first}
 use Rattle.run_theory.proofs.Refusals.{accepted-draws, accepted-if}
-use Rattle.run_theory.proofs.Counted.{Moved, moved, Counted, counted}
+use Rattle.run_call_model.proofs.Counted.{Moved, moved, Counted, counted}
 use Rattle.run_call.specs.declared.State.{State}
 use Rattle.run_call.specs.declared.Answer as Answer
-use Rattle.run_call.specs.Turns.{genOf}
-use Rattle.run_call.specs.Ended.{stopGiven}
-use Rattle.run_call.specs.Calls.{refusalGiven}
-use Rattle.run_call.specs.Handed.{stateOf, ranGiven, leftGiven}
+use Rattle.run_call.specs.StateGenerator.{genOf}
+use Rattle.run_call.specs.Given.{stopGiven, refusalGiven}
+use Rattle.run_call.specs.MachineModel.{stateOf, ranGiven, leftGiven}
 use Rattle.run_call.proofs.RunIsTheTheorys.{run-is}
-use Rattle.tape_feed.specs.Feeding.{Fed, feedAfter, fedAfter, calledOf, fedThen, fedOf}
+use Rattle.tape_feed.specs.FeedModel.{Fed, feedAfter, fedAfter, calledOf, fedThen, fedOf}
 use Rattle.tape_theory.specs.Fed.{Held, Chunk, lend, keep}
 use Rattle.tape_theory.specs.PlainTape.{loudIn, Roomy, Cut, noiseIn}
 use Rattle.tape_theory.proofs.FedBench as Stream

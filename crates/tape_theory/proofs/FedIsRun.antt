@@ -6,14 +6,14 @@ use mathlib.Core.List.{List, [], _∷_, map}
 use lib.Ieee.{Float}
 use Rattle.refusals.specs.declared.Refusal as Refusal
 use Rattle.run_call.specs.declared.Answer as Answer
-use Rattle.run_call.specs.Ended.{Left}
-use Rattle.run_call.specs.Handed.{runsLeft}
+use Rattle.run_call.specs.Buffers.{Left}
+use Rattle.run_call.specs.Calls.{runsLeft}
 use Rattle.run_open_checks.specs.Opening as Opening
 use Rattle.run_theorem.specs.Seen.{seenLeft, seenResult}
 use Rattle.run_theorem.specs.OpenedRuns.{Run, Opens, results}
 use Rattle.run_theorem.proofs.Demand3.{opened-runs}
 use Rattle.tape_verdict.specs.Verdict.{startOf}
-use Rattle.tape_feed.specs.Feeding.{Fed, feedAfter, fedAfter, calledOf, fedThen, fedOf}
+use Rattle.tape_feed.specs.FeedModel.{Fed, feedAfter, fedAfter, calledOf, fedThen, fedOf}
 use Rattle.tape_theory.specs.Fed.{Held, begun, Chunk, lend, keep, fedAll, lentFor, leftFor, heldAfter, lents, lefts, feedLefts}
 
 module _ (modeS modeAC : List Float) (draws : List ℕ) where

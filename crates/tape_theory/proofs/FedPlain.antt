@@ -14,14 +14,13 @@ use Rattle.run_theory.specs.PlainBench as Bench
 use Rattle.run_theory.specs.PlainBench.{pairs, join, over, firstLoud, Bench, bench0}
 use Rattle.run_theory.specs.Demand3.{plainLines}
 use Rattle.run_theory.proofs.ListClaim.{isDone}
-use Rattle.run_theory.specs.Machine as Machine
-use Rattle.run_theory.proofs.FlatLists.{length-draws}
-use Rattle.run_theory.proofs.InStep.{Matches}
+use Rattle.run_call_model.specs.Machine as Machine
+use Rattle.run_call_model.proofs.FlatLists.{length-draws}
+use Rattle.run_call_model.proofs.InStep.{Matches}
 use Rattle.run_call.specs.declared.State.{State}
-use Rattle.run_call.specs.Ended.{stopGiven}
-use Rattle.run_call.specs.Calls.{refusalGiven}
+use Rattle.run_call.specs.Given.{stopGiven, refusalGiven}
 use Rattle.refusals.specs.Number.{numberOf}
-use Rattle.tape_feed.specs.Feeding.{Fed}
+use Rattle.tape_feed.specs.FeedModel.{Fed}
 use Rattle.tape_verdict.specs.Verdict.{stopThen, answerThen, verdictOf}
 use Rattle.tape_theory.specs.Fed.{Held, Chunk, lend, keep, fedAll}
 use Rattle.tape_theory.specs.PlainTape.{Ending, endingBy, endingText, loudIn, plainDone, plainVerdict, plainEnding, plainText, fedEnding, fedText, Roomy, Cut, noiseIn}

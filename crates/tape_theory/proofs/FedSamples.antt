@@ -12,15 +12,14 @@ use Rattle.run_theory.specs.PlainRun.{samplesFrom}
 use Rattle.run_theory.specs.PlainBench as Bench
 use Rattle.run_theory.specs.PlainBench.{pairs, flatten, firstLoud, Bench, bench0}
 use Rattle.run_theory.specs.Demand3.{Prefix, plainOutput}
-use Rattle.run_theory.specs.Machine as Machine
-use Rattle.run_theory.proofs.InStep.{Matches}
-use Rattle.run_theory.proofs.Demand3.{samples-prefix}
+use Rattle.run_call_model.specs.Machine as Machine
+use Rattle.run_call_model.proofs.InStep.{Matches}
+use Rattle.run_call_model.proofs.Demand3.{samples-prefix}
 use Rattle.refusals.specs.declared.Refusal as Refusal
 use Rattle.run_call.specs.declared.Answer as Answer
 use Rattle.run_steps.specs.declared.Stop as Stop
-use Rattle.run_call.specs.Ended.{stopGiven}
-use Rattle.run_call.specs.Calls.{refusalGiven}
-use Rattle.tape_feed.specs.Feeding.{Fed, fedThen, fedOf}
+use Rattle.run_call.specs.Given.{stopGiven, refusalGiven}
+use Rattle.tape_feed.specs.FeedModel.{Fed, fedThen, fedOf}
 use Rattle.tape_theory.specs.Fed.{Held, Chunk, lend, keep, fedAll, samplesFed}
 use Rattle.tape_theory.specs.PlainTape.{Roomy, Cut, noiseIn}
 use Rattle.tape_theory.proofs.FedIsRun.{refused-stays}

@@ -19,15 +19,15 @@ use Rattle.run_theory.specs.Generator.{Generator}
 use Rattle.run_theory.specs.PlainBench as Bench
 use Rattle.run_theory.specs.Laws.{Laws}
 use Rattle.run_theory.specs.Demand3.{Prefix, plainOutput}
-use Rattle.run_theory.specs.Machine as Machine
+use Rattle.run_call_model.specs.Machine as Machine
 use Rattle.run_generator.proofs.RealDemand3.{real-laws}
-use Rattle.run_call_checks.specs.Checks.{faultRead}
+use Rattle.run_call_checks.specs.ChecksModel.{faultRead}
 use Rattle.run_call_checks.proofs.Draws.{fault-same}
 use Rattle.run_steps.specs.declared.Stop as Stop
 use Rattle.run_call.specs.declared.State.{State}
 use Rattle.run_call.specs.declared.Answer as Answer
-use Rattle.run_call.specs.Turns.{filtersOf, genOf}
-use Rattle.run_call.specs.Ended.{stopGiven}
+use Rattle.run_call.specs.StateGenerator.{filtersOf, genOf}
+use Rattle.run_call.specs.Given.{stopGiven}
 use Rattle.run_open_checks.specs.declared.Opened as Opened
 use Rattle.run_open_checks.specs.Opening as Opening
 use Rattle.run_open_checks.proofs.WhatIsOpened.{opened-run-in-range, opened-first}

@@ -10,12 +10,12 @@ use lib.Seq.{take-append-le, drop-append-le}
 use lib.Ieee.{Float, binary32, ofBits}
 use borrow.Author.Tests.{ne-eqb}
 use Rattle.constants.specs.Rate.{four}
-use Rattle.run_due_samples.specs.Due.{zeros}
+use Rattle.run_theory.specs.Zeros.{zeros}
 use Rattle.run_theory.specs.PlainRun.{plainRecords}
 use Rattle.run_theory.specs.PlainBench.{drawsOf}
-use Rattle.run_theory.proofs.FlatLists.{length-draws}
+use Rattle.run_call_model.proofs.FlatLists.{length-draws}
 use Rattle.run_call.specs.declared.State.{State}
-use Rattle.run_call.specs.Turns.{genOf}
+use Rattle.run_call.specs.StateGenerator.{genOf}
 use Rattle.run_open_checks.specs.declared.Opened as Opened
 use Rattle.run_open_checks.specs.Opening.{Lent, leftBy}
 use Rattle.run_open_checks.specs.FirstCause.{LentFits}

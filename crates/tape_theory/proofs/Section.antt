@@ -11,7 +11,7 @@ use lib.Seq.{length-take-le}
 use lib.Ieee.{Float}
 use borrow.Author.Tests.{ltb-false}
 use Rattle.tape_verdict.specs.declared.Feed.{Feed}
-use Rattle.tape_feed.specs.Feeding.{fedOf}
+use Rattle.tape_feed.specs.FeedModel.{fedOf}
 use Rattle.tape_theory.specs.Fed.{Held, Chunk, lend, keep, fedAll}
 use Rattle.tape_theory.specs.PlainTape.{Roomy, Cut, noiseIn, FedCut}
 

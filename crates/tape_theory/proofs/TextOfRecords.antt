@@ -9,7 +9,7 @@ use lib.ListN.{length, getD, take, drop, length-append, length-drop, List·getD-
 use lib.Seq.{drop-at, take-append-le, drop-append-le}
 use Rattle.le_read.specs.LeBytes.{leOf, leAt}
 use Rattle.run_theory.specs.PlainBench.{join, over}
-use Rattle.run_theory.proofs.FlatLists.{AllOf, length-join, length-over}
+use Rattle.run_call_model.proofs.FlatLists.{AllOf, length-join, length-over}
 use Rattle.tape_text.specs.Text.{number, hexLine, messageOf, lineOf, linesOf, header, samplesWord, runText}
 
 module _ (l xs : List ℕ) (h : length l ≡ 66) where

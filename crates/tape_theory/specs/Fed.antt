@@ -5,12 +5,11 @@ use lib.ListN.{take, drop}
 use lib.Ieee.{Float}
 use Rattle.run_call.specs.declared.State.{State}
 use Rattle.run_call.specs.declared.Answer as Answer
-use Rattle.run_call.specs.Ended.{Left}
-use Rattle.run_call.specs.Calls.{runLeft}
-use Rattle.run_call.specs.Handed.{Lent}
+use Rattle.run_call.specs.Buffers.{Left, Lent}
+use Rattle.run_call.specs.CallModel.{runLeft}
 use Rattle.tape_verdict.specs.declared.Feed.{Feed}
 use Rattle.tape_verdict.specs.Verdict.{startOf}
-use Rattle.tape_feed.specs.Feeding.{Fed, fedAfter, fedOf}
+use Rattle.tape_feed.specs.FeedModel.{Fed, fedAfter, fedOf}
 
 -- a run so far, between chunks
 pub record Held : Type 0 where

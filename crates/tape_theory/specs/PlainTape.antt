@@ -13,7 +13,7 @@ use Rattle.run_theory.specs.Demand3.{Prefix, plainOutput, plainLines}
 use Rattle.run_steps.specs.declared.Stop as Stop
 use Rattle.run_call.specs.declared.State.{State}
 use Rattle.run_call.specs.declared.Answer as Answer
-use Rattle.run_call.specs.Turns.{genOf}
+use Rattle.run_call.specs.StateGenerator.{genOf}
 use Rattle.tape_text.specs.Text.{runText, refusedText}
 use Rattle.tape_verdict.specs.Verdict.{verdictOf}
 use Rattle.tape_theory.specs.Fed.{Held, Chunk, begun, fedAll, samplesFed}

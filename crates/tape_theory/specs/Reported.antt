@@ -9,7 +9,7 @@ use Rattle.constants.specs.Rate.{four}
 use Rattle.pulse_shape.specs.Prototype.{modeSPrototype, modeACPrototype}
 use Rattle.run_theory.specs.PlainBench.{drawsOf}
 use Rattle.run_call.specs.declared.State.{State}
-use Rattle.run_call.specs.Turns.{genOf}
+use Rattle.run_call.specs.StateGenerator.{genOf}
 use Rattle.tape_sections.specs.Sections.{mostDraws}
 use Rattle.tape_text.specs.Text.{runText, refusedText}
 use Rattle.tape_head.specs.declared.Beginning as Beginning

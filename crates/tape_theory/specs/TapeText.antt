@@ -6,11 +6,11 @@ use mathlib.Core.List.{List, [], _∷_}
 use lib.Dec.{ltb}
 use lib.ListN.{length, take, drop}
 use Rattle.constants.specs.Rate.{four, prototypeLength, workingMemory}
-use Rattle.run_due_samples.specs.Due.{zeros}
+use Rattle.run_theory.specs.Zeros.{zeros}
 use Rattle.pulse_shape.specs.Prototype.{modeSPrototype, modeACPrototype}
 use Rattle.run_theory.specs.PlainBench.{drawsOf}
 use Rattle.run_call.specs.declared.State.{State}
-use Rattle.run_call.specs.Turns.{genOf}
+use Rattle.run_call.specs.StateGenerator.{genOf}
 use Rattle.run_open_checks.specs.Opening.{Lent}
 use Rattle.tape_floats.specs.Floats.{floatsOf}
 use Rattle.tape_sections.specs.Sections.{drawsPlace, noisePlace}

@@ -2,7 +2,7 @@
 ghost use mathlib.Core.Path.{_≡_};
 ghost use Rattle.constants.specs.Rate.{four};
 ghost use Rattle.reply_samples.specs.Samples.{replySamples, replyCount};
-ghost use Rattle.reply_samples.specs.Added.{addedReply, addedCount};
+ghost use Rattle.reply_samples.specs.RingModel.{addedReply, addedCount};
 ghost use Rattle.test_exports.specs.Samples.{kindNumbered, configAt};
 use message::Reply;
 use message::ReplyKind;

@@ -3,7 +3,7 @@ ghost use mathlib.Core.Path.{_≡_};
 ghost use lib.ListN.{take};
 ghost use Rattle.constants.specs.Rate.{four};
 ghost use Rattle.filterbank.specs.Taps.{filterTaps};
-ghost use Rattle.filterbank.specs.LaidPulses.{late, lateSum};
+ghost use Rattle.filterbank.specs.PaddedPulsesModel.{late, lateSum};
 ghost use Rattle.filterbank.specs.Clocked.{stepOf, startClock, advance, in64};
 use filterbank::Clock;
 

@@ -5,7 +5,7 @@ use mathlib.Core.Path.{_≡_, refl}
 use Prim.Native.Nat.{ℕ}
 use Rattle.run_theory.specs.PlainBench.{Call, Result, refused, ran, wrongLength, wrongDraw, wrongNoise, done, outputFull, wantsNoise, wantsDraws, recordsFull, bench0, benchResults}
 use Rattle.run_theory.specs.Demand3.{bench, plainOutput, plainLines}
-use Rattle.run_theory.specs.Machine.{runs}
+use Rattle.run_call_model.specs.Machine.{runs}
 use Rattle.run_theory.proofs.ListClaim.{allSamples, allRecords}
 use Rattle.test_run_theory.specs.Small.{smallOf, small}
 

@@ -10,9 +10,9 @@ use borrow.Author.Tests.{ltb-false, le-ltb}
 use Rattle.run_theory.specs.Generator.{negative, from}
 use Rattle.run_theory.specs.PlainRun.{ends, reply, kindOf}
 use Rattle.run_theory.specs.Laws.{Laws}
-use Rattle.run_theory.specs.Machine.{runs}
+use Rattle.run_call_model.specs.Machine.{runs}
 use Rattle.run_theory.proofs.ListClaim.{Demand3}
-use Rattle.run_theory.proofs.Demand3.{demand3}
+use Rattle.run_call_model.proofs.Demand3.{demand3}
 use Rattle.test_run_theory.specs.Small.{SmallDraw, faultOf, startOf, smallOf}
 
 -- the start of a reply

@@ -1,6 +1,6 @@
 -- `stop_number` meets its contract.
 use borrow.Author.Needs.{needs}
-use Rattle.run_call.specs.Ended.{stopNumber}
+use Rattle.run_call.specs.Given.{stopNumber}
 use Rattle.more1090_generator.proofs.stop_number.Statement.{statement}
 use Rattle.more1090_generator.proofs.stop_number.Tie as tie
 

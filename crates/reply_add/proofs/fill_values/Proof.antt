@@ -5,7 +5,7 @@ use mathlib.Core.Path.{_≡_}
 use mathlib.Core.List.{_++_}
 use lib.ListN.{length, take, length-set}
 use Rattle.filterbank.specs.Apply.{clockValues}
-use Rattle.reply_add.specs.Mirror.{lateValue, lateValues}
+use Rattle.reply_add.specs.AddModel.{lateValue, lateValues}
 use Rattle.reply_add.proofs.Filling.{fill-first, fill-next, fill-stop, fill-full}
 use Rattle.reply_add.proofs.fill_values.Statement.{statement}
 use Rattle.reply_add.proofs.fill_values.Tie as tie

@@ -1,7 +1,7 @@
 -- `is_mode_ac` meets its contract.
 use borrow.Author.Needs.{needs}
 use mathlib.Core.Path.{sym, ap}
-use Rattle.reply_add.specs.Mirror.{isModeAC}
+use Rattle.reply_add.specs.AddModel.{isModeAC}
 use Rattle.reply_add.proofs.is_mode_ac.Statement.{statement}
 use Rattle.reply_add.proofs.is_mode_ac.Tie as tie
 

@@ -3,8 +3,8 @@ use borrow.Author.Needs.{needs}
 use mathlib.Core.Path.{ap, _∙_}
 use mathlib.Core.List.{List}
 use lib.Ieee.{Float}
-use Rattle.filterbank.specs.LaidPulses.{lateSum}
-use Rattle.reply_add.specs.Mirror.{lateValue}
+use Rattle.filterbank.specs.PaddedPulsesModel.{lateSum}
+use Rattle.reply_add.specs.AddModel.{lateValue}
 use Rattle.reply_add.proofs.value_at.Statement.{statement}
 use Rattle.reply_add.proofs.value_at.Tie as tie
 

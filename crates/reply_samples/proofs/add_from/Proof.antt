@@ -5,7 +5,7 @@ use mathlib.Core.Path.{_≡_, refl}
 use lib.ListN.{length}
 use Rattle.constants.specs.Rate.{four}
 use Rattle.reply_samples.specs.Samples.{turned}
-use Rattle.reply_samples.specs.Added.{addedFrom}
+use Rattle.reply_samples.specs.RingModel.{addedFrom}
 use Rattle.reply_samples.proofs.Turns.{addedRest, turn-next, turn-end}
 use Rattle.reply_samples.proofs.add_from.Statement.{statement}
 use Rattle.reply_samples.proofs.add_from.Tie as tie

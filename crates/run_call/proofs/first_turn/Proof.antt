@@ -1,6 +1,6 @@
 -- `first_turn` meets its contract.
 use mathlib.Core.Path.{refl}
-use Rattle.run_call.specs.Ended.{firstBy}
+use Rattle.run_call.specs.CallModel.{firstBy}
 use Rattle.run_call.proofs.first_turn.Statement.{statement}
 use Rattle.run_call.proofs.first_turn.Tie as tie
 

@@ -1,6 +1,6 @@
 -- `refused` meets its contract.
 use mathlib.Core.Path.{refl}
-use Rattle.run_call.specs.Calls.{refusedBy}
+use Rattle.run_call.specs.CallModel.{refusedBy}
 use Rattle.run_call.proofs.refused.Statement.{statement}
 use Rattle.run_call.proofs.refused.Tie as tie
 

@@ -2,7 +2,8 @@
 use mathlib.Core.Path.{_≡_, sym, _∙_}
 use mathlib.Core.Bool.{false, _||_}
 use lib.ListN.{length}
-use Rattle.run_call_checks.specs.Checks.{wrongMemory, wrongBuffers}
+use Rattle.run_call_checks.specs.Checks.{wrongMemory}
+use Rattle.run_call_checks.specs.ChecksModel.{wrongBuffers}
 use Rattle.run_call_checks.proofs.Lengths.{right-memory}
 use Rattle.run_call.proofs.Refusing.{lent-refused, draw-refused, noise-refused, not-refused}
 use borrow.Author.Needs.{needs}

@@ -1,6 +1,6 @@
 -- `stopped_at` meets its contract.
 use mathlib.Core.Path.{refl}
-use Rattle.run_call.specs.Ended.{ranBy}
+use Rattle.run_call.specs.CallModel.{ranBy}
 use borrow.Author.Needs.{needs}
 use Rattle.run_call.proofs.stopped_at.Statement.{statement}
 use Rattle.run_call.proofs.stopped_at.Tie as tie

@@ -4,7 +4,7 @@ use mathlib.Core.Bool.{cond}
 use mathlib.Core.Option.{none}
 use Prim.Native.Nat.{_-_, _≤_}
 use lib.ListN.{length, drop}
-use Rattle.run_call_checks.specs.Noise.{loudFrom}
+use Rattle.run_call_checks.specs.NoiseModel.{loudFrom}
 use Rattle.run_call_checks.proofs.Quiet.{quiet-on, quiet-end}
 use borrow.Author.Needs.{needs}
 use Rattle.run_call_checks.proofs.all_quiet.Statement.{statement}

@@ -1,6 +1,6 @@
 -- `check_draws` meets its contract: the plain bench's refusal of draws.
 use mathlib.Core.Path.{sym, ap, _∙_}
-use Rattle.run_call_checks.specs.Checks.{faultRead}
+use Rattle.run_call_checks.specs.ChecksModel.{faultRead}
 use Rattle.run_call_checks.proofs.Draws.{jump-refused, no-jump}
 use borrow.Author.Needs.{needs}
 use Rattle.run_call_checks.proofs.check_draws.Statement.{statement}

@@ -2,7 +2,7 @@
 use mathlib.Core.Path.{_≡_, sym, ap, _∙_}
 use mathlib.Core.Bool.{Bool, cond}
 use mathlib.Core.Option.{none}
-use Rattle.run_call_checks.specs.Noise.{loudFrom, loudRead}
+use Rattle.run_call_checks.specs.NoiseModel.{loudFrom, loudRead}
 use borrow.Author.Needs.{needs}
 use Rattle.run_call_checks.proofs.check_noise.Statement.{statement}
 use Rattle.run_call_checks.proofs.check_noise.Tie as tie

@@ -3,7 +3,7 @@ use mathlib.Core.Path.{_≡_, refl, sym, _∙_}
 use Prim.Native.Nat.{_-_, _≤_}
 use lib.ListN.{length, drop}
 use borrow.Author.Tests.{not-true, not-false}
-use Rattle.run_call_checks.specs.Noise.{loudFrom}
+use Rattle.run_call_checks.specs.NoiseModel.{loudFrom}
 use Rattle.run_call_checks.proofs.Quiet.{loud-at, loud-on, loud-end}
 use borrow.Author.Needs.{needs}
 use Rattle.run_call_checks.proofs.first_loud.Statement.{statement}

@@ -2,8 +2,8 @@
 use Prim.Native.Nat.{_-_, _≤_}
 use mathlib.Core.Path.{_≡_}
 use lib.ListN.{length, length-set}
-use Rattle.run_theory.specs.Buffers.{laid}
-use Rattle.run_due_samples.specs.Due.{zeros}
+use Rattle.run_call_model.specs.Buffers.{laid}
+use Rattle.run_theory.specs.Zeros.{zeros}
 use Rattle.run_due_samples.proofs.Stretches.{clear-first, clear-next, all-cleared}
 use borrow.Author.Needs.{needs}
 use Rattle.run_due_samples.proofs.clear_stretch.Statement.{statement}

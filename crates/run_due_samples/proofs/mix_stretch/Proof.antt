@@ -2,8 +2,8 @@
 use Prim.Native.Nat.{_-_, _≤_}
 use mathlib.Core.Path.{_≡_}
 use lib.ListN.{length, drop, take, length-set}
-use Rattle.run_theory.specs.Buffers.{laid}
-use Rattle.run_due_samples.specs.Due.{mix}
+use Rattle.run_call_model.specs.Buffers.{laid}
+use Rattle.run_due_samples.specs.DueModel.{mix}
 use Rattle.run_due_samples.proofs.Stretches.{mix-first, mix-next, all-mixed}
 use borrow.Author.Needs.{needs}
 use Rattle.run_due_samples.proofs.mix_stretch.Statement.{statement}

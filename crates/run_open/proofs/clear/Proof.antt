@@ -3,7 +3,7 @@ use Prim.Native.Nat.{_-_, _≤_}
 use mathlib.Core.Path.{_≡_}
 use lib.ListN.{length, take, length-set}
 use lib.Ieee.{ofBits}
-use Rattle.run_due_samples.specs.Due.{zeros}
+use Rattle.run_theory.specs.Zeros.{zeros}
 use Rattle.run_open.proofs.Filling.{clear-next, clear-end}
 use borrow.Author.Needs.{needs}
 use Rattle.run_open.proofs.clear.Statement.{statement}

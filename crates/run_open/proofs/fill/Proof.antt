@@ -4,8 +4,8 @@ use mathlib.Core.Bool.{Bool, true, false, cond}
 use mathlib.Core.List.{List}
 use lib.ListN.{length}
 use lib.Ieee.{Float}
-use Rattle.run_due_samples.specs.Due.{zeros}
-use Rattle.run_open.specs.Over.{over}
+use Rattle.run_theory.specs.Zeros.{zeros}
+use Rattle.run_open.specs.FillModel.{over}
 use borrow.Author.Tests.{not-true, not-false}
 use borrow.Author.Needs.{needs}
 use Rattle.run_open.proofs.fill.Statement.{statement}

@@ -1,6 +1,6 @@
 -- `halted` meets its contract.
 use mathlib.Core.Path.{refl}
-use Rattle.run_steps.specs.Moved.{haltedBy}
+use Rattle.run_steps.specs.ProgressModel.{haltedBy}
 use Rattle.run_steps.proofs.halted.Statement.{statement}
 use Rattle.run_steps.proofs.halted.Tie as tie
 

@@ -1,7 +1,7 @@
 -- `moved` meets its contract: each plan by its own case.
 use mathlib.Core.Path.{refl, sym, ap, _∙_}
 use borrow.Author.Needs.{needs}
-use Rattle.run_steps.specs.Moved.{movedBy}
+use Rattle.run_steps.specs.ProgressModel.{movedBy}
 use Rattle.run_steps.proofs.Joined.{wrote-by, took-by}
 use Rattle.run_steps.proofs.moved.Statement.{statement}
 use Rattle.run_steps.proofs.moved.Tie as tie

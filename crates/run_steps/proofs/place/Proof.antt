@@ -1,7 +1,7 @@
 -- `place` meets its contract: `planDraw`, by its start.
 use mathlib.Core.Path.{sym, ap, _∙_}
 use mir.Facts.{toZ-ofZ}
-use Rattle.run_steps.specs.Plans.{isNegative}
+use Rattle.run_steps.specs.PlanModel.{isNegative}
 use Rattle.run_steps.proofs.Tests.{skips, ends-run, replies}
 use borrow.Author.Needs.{needs}
 use Rattle.run_steps.proofs.place.Statement.{statement}

@@ -1,7 +1,7 @@
 -- `test_exports::port_pulse_sum` meets its contract.
 use mathlib.Core.Path.{_≡_, refl}
 use lib.ListN.{take}
-use Rattle.filterbank.specs.LaidPulses.{late}
+use Rattle.filterbank.specs.PaddedPulsesModel.{late}
 use borrow.Author.Needs.{needs}
 use Rattle.test_exports.proofs.taps.port_pulse_sum.Statement.{statement}
 use Rattle.test_exports.proofs.taps.port_pulse_sum.Tie as tie

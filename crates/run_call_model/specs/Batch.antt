@@ -1,8 +1,8 @@
 -- A model of the code, and not the specification's words: samples that are due, written at once, and working memory after them.
 use mathlib.Core.List.{List, [], _∷_}
 use Prim.Native.Nat.{ℕ, zero, suc, _%_}
 use Rattle.run_theory.specs.Generator.{Generator, Sample, NoisePair, silence, noisy}
-use Rattle.run_theory.specs.Machine.{window, rd, wr}
+use Rattle.run_call_model.specs.Machine.{window, rd, wr}
 
 module _ (G : Generator) (o : G .Value) where
   open Generator G using (Value, plus, scaled)

@@ -8,21 +8,21 @@ use native.Mathlib.Omega.{arith}
 use lib.ListN.{length, drop, take, length-append}
 use lib.Seq.{drop-at, take-at, take-all, take-nil, take-append-add}
 use borrow.Author.Tests.{le-leb}
 use Rattle.run_theory.specs.Generator.{Generator, Sample, NoisePair}
 use Rattle.run_theory.specs.PlainRun.{Reply, timeOf, ended, replies, samplesFrom, plainSamples, plainRecords}
 use Rattle.run_theory.specs.PlainBench.{Stop, done, outputFull, wantsNoise, wantsDraws, recordsFull, Refusal, pairs, flatten, join, over, Call, Result, drawsOf, refusalOf, Lent, lentOf, Bench, Benched, bench0, benchSteps, fuel, counts, Given, resultOf, benchCall, benchResults, benchAfter}
 use Rattle.run_theory.specs.Laws.{Laws, Accepted}
 use Rattle.run_theory.specs.Demand3.{Prefix, bench, plainOutput, plainLines}
-use Rattle.run_theory.specs.Machine.{State, Ran, opened, machineSteps, machineCall, machineResults, machineAfter, runs}
+use Rattle.run_call_model.specs.Machine.{State, Ran, opened, machineSteps, machineCall, machineResults, machineAfter, runs}
 use Rattle.run_theory.proofs.ListClaim.{isDone, doneIn, drawsTaken, samplesWritten, noiseUsed, recordsWritten, allSamples, allRecords, reachesDone, allTaken, allUsed, Demand3}
 use Rattle.run_theory.proofs.PlainFacts.{replies-still, replies-append, samplesFrom-append, length-samplesFrom}
 use Rattle.run_theory.proofs.Reached.{Reached, reached-first, samples-stay}
 use Rattle.run_theory.proofs.Refusals.{accepted-draws, not-refused}
-use Rattle.run_theory.proofs.LatestTime.{refusal-alike}
-use Rattle.run_theory.proofs.InStep.{Matches, matches-first, Kept, loop-kept}
-use Rattle.run_theory.proofs.FlatLists.{length-flatten, flatten-append, pairs-after, take-pairs, join-append, length-join, take-over}
-use Rattle.run_theory.proofs.Counted.{Moved, moved, Counted, counted, lines}
+use Rattle.run_call_model.proofs.LatestTime.{refusal-alike}
+use Rattle.run_call_model.proofs.InStep.{Matches, matches-first, Kept, loop-kept}
+use Rattle.run_call_model.proofs.FlatLists.{length-flatten, flatten-append, pairs-after, take-pairs, join-append, length-join, take-over}
+use Rattle.run_call_model.proofs.Counted.{Moved, moved, Counted, counted, lines}
 use Rattle.run_theory.proofs.Reach.{all-reach}
 
 is-done-eq : (s : Stop) → isDone s ≡ true → s ≡ done
 is-done-eq done e = refl

@@ -1,15 +1,15 @@
--- Run calls one after the other (`runsLeft`); and a run call as the theory of lists of calls has it: what a call's result and the state after it stand for.
-use Prim.Native.Nat.{ℕ}
+-- A model of code: a run call as `run_call_model` has it, in the code's words.
 use mathlib.Core.List.{List, [], _∷_}
 use lib.Ieee.{Float, nan}
 use Rattle.run_theory.specs.PlainBench as Bench
-use Rattle.run_theory.specs.Machine as Machine
+use Rattle.run_call_model.specs.Machine as Machine
 use Rattle.run_call.specs.declared.State.{State}
 use Rattle.run_call.specs.declared.Answer as Answer
 use Rattle.run_call.specs.declared.Ran.{Ran}
-use Rattle.run_call.specs.Generated.{genOf}
-use Rattle.run_call.specs.Ended.{stopGiven, Left}
-use Rattle.run_call.specs.Calls.{refusalGiven, runLeft}
+use Rattle.run_call.specs.StateGenerator.{genOf}
+use Rattle.run_call.specs.Buffers.{Left, Lent}
+use Rattle.run_call.specs.Given.{stopGiven, refusalGiven}
+use Rattle.run_call.specs.Calls.{callOf}
 
 module _ (s : State) (modeS modeAC : List Float) where
   -- the machine's state: what of a state moves, with working memory
@@ -29,27 +29,10 @@ module _ (s : State) (modeS modeAC : List Float) where
   unfoldable pub leftGiven : Bench.Result (genOf s modeS modeAC) → Machine.State (genOf s modeS modeAC) nan → Left
   leftGiven r z = record { ran = ranGiven (r .answer) z; memory = z .memory; output = r .output; records = r .records }
 
--- what a run call is lent, beside what opening was lent
-pub record Lent : Type 0 where
-  pub draws : List ℕ
-  pub noise : List Float
-  pub output : List Float
-  pub records : List ℕ
-
--- what each run call of a list answers and leaves, given state, prototypes and memory as the last call left them
-unfoldable pub runsLeft : State → List Float → List Float → List Float → List Lent → List Left
-runsLeft s modeS modeAC memory [] = []
-runsLeft s modeS modeAC memory (l ∷ ls) =
-    let r = runLeft s modeS modeAC memory (l .draws) (l .noise) (l .output) (l .records) in
-    r ∷ runsLeft (r .ran .state) modeS modeAC (r .memory) ls
-
 module _ (s : State) (modeS modeAC : List Float) where
-  abbrev pub callOf : Lent → Bench.Call (genOf s modeS modeAC)
-  callOf l = record { draws = l .draws; noise = l .noise; output = l .output; records = l .records }
-
   -- of the theory's calls, from a machine's state on
   unfoldable pub runsGiven : Machine.State (genOf s modeS modeAC) nan → List Lent → List Left
   runsGiven z [] = []
   runsGiven z (l ∷ ls) =
-      let r = Machine.machineRun (genOf s modeS modeAC) nan z (callOf l) in
-      leftGiven s modeS modeAC (Bench.resultOf (genOf s modeS modeAC) (callOf l) (r .0)) (r .1) ∷ runsGiven (r .1) ls
+      let r = Machine.machineRun (genOf s modeS modeAC) nan z (callOf s modeS modeAC l) in
+      leftGiven s modeS modeAC (Bench.resultOf (genOf s modeS modeAC) (callOf s modeS modeAC l) (r .0)) (r .1) ∷ runsGiven (r .1) ls

@@ -4,11 +4,11 @@ use mathlib.Core.Path.{_≡_, refl, ap}
 use Prim.Native.Nat.{ℕ, zero, suc, _+_, _≤_, _<_}
 use native.Mathlib.Omega.{arith}
 use lib.ListN.{length}
 use Rattle.run_theory.specs.Generator.{Generator, NoisePair}
 use Rattle.run_theory.specs.PlainRun.{Kind, timeOf, ended}
 use Rattle.run_theory.specs.PlainBench.{Lent, Step, halt, drain, due, taking, latest, Bench, Benched, benchStep, benchOn, benchSteps, fuel}
-use Rattle.run_theory.specs.Machine.{later, State, Ran, stateStep, wrote, sample, took, noted, withSample, machineOn, machineSteps}
+use Rattle.run_call_model.specs.Machine.{later, State, Ran, stateStep, wrote, sample, took, noted, withSample, machineOn, machineSteps}
 use Rattle.run_theory.proofs.StepFacts.{Says, step-says, Drains, Dues, Takes}
 
 module _ (G : Generator) where
   open Generator G using (Value, Draw, Time, t0, after)

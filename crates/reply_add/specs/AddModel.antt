@@ -13,13 +13,13 @@ use Rattle.message_config.specs.declared.MessageConfig.{MessageConfig}
 use Rattle.message_config.specs.Config.{configClockPhase, configClockError, configRate, configPhase}
 use Rattle.filterbank.specs.declared.Clock.{Clock}
 use Rattle.filterbank.specs.Taps.{filterTaps}
-use Rattle.filterbank.specs.LaidPulses.{lateSum}
+use Rattle.filterbank.specs.PaddedPulsesModel.{lateSum}
 use Rattle.filterbank.specs.Clocked.{stepOf, startClock}
 use Rattle.filterbank.specs.Apply.{clockValues, limitOf, fuelOf}
 use Rattle.reply_samples.specs.declared.Sample.{Sample}
 use Rattle.reply_add.specs.declared.Wave.{Wave}
 use Rattle.reply_samples.specs.Samples.{turned}
-use Rattle.reply_samples.specs.Added.{addedReply, addedCount}
+use Rattle.reply_samples.specs.RingModel.{addedReply, addedCount}
 
 unfoldable pub isModeAC : ReplyKind → Bool
 isModeAC Short = false

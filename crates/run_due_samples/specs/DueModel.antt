@@ -1,16 +1,16 @@
--- A mirror of code: samples that are due, written at once as numbers, and working memory after them. What they come to in plain terms is the theory's (`run_theory`).
+-- A model of code: samples that are due, written at once as numbers, and working memory after them. What they mean in plain terms is shown in `run_call_model`.
 use mathlib.Core.Bool.{Bool, cond, _&&_}
 use mathlib.Core.List.{List}
 use Prim.Native.Nat.{ℕ, _+_, _*_}
 use lib.Dec.{eqb, leb}
-use lib.ListN.{length, take, drop, replicate}
+use lib.ListN.{length, take, drop}
 use lib.Ieee.{Float, nan}
 use Rattle.run_theory.specs.Generator.{Generator}
 use Rattle.run_theory.specs.PlainBench.{pairs, flatten}
-use Rattle.run_theory.specs.Buffers.{laid}
-use Rattle.run_theory.specs.Batch.{written, cleared, mixed}
+use Rattle.run_call_model.specs.Buffers.{laid}
+use Rattle.run_call_model.specs.Batch.{written, cleared, mixed}
 use Rattle.constants.specs.Rate.{four, workingMemory}
-use Rattle.run_theory.specs.FloatGenerator.{nought, noDraws, generator}
+use Rattle.run_theory.specs.FloatGenerator.{noDraws, generator}
 
 -- a generator without draws: samples that are due do not turn on them
 abbrev pub gen : Generator
@@ -19,9 +19,6 @@ gen = generator noDraws four 0
 -- numbers of memory with their noise
 abbrev pub mix : List Float → List Float → List Float
 mix xs vs = mixed gen nan xs vs
-
-abbrev pub zeros : ℕ → List Float
-zeros n = replicate n nought
 
 -- the numbers of the samples written from memory m on, the next being sample w, with this noise
 unfoldable pub samplesOf : List Float → ℕ → List Float → List Float

@@ -9,7 +9,7 @@ use Rattle.draw.specs.Draw.{drawAt}
 use Rattle.draw_config.specs.Pending.{completedBy}
 use Rattle.reply_record.specs.Record.{recordBytes, recordAt}
 use Rattle.reply_samples.specs.Samples.{replySamples, replyCount}
-use Rattle.reply_samples.specs.Added.{ringPlaces, addedReply, addedCount}
+use Rattle.reply_samples.specs.RingModel.{ringPlaces, addedReply, addedCount}
 
 -- the message but for its reply's bytes, its first sample, and the bytes that begin with its draw
 module _ (pending : MessageConfig) (delays : Delays) (first : ℕ) (rest : List ℕ) where

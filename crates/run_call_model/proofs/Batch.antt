@@ -6,14 +6,14 @@ use Prim.Native.Nat.{ℕ, zero, suc, _+_, _-_, _%_, _≤_, _<_}
 use native.Mathlib.Omega.{arith}
 use lib.ListN.{length}
 use borrow.Author.Tests.{lt-leb, lt-ltb}
 use Rattle.run_theory.specs.Generator.{Generator, Sample, NoisePair, silence, noisy}
 use Rattle.run_theory.specs.PlainRun.{Kind, reply, kind}
 use Rattle.run_theory.specs.PlainBench.{Step, drain, due, write, step4, dueBy, step1}
-use Rattle.run_theory.specs.Machine.{window, rd, wr, later, State, Ran, stateStep, withSample, wrote, sample, machineOn}
-use Rattle.run_theory.specs.Batch.{written, cleared}
-use Rattle.run_theory.specs.Turns.{allSteps, lentWith}
-use Rattle.run_theory.proofs.EnoughFuel.{machine-repeats}
-use Rattle.run_theory.proofs.Ring.{length-wr}
+use Rattle.run_call_model.specs.Machine.{window, rd, wr, later, State, Ran, stateStep, withSample, wrote, sample, machineOn}
+use Rattle.run_call_model.specs.Batch.{written, cleared}
+use Rattle.run_call_model.specs.Turns.{allSteps, lentWith}
+use Rattle.run_call_model.proofs.EnoughFuel.{machine-repeats}
+use Rattle.run_call_model.proofs.Ring.{length-wr}
 
 module _ (G : Generator) (o : G .Value) where
   open Generator G using (Value, Draw, Time, after, hold, total)

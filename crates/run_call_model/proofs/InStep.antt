@@ -8,16 +8,16 @@ use native.Mathlib.Decide.{decLe}
 use native.Mathlib.Nat.{add-mod-right, mod-lt}
 use native.Mathlib.Omega.{arith}
 use lib.ListN.{length}
 use Rattle.run_theory.specs.Generator.{Generator, Sample, NoisePair, silence, noisy}
 use Rattle.run_theory.specs.PlainRun.{Kind, ignored, ends, reply, timeOf, ended, replyOf, replies, addNth, hit, sumAt, plainSamples, plainRecords}
 use Rattle.run_theory.specs.PlainBench.{done, Lent, Step, halt, drain, due, taking, latest, Bench, Benched, bench0, benchStep, benchOn, benchSteps}
-use Rattle.run_theory.specs.Machine.{window, rd, wr, put, later, State, Ran, opened, stateStep, wrote, sample, took, withSample, noted, machineOn, machineSteps}
+use Rattle.run_call_model.specs.Machine.{window, rd, wr, put, later, State, Ran, opened, stateStep, wrote, sample, took, withSample, noted, machineOn, machineSteps}
 use Rattle.run_theory.specs.Laws.{Laws}
 use Rattle.run_theory.proofs.PlainFacts.{length-snoc, hit-before, hit-at}
-use Rattle.run_theory.proofs.Ring.{Fit, fit-blank, rd-blank, fit-wr, fit-put, rd-back, rd-here, put-ahead, put-at}
+use Rattle.run_call_model.proofs.Ring.{Fit, fit-blank, rd-blank, fit-wr, fit-put, rd-back, rd-here, put-ahead, put-at}
 use Rattle.run_theory.proofs.StepFacts.{Dues, Takes, Says, step-says, reply-fits}
 use Rattle.run_theory.proofs.Reached.{Reached, Left, samples-more, reached-drain, reached-due, left-drain, left-due, take-time, take-ended, take-sum, left-take, reached-take, take-samples, take-records, take-ahead, good-on, take-short, due-left}
-use Rattle.run_theory.proofs.LatestTime.{StandsFor, stands-later}
+use Rattle.run_call_model.proofs.LatestTime.{StandsFor, stands-later}
 
 module _ (G : Generator) (L : Laws G) (o : G .Value) where
   open Generator G using (Byte, Draw, Time, t0, after, adds, entry, total)

@@ -3,15 +3,15 @@
 use mathlib.Core.List.{List}
 use Prim.Native.Nat.{ℕ, suc, _+_, _-_, _*_, _/_, _≤_}
 use lib.ListN.{length, drop}
 use Rattle.run_theory.specs.Generator.{Generator, NoisePair}
 use Rattle.run_theory.specs.PlainBench.{Stop, pairs, flatten, join, Call, drawsOf, Lent, fuel}
-use Rattle.run_theory.specs.Machine.{State, Ran, machineSteps}
-use Rattle.run_theory.specs.Buffers.{laid}
+use Rattle.run_call_model.specs.Machine.{State, Ran, machineSteps}
+use Rattle.run_call_model.specs.Buffers.{laid}
 
 module _ (G : Generator) (o : G .Value) where
   open Generator G using (Value, Byte, Draw, drawBytes, recordBytes)
 
-  -- the steps of a call until one stops it: `fuel` bounds their number, and is enough (proofs/EnoughFuel, `machine-repeats`)
+  -- the steps of a call until one stops it: `fuel` bounds their number, and is enough (run_call_model/proofs/EnoughFuel, `machine-repeats`)
   abbrev pub allSteps : State G o → Lent G → Ran G o
   allSteps z l = machineSteps G o (fuel G l) z l
 
@@ -71,6 +71,6 @@ module _ (G : Generator) (o : G .Value) where
       pub noise-in : 2 * t .samples ≤ length noise
       pub records-in : recordBytes * t .lines ≤ length (t .records)
 
-    -- a bound on the turns that are left, since each takes a draw or fills output. It is enough (proofs/Batched, `turns-are`).
+    -- a bound on the turns that are left, since each takes a draw or fills output. It is enough (run_call_model/proofs/Batched, `turns-are`).
     abbrev pub turnFuel : Turn → ℕ
     turnFuel t = suc (length (t .rest) / drawBytes + (length (t .output) / 2 - t .samples))

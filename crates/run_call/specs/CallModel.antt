@@ -1,32 +1,23 @@
--- A mirror of code: what a call leaves and answers, from what the theory's turns come to; and stops by number. From an opened run `run_theorem/specs/OpenedRuns` says it in plain terms.
+-- A model of code: what a run call answers and leaves, refused or not. From an opened run `run_theorem/specs/OpenedRuns` says what it means.
 use Prim.Native.Nat.{ℕ, _*_}
 use mathlib.Core.List.{List}
 use lib.Ieee.{Float, nan}
-use Rattle.run_theory.specs.PlainBench as Bench
-use Rattle.run_theory.specs.Turns as Theory
+use Rattle.run_call_model.specs.Turns as Theory
 use Rattle.run_call.specs.declared.State.{State}
 use Rattle.run_steps.specs.declared.Turn.{Turn}
 use Rattle.run_steps.specs.declared.Next as Next
 use Rattle.run_steps.specs.declared.Stop as Stop
 use Rattle.run_call.specs.declared.Answer as Answer
 use Rattle.run_call.specs.declared.Ran.{Ran}
-use Rattle.run_call.specs.Generated.{genOf}
-
--- a stop of the theory, as the code answers it
-unfoldable pub stopGiven : Bench.Stop → Stop.Stop
-stopGiven Bench.done = Stop.the-variants.Done
-stopGiven Bench.outputFull = Stop.the-variants.OutputFull
-stopGiven Bench.wantsNoise = Stop.the-variants.WantsNoise
-stopGiven Bench.wantsDraws = Stop.the-variants.WantsDraws
-stopGiven Bench.recordsFull = Stop.the-variants.RecordsFull
-
--- the code's stops, numbered as in SPECIFICATION 9.2, as the plain bench's are
-unfoldable pub stopNumber : Stop.Stop → ℕ
-stopNumber Stop.the-variants.Done = 0
-stopNumber Stop.the-variants.OutputFull = 1
-stopNumber Stop.the-variants.WantsNoise = 2
-stopNumber Stop.the-variants.WantsDraws = 3
-stopNumber Stop.the-variants.RecordsFull = 4
+use Rattle.run_call.specs.StateGenerator.{genOf}
+use Rattle.run_call.specs.Given.{stopGiven, refusalGiven}
+use Rattle.run_call.specs.Buffers.{Left}
+use mathlib.Core.Bool.{cond}
+use mathlib.Core.Option.{Option, none, some}
+use lib.ListN.{length}
+use Rattle.run_theory.specs.PlainBench as Bench
+use Rattle.refusals.specs.declared.Refusal as Refusal
+use Rattle.run_call_checks.specs.Checks.{wrongMemory}
 
 -- the first turn of a call
 unfoldable pub firstBy : State → Turn
@@ -39,13 +30,6 @@ ranBy s t w = record {
   counts = record { taken = t .taken; samples = t .samples; noise = 2 * t .samples; records = t .records };
   answer = Answer.the-variants.Stopped w;
 }
-
--- what a call answers, and what it leaves in what it was lent
-pub record Left : Type 0 where
-  pub ran : Ran
-  pub memory : List Float
-  pub output : List Float
-  pub records : List ℕ
 
 module _ (s : State) (modeS modeAC : List Float) where
   -- of what the theory's call comes to
@@ -67,3 +51,21 @@ module _ (s : State) (modeS modeAC : List Float) where
       leftBy
       (Theory.restOf (genOf s modeS modeAC) nan noise
       (Theory.firstTurn (genOf s modeS modeAC) nan (record { memory = memory; written = s .written; time = s .time; over = s .ended; mark = s .latest }) (record { draws = draws; noise = noise; output = output; records = records })))
+
+unfoldable pub refusedBy : State → Refusal.Refusal → Ran
+refusedBy s q = record { state = s; counts = record { taken = 0; samples = 0; noise = 0; records = 0 }; answer = Answer.the-variants.Refused q }
+
+-- a refusal changes neither state nor any lent buffer
+abbrev pub runBy : State → List Float → List Float → List ℕ → Left → Option Bench.Refusal → Left
+runBy s memory output records left none = left
+runBy s memory output records left (some q) = record { ran = refusedBy s (refusalGiven q); memory = memory; output = output; records = records }
+
+module _ (s : State) (modeS modeAC memory : List Float) (draws : List ℕ) (noise output : List Float) (records : List ℕ) where
+  -- 9, then every draw, then every noise value (SPECIFICATION 3.2)
+  abbrev pub callRefusal : Option Bench.Refusal
+  callRefusal =
+      cond (wrongMemory (length memory) (length modeS) (length modeAC)) (some Bench.wrongLength)
+      (Bench.refusalOf (genOf s modeS modeAC) (s .time) (some (s .latest)) (record { draws = draws; noise = noise; output = output; records = records }))
+
+  unfoldable pub runLeft : Left
+  runLeft = runBy s memory output records (callLeft s modeS modeAC memory draws noise output records) callRefusal

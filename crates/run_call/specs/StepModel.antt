@@ -1,17 +1,17 @@
--- The code's turns, as the theory of lists of calls has them, which only contracts within this crate cite.
+-- A model of code: the steps of a run call's loop, read as `run_call_model` has them. Only contracts within this crate cite it.
 use Prim.Native.Nat.{ℕ, _+_, _*_, _≤_, _<_}
 use mathlib.Core.List.{List}
 use mathlib.Core.Path.{_≡_}
 use lib.ListN.{length, drop}
 use lib.Ieee.{Float, nan}
 use Rattle.run_theory.specs.Generator.{Generator}
-use Rattle.run_theory.specs.Turns as Theory
-use Rattle.run_theory.specs.Turns.{Within, turnFuel}
+use Rattle.run_call_model.specs.Turns as Theory
+use Rattle.run_call_model.specs.Turns.{Within, turnFuel}
 use Rattle.run_call.specs.declared.State.{State}
 use Rattle.run_steps.specs.declared.Turn.{Turn}
 use Rattle.run_steps.specs.declared.Next as Next
-use Rattle.run_steps.specs.Plans.{stopRead}
-pub use Rattle.run_call.specs.Generated.{filtersOf, genOf}
+use Rattle.run_steps.specs.PlanModel.{stopRead}
+use Rattle.run_call.specs.StateGenerator.{genOf}
 
 -- the counts lie within what is lent
 pub record Inside (t : Turn) (noise output records : ℕ) : Type 0 where

@@ -10,17 +10,17 @@ use lib.Dec.{ltb}
 use lib.ListN.{length, take, drop, length-append, length-drop, take-append-drop}
 use lib.Seq.{drop-drop}
 use borrow.Author.Tests.{le-leb, lt-leb, lt-ltb, le-ltb}
 use Rattle.run_theory.specs.Generator.{Generator, Sample, NoisePair}
 use Rattle.run_theory.specs.PlainRun.{Kind, ignored, ends, reply, kind}
 use Rattle.run_theory.specs.PlainBench.{Stop, done, outputFull, wantsNoise, wantsDraws, recordsFull, Answer, ran, pairs, flatten, join, over, Call, Result, drawsOf, Lent, lentOf, Step, halt, drain, due, taking, write, step4, step5, dueBy, step1, fuel, resultOf}
-use Rattle.run_theory.specs.Machine.{later, State, Ran, stateStep, took, noted, machineOn, machineCall}
-use Rattle.run_theory.specs.Buffers.{laid}
-use Rattle.run_theory.specs.Batch.{written}
-use Rattle.run_theory.specs.Turns.{allSteps, lentWith, Turn, Ended, firstTurn, stopped, leftOf, finish, restOf}
-use Rattle.run_theory.proofs.EnoughFuel.{machine-repeats}
-use Rattle.run_theory.proofs.FlatLists.{length-laid, laid-laid, pairs-split, pairs-none, length-flatten, flatten-append, draws-none, draws-cons}
-use Rattle.run_theory.proofs.Counted.{Counted, counted}
-use Rattle.run_theory.proofs.Batch.{length-written, wroteMany, withSamples, drain-many, due-many}
+use Rattle.run_call_model.specs.Machine.{later, State, Ran, stateStep, took, noted, machineOn, machineCall}
+use Rattle.run_call_model.specs.Buffers.{laid}
+use Rattle.run_call_model.specs.Batch.{written}
+use Rattle.run_call_model.specs.Turns.{allSteps, lentWith, Turn, Ended, firstTurn, stopped, leftOf, finish, restOf}
+use Rattle.run_call_model.proofs.EnoughFuel.{machine-repeats}
+use Rattle.run_call_model.proofs.FlatLists.{length-laid, laid-laid, pairs-split, pairs-none, length-flatten, flatten-append, draws-none, draws-cons}
+use Rattle.run_call_model.proofs.Counted.{Counted, counted}
+use Rattle.run_call_model.proofs.Batch.{length-written, wroteMany, withSamples, drain-many, due-many}
 
 module _ (G : Generator) (o : G .Value) where
   open Generator G using (Value, Byte, Draw, Time, after, adds, entry, drawBytes, recordBytes, drawAt, hold, total)

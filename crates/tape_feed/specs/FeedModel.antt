@@ -5,8 +5,8 @@ use lib.ListN.{take, drop}
 use lib.Ieee.{Float}
 use Rattle.run_call.specs.declared.Answer as Answer
 use Rattle.run_call.specs.declared.Ran.{Ran}
-use Rattle.run_call.specs.Ended.{Left}
-use Rattle.run_call.specs.Calls.{runLeft}
+use Rattle.run_call.specs.Buffers.{Left}
+use Rattle.run_call.specs.CallModel.{runLeft}
 use Rattle.tape_verdict.specs.declared.Feed.{Feed}
 
 -- a run so far, and what is lent to it for writing

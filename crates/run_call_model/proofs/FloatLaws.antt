@@ -6,14 +6,14 @@ use mathlib.Core.Path.{_≡_, refl}
 use Prim.Native.Nat.{ℕ, _+_, _≤_, _<_}
 use lib.Ieee.{Float, binary32, binary64, fits, lt, ofBits}
 use lib.ListN.{length}
 use Rattle.run_theory.specs.PlainRun.{reply, kind}
 use Rattle.run_theory.specs.Laws.{Laws}
-use Rattle.run_theory.specs.Machine.{runs}
+use Rattle.run_call_model.specs.Machine.{runs}
 use Rattle.run_theory.proofs.ListClaim.{Demand3}
-use Rattle.run_theory.proofs.Demand3.{demand3}
+use Rattle.run_call_model.proofs.Demand3.{demand3}
 use Rattle.constants.specs.Rate.{replyLimit, holdBack}
 use Rattle.run_theory.specs.FloatGenerator.{Draws, nought, noiseScale, generator}
 use Rattle.run_theory.proofs.Times.{GoodTime, Gap, not-before-itself, not-before-zero, zero-alone, not-after-trans, time-on, good-on}
 
 -- what is asked of draws
 pub record DrawLaws (S : Draws) (sps total : ℕ) : Type 0 where

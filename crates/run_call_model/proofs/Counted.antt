@@ -5,12 +5,12 @@ use mathlib.Core.Path.{_≡_, refl, sym, ap, _∙_}
 use Prim.Native.Nat.{ℕ, zero, suc, _+_, _≤_}
 use native.Mathlib.Omega.{arith}
 use lib.ListN.{length}
 use Rattle.run_theory.specs.Generator.{Generator, NoisePair}
 use Rattle.run_theory.specs.PlainRun.{Kind, ignored, ends, reply, timeOf, ended}
 use Rattle.run_theory.specs.PlainBench.{Lent, Step, halt, drain, due, taking, latest, Bench, Benched, benchStep, benchOn, benchSteps}
-use Rattle.run_theory.specs.Machine.{later, State, Ran, stateStep, wrote, took, noted, machineOn, machineSteps}
+use Rattle.run_call_model.specs.Machine.{later, State, Ran, stateStep, wrote, took, noted, machineOn, machineSteps}
 use Rattle.run_theory.proofs.StepFacts.{Says, step-says, Takes}
-use Rattle.run_theory.proofs.FlatLists.{AllOf}
+use Rattle.run_call_model.proofs.FlatLists.{AllOf}
 
 module _ (G : Generator) where
   open Generator G using (Draw, Time, t0, after, adds, entry, recordBytes)

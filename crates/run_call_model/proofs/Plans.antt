@@ -9,15 +9,15 @@ use native.Mathlib.Omega.{arith}
 use lib.Dec.{eqb, leb, ltb}
 use lib.ListN.{length}
 use borrow.Author.Tests.{eqb-true, eqb-false, leb-true, leb-false, ltb-true, ltb-false, eq-eqb, ne-eqb, le-leb, lt-leb, lt-ltb, le-ltb}
 use Rattle.run_theory.specs.Generator.{Generator, from}
 use Rattle.run_theory.specs.PlainRun.{Kind, ignored, ends, reply, kindOf}
 use Rattle.run_theory.specs.PlainBench.{done, outputFull, wantsNoise, wantsDraws, recordsFull}
-use Rattle.run_theory.specs.Machine.{later}
-use Rattle.run_theory.specs.Buffers.{laid}
-use Rattle.run_theory.specs.Turns.{Turn, Ended, stopped, restOf, Within}
-use Rattle.run_theory.specs.Plans.{Plan, stopAt, drainMany, dueMany, ignore, endRun, addReply, batch, stopFor, someOr, planEnded, planReply, planDraw, plan}
+use Rattle.run_call_model.specs.Machine.{later}
+use Rattle.run_call_model.specs.Buffers.{laid}
+use Rattle.run_call_model.specs.Turns.{Turn, Ended, stopped, restOf, Within}
+use Rattle.run_call_model.specs.Plans.{Plan, stopAt, drainMany, dueMany, ignore, endRun, addReply, batch, stopFor, someOr, planEnded, planReply, planDraw, plan}
 use Rattle.run_theory.proofs.StepFacts.{reply-fits}
-use Rattle.run_theory.proofs.Turns.{nextTime, nextKind, AreDue, after-end, by-start, wroteTurn, tookTurn, turn-done, turn-wants-draws, turn-output-full, turn-wants-noise, turn-writes, turn-ignores, turn-ends, turn-records-full, turn-adds}
+use Rattle.run_call_model.proofs.Turns.{nextTime, nextKind, AreDue, after-end, by-start, wroteTurn, tookTurn, turn-done, turn-wants-draws, turn-output-full, turn-wants-noise, turn-writes, turn-ignores, turn-ends, turn-records-full, turn-adds}
 
 -- ---- the choice, test by test, as code meets it
 pub none-written : {T : Type 0} (f : ℕ → Plan T) (n room : ℕ) → n ≡ 0 → someOr f n room ≡ stopAt (stopFor room)

@@ -1,13 +1,13 @@
 -- A model of the code, and not the specification's words: a run call on working memory of limit + hold samples as a flat list used as a ring, a count of samples written, the time, the end and the latest time.
--- From an opened run it comes to the plain bench (proofs/Demand3); it is defined on any state. Its fuel is enough (proofs/EnoughFuel, `machine-enough`).
+-- From an opened run it comes to the plain bench (run_call_model/proofs/Demand3); it is defined on any state. Its fuel is enough (run_call_model/proofs/EnoughFuel, `machine-enough`).
 use mathlib.Core.Bool.{Bool, true, false, cond}
 use mathlib.Core.List.{List, [], _∷_}
 use mathlib.Core.Option.{Option, none, some}
 use Prim.Native.Nat.{ℕ, zero, suc, _+_, _*_, _%_}
 use lib.ListN.{length, getD, set, replicate}
 use Rattle.run_theory.specs.Generator.{Generator, Sample, NoisePair, silence, add, noisy}
 use Rattle.run_theory.specs.PlainRun.{Kind, ignored, ends, reply}
 use Rattle.run_theory.specs.PlainBench.{Stop, wantsDraws, Refusal, Call, Result, Lent, lentOf, Step, halt, drain, due, taking, step1, refusalOf, fuel, counts, Given, refusedWith, resultOf}
 
 module _ (G : Generator) where
   open Generator G using (Time, before)

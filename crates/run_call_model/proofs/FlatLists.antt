@@ -7,9 +7,9 @@ use native.Mathlib.Numerals.{add-one}
 use native.Mathlib.Omega.{arith}
 use lib.ListN.{set, getD, replicate, length, take, drop, length-append, length-drop, drop-of-length-le}
 use lib.Seq.{length-take-le, drop-drop, drop-cons, set-at, getD-append-add, getD-drop, take-at, drop-at}
 use Rattle.run_theory.specs.Generator.{Generator, Pair}
 use Rattle.run_theory.specs.PlainBench.{pairs, flatten, join, over, cut, drawsOf}
-use Rattle.run_theory.specs.Buffers.{laid}
+use Rattle.run_call_model.specs.Buffers.{laid}
 
 module _ {X : Type 0} where
   pub length-flatten : (l : List (Pair X)) → length (flatten l) ≡ 2 * length l

@@ -5,10 +5,10 @@ use mathlib.Core.Option.{Option, none, some}
 use mathlib.Core.Path.{_≡_, refl, sym, ap, _∙_}
 use Prim.Native.Nat.{ℕ, zero, suc}
 use native.Mathlib.Omega.{arith}
 use Rattle.run_theory.specs.Generator.{Generator}
 use Rattle.run_theory.specs.PlainBench.{Refusal, wrongLength, wrongDraw, Call, drawsOf, wrongLengths, orElse, atDraw, firstFault, firstLoud, jumpsBack, drawRefusal, refusalOf, latest, latestOrFirst}
 use Rattle.run_theory.specs.Laws.{Laws}
-use Rattle.run_theory.specs.Machine.{later}
+use Rattle.run_call_model.specs.Machine.{later}
 
 module _ (G : Generator) (L : Laws G) where
   open Generator G using (Draw, Time, t0, after, before, fault)

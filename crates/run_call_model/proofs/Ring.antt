@@ -8,9 +8,9 @@ use native.Mathlib.Nat.{mod-lt, div-add-mod', mul-le-mul-right, add-zero}
 use native.Mathlib.Omega.{arith}
 use lib.ListN.{length, set, length-replicate, length-set, getD-replicate}
 use lib.Seq.{getD-set-same, getD-set-other}
 use Rattle.run_theory.specs.Generator.{Generator, Sample, silence, add}
 use Rattle.run_theory.specs.PlainRun.{addNth}
-use Rattle.run_theory.specs.Machine.{window, blank, rd, wr, put}
+use Rattle.run_call_model.specs.Machine.{window, blank, rd, wr, put}
 
 pub mod-apart : (w n m : ℕ) → n < m → m < n + w → n % w ≢ m % w
 mod-apart w n m lt near e = go (decLe (m / w) (n / w))

@@ -6,16 +6,16 @@ use Prim.Native.Nat.{ℕ, zero, suc, _+_, _-_, _*_, _/_, _≤_, _<_}
 use native.Mathlib.Nat.{mul-add}
 use native.Mathlib.Omega.{arith}
 use lib.ListN.{length, drop}
 use Rattle.run_theory.specs.Generator.{Generator}
 use Rattle.run_theory.specs.PlainRun.{Kind, ignored, ends, reply}
 use Rattle.run_theory.specs.PlainBench.{Stop, wantsDraws, Call, resultOf}
-use Rattle.run_theory.specs.Machine.{later, State, machineCall}
-use Rattle.run_theory.specs.Buffers.{laid}
-use Rattle.run_theory.specs.Turns.{Turn, Ended, firstTurn, stopped, restOf, Within, turnFuel}
-use Rattle.run_theory.specs.Plans.{Plan, stopAt, drainMany, dueMany, ignore, endRun, addReply}
-use Rattle.run_theory.proofs.FlatLists.{length-laid, draws-cons, length-draws}
-use Rattle.run_theory.proofs.Turns.{nextTime, wroteTurn, tookTurn, same-length, endResult, call-state, call-result}
-use Rattle.run_theory.proofs.Plans.{planOf, Written, Taken, PlanSays, plan-says, afterPlan, plan-right}
+use Rattle.run_call_model.specs.Machine.{later, State, machineCall}
+use Rattle.run_call_model.specs.Buffers.{laid}
+use Rattle.run_call_model.specs.Turns.{Turn, Ended, firstTurn, stopped, restOf, Within, turnFuel}
+use Rattle.run_call_model.specs.Plans.{Plan, stopAt, drainMany, dueMany, ignore, endRun, addReply}
+use Rattle.run_call_model.proofs.FlatLists.{length-laid, draws-cons, length-draws}
+use Rattle.run_call_model.proofs.Turns.{nextTime, wroteTurn, tookTurn, same-length, endResult, call-state, call-result}
+use Rattle.run_call_model.proofs.Plans.{planOf, Written, Taken, PlanSays, plan-says, afterPlan, plan-right}
 
 module _ (G : Generator) (o : G .Value) (noise : List (G .Value)) where
   open Generator G using (Draw, Time, entry, adds, drawAt, drawBytes, recordBytes)

@@ -10,14 +10,14 @@ use lib.Dec.{ltb}
 use lib.ListN.{length-replicate, length, length-drop, getD, set, take, drop, replicate, length-set, take-append-drop}
 use lib.Seq.{getD-drop, take-add, length-take-le, getD-set-other, drop-cons, take-suc-set, drop-set-lt}
 use borrow.Author.Tests.{ltb-true, ltb-false}
 use Rattle.run_theory.specs.Generator.{Generator, Sample, NoisePair, silence, add, noisy}
 use Rattle.run_theory.specs.PlainBench.{pairs, flatten}
-use Rattle.run_theory.specs.Machine.{window, rd, wr, put}
-use Rattle.run_theory.specs.Buffers.{laid}
-use Rattle.run_theory.specs.Batch.{written, cleared, mixed}
-use Rattle.run_theory.proofs.FlatLists.{laid-snoc, laid-beyond, replicate-snoc, flatten-append, flatten-pairs, pairs-after, length-pairs}
-use Rattle.run_theory.proofs.Ring.{rd-other, length-wr}
-use Rattle.run_theory.proofs.Batch.{written-append, cleared-add, length-cleared}
+use Rattle.run_call_model.specs.Machine.{window, rd, wr, put}
+use Rattle.run_call_model.specs.Buffers.{laid}
+use Rattle.run_call_model.specs.Batch.{written, cleared, mixed}
+use Rattle.run_call_model.proofs.FlatLists.{laid-snoc, laid-beyond, replicate-snoc, flatten-append, flatten-pairs, pairs-after, length-pairs}
+use Rattle.run_call_model.proofs.Ring.{rd-other, length-wr}
+use Rattle.run_call_model.proofs.Batch.{written-append, cleared-add, length-cleared}
 
 -- the place of the next sample, by a comparison
 pub next-place : (w s : ℕ) → s % w < w → suc s % w ≡ cond (ltb (suc (s % w)) w) (suc (s % w)) 0

@@ -7,7 +7,7 @@ use Rattle.constants.specs.Rate.{four}
 use Rattle.run_theory.specs.Generator.{Generator, startFrom}
 use Rattle.run_theory.specs.PlainRun.{kindOf}
 use Rattle.run_theory.specs.PlainBench as Bench
-use Rattle.run_theory.specs.Plans as Theory
+use Rattle.run_call_model.specs.Plans as Theory
 use Rattle.run_theory.specs.FloatGenerator.{noDraws, generator}
 use Rattle.message_config.specs.declared.Delays.{Delays}
 use Rattle.message_config.specs.declared.MessageConfig.{MessageConfig}

@@ -1,0 +1,19 @@
+-- What a run call is given beside what opening was given, and what it answers and leaves.
+use Prim.Native.Nat.{ℕ}
+use mathlib.Core.List.{List}
+use lib.Ieee.{Float}
+use Rattle.run_call.specs.declared.Ran.{Ran}
+
+-- what a call answers, and what it leaves in what it was lent
+pub record Left : Type 0 where
+  pub ran : Ran
+  pub memory : List Float
+  pub output : List Float
+  pub records : List ℕ
+
+-- what a run call is lent, beside what opening was lent
+pub record Lent : Type 0 where
+  pub draws : List ℕ
+  pub noise : List Float
+  pub output : List Float
+  pub records : List ℕ

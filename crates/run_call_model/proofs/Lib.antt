@@ -1,0 +1,13 @@
+pub mod Ring
+pub mod EnoughFuel
+pub mod LatestTime
+pub mod InStep
+pub mod FlatLists
+pub mod Counted
+pub mod Demand3
+pub mod Batch
+pub mod Stretch
+pub mod Turns
+pub mod Plans
+pub mod Batched
+pub mod FloatLaws
