@@ -1,7 +1,7 @@
 -- The choice by a kind, from what the code's tests say of it.
 use mathlib.Core.Path.{_≡_, refl, _∙_, sym}
 use Prim.Native.Nat.{ℕ, zero, suc}
-use Rattle.distributions.specs.Asked.{byKind}
+use Rattle.distributions.specs.Accepted.{byKind}
 
 module _ {X : Type 0} (r a b other : X) where
   pub kind-0 : (k : ℕ) → k ≡ 0 → r ≡ a → r ≡ byKind k a b other

@@ -2,7 +2,7 @@
 use mathlib.Core.Path.{_≡_, refl}
 use lib.Ieee.{binary64, ofBits, ofInt}
 use Rattle.constants.specs.Rate.{four}
-use Rattle.distributions.specs.Asked.{offsetLimit, tenth}
+use Rattle.distributions.specs.Accepted.{offsetLimit, tenth}
 
 pub offsetLimit-is : offsetLimit four ≡ ofBits binary64 0x414e_8480_0000_0000
 unfolding offsetLimit ofInt ofBits

@@ -1,7 +1,7 @@
 // Distributions of a message's parameters, after distributions.rs: carrier offset, carrier phase and symbol clock error, and what each asks of its numbers.
 ghost use mathlib.Core.Path.{_≡_};
 ghost use Rattle.constants.specs.Rate.{four};
-ghost use Rattle.distributions.specs.Asked.{upTo, finiteNotNegative, carrierOffset, clampedNormal, carrierPhase, clockError};
+ghost use Rattle.distributions.specs.Accepted.{upTo, finiteNotNegative, carrierOffset, clampedNormal, carrierPhase, clockError};
 
 pub enum CarrierOffset {
     Constant(f64),
@@ -19,7 +19,7 @@ pub enum ClockError {
 }
 
 // A distribution as the settings ask for it: its kind and two numbers.
-pub struct Asked {
+pub struct RawDistribution {
     pub kind: u8,
     pub first: f64,
     pub second: f64,
@@ -73,7 +73,7 @@ fn clamped_normal(sigma: f64, max: f64) -> OffsetAnswer
 }
 
 // The distribution of the carrier offset, or a refusal.
-pub fn carrier_offset(d: Asked) -> OffsetAnswer
+pub fn carrier_offset(d: RawDistribution) -> OffsetAnswer
     ensures { λ r. ⌜ r ≡ carrierOffset four d ⌝ }
 {
     let kind = d.kind;
@@ -90,7 +90,7 @@ pub fn carrier_offset(d: Asked) -> OffsetAnswer
 }
 
 // The distribution of the carrier phase, or a refusal. A constant phase is wrapped.
-pub fn carrier_phase(d: Asked) -> PhaseAnswer
+pub fn carrier_phase(d: RawDistribution) -> PhaseAnswer
     ensures { λ r. ⌜ r ≡ carrierPhase d ⌝ }
 {
     let kind = d.kind;
@@ -107,7 +107,7 @@ pub fn carrier_phase(d: Asked) -> PhaseAnswer
 }
 
 // The distribution of the symbol clock error, or a refusal.
-pub fn clock_error(d: Asked) -> ClockAnswer
+pub fn clock_error(d: RawDistribution) -> ClockAnswer
     ensures { λ r. ⌜ r ≡ clockError d ⌝ }
 {
     let kind = d.kind;

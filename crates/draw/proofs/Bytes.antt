@@ -12,7 +12,7 @@ use lib.Ieee.Bits.{ofBits-fits}
 use Rattle.le_read.specs.LeBytes.{leAt}
 use Rattle.settings.proofs.Inside.{number-there}
 use Rattle.draw.specs.declared.Draw.{Draw}
-use Rattle.draw.specs.Draw.{bytesAt, picksAt, drawAt, Held}
+use Rattle.draw.specs.Draw.{bytesAt, picksAt, drawAt, Representable}
 
 -- the bytes from a place on, as many as there are
 pub bytes-inside : (n : ℕ) (s : List ℕ) (at : ℕ) → at + n ≤ length s → bytesAt s at n ≡ take n (drop at s)
@@ -40,7 +40,7 @@ unfolding drawAt picksAt wholeDraw
 whole s h =
     rw (number-there 8 s 0 (omega arith), number-there 8 s 9 (omega arith), number-there 4 s 17 (omega arith), number-there 8 s 21 (omega arith), number-there 8 s 29 (omega arith), number-there 8 s 37 (omega arith), number-there 2 s 62 (omega arith), bytes-inside 14 s 48 (omega arith))
 
-pub read-held : (s : List ℕ) → Held (drawAt s)
+pub read-held : (s : List ℕ) → Representable (drawAt s)
 unfolding drawAt
 read-held s = record {
   gap = ofBits-fits binary64 _;

@@ -11,7 +11,7 @@ use lib.Ieee.Scale.{finite}
 use Rattle.float_rounding.proofs.Order.{Le}
 use Rattle.float_rounding.proofs.Val.{val-of, le-val, val-le}
 use Rattle.float_narrow.specs.Range.{abs, within}
-use Rattle.distributions.specs.Asked.{upTo, tenth}
+use Rattle.distributions.specs.Accepted.{upTo, tenth}
 use Rattle.distributions.specs.declared.ClockError as Clock
 use Rattle.distributions.specs.Drawn.{errorOf, clockDrawFits}
 use Rattle.message.specs.declared.MessageType.{MessageType}

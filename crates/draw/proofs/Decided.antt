@@ -5,7 +5,7 @@ use mathlib.Core.Bool.{Bool, true, false, _&&_, cond}
 use lib.Ieee.{Float}
 use borrow.Author.Tests.{eq-eqb, ne-eqb}
 use Rattle.float_narrow.specs.Range.{within}
-use Rattle.distributions.specs.Asked.{tenth}
+use Rattle.distributions.specs.Accepted.{tenth}
 use Rattle.distributions.specs.Drawn.{errorOf, clockDrawFits}
 use Rattle.message.specs.declared.ReplyKind.the-variants.{ModeAc}
 use Rattle.message_config.specs.Timing.{filterClockError}

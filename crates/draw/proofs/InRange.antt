@@ -8,10 +8,10 @@ use lib.Ieee.{Float, binary32, binary64, ofBits, le, lt}
 use lib.Ieee.Fits.{and-i, and-l, and-r}
 use lib.Ieee.Scale.{finite}
 use Rattle.float_narrow.specs.Range.{within}
-use Rattle.distributions.specs.Asked.{finiteNotNegative, tenth}
+use Rattle.distributions.specs.Accepted.{finiteNotNegative, tenth}
 use Rattle.distributions.specs.Drawn.{errorOf, offsetDrawFits, phaseDrawFits, clockDrawFits}
-use Rattle.message.specs.declared.Field.{Field}
-use Rattle.message.specs.declared.Field.the-variants.{Fine, Wrong}
+use Rattle.message.specs.declared.FieldFault.{FieldFault}
+use Rattle.message.specs.declared.FieldFault.the-variants.{NoFault, Field}
 use Rattle.message.specs.declared.MessageType.{MessageType}
 use Rattle.message.specs.declared.MessageType.the-variants.{
   ExtendedSquitter,
@@ -61,52 +61,52 @@ pub record InRange (rates : MessagesPerSecond) (all : Distributions) (d : Draw) 
   pub picks : PicksInRange message-type (d .picks)
 
 -- ---- one field
-passes : (field : ℕ) (b : Bool) (rest : Field) → T b → checked field b rest ≡ rest
+passes : (field : ℕ) (b : Bool) (rest : FieldFault) → T b → checked field b rest ≡ rest
 passes field true rest t = refl
 passes field false rest t = absurd t
 
 -- a field that is not the one at fault, with nothing looked at before it
-not-wrong : (field : ℕ) (b : Bool) (rest : Field) → checked field b rest ≢ Wrong field → T b
+not-wrong : (field : ℕ) (b : Bool) (rest : FieldFault) → checked field b rest ≢ Field field → T b
 not-wrong field true rest h = tt
 not-wrong field false rest h = h refl
 
 -- ---- the picks
 module _ (t : MessageType) (p : Picks) where
-  abbrev last : Field
-  last = checked 12 (modeAcFits t (p .spi) 2) Fine
+  abbrev last : FieldFault
+  last = checked 12 (modeAcFits t (p .spi) 2) NoFault
 
-  abbrev from11 : Field
+  abbrev from11 : FieldFault
   from11 = checked 11 (modeAcFits t (p .«data») 4096) last
 
-  abbrev from9 : Field
+  abbrev from9 : FieldFault
   from9 = checked 9 (overlayFits t (p .overlay)) from11
 
-  abbrev from8 : Field
+  abbrev from8 : FieldFault
   from8 = checked 8 (pickFits (subfields t (formatOf t p)) (p .capability)) from9
 
-  pub picks-in-range : fieldFault t p ≡ Fine → PicksInRange t p
+  pub picks-in-range : fieldFault t p ≡ NoFault → PicksInRange t p
   unfolding fieldFault
   picks-in-range e =
-      let a : from8 ≡ Fine = later-fits 7 (pickFits (formats t) (p .format)) from8 e in
-      let b : from9 ≡ Fine = later-fits 8 (pickFits (subfields t (formatOf t p)) (p .capability)) from9 a in
-      let g : from11 ≡ Fine = later-fits 9 (overlayFits t (p .overlay)) from11 b in
-      let h : last ≡ Fine = later-fits 11 (modeAcFits t (p .«data») 4096) last g in
+      let a : from8 ≡ NoFault = later-fits 7 (pickFits (formats t) (p .format)) from8 e in
+      let b : from9 ≡ NoFault = later-fits 8 (pickFits (subfields t (formatOf t p)) (p .capability)) from9 a in
+      let g : from11 ≡ NoFault = later-fits 9 (overlayFits t (p .overlay)) from11 b in
+      let h : last ≡ NoFault = later-fits 11 (modeAcFits t (p .«data») 4096) last g in
       record {
         format = fits 7 (pickFits (formats t) (p .format)) from8 e;
         capability = fits 8 (pickFits (subfields t (formatOf t p)) (p .capability)) from9 a;
         overlay = fits 9 (overlayFits t (p .overlay)) from11 b;
         mode-ac-data = fits 11 (modeAcFits t (p .«data») 4096) last g;
-        spi = fits 12 (modeAcFits t (p .spi) 2) Fine h;
+        spi = fits 12 (modeAcFits t (p .spi) 2) NoFault h;
       }
 
-  pub no-pick-fault : PicksInRange t p → fieldFault t p ≡ Fine
+  pub no-pick-fault : PicksInRange t p → fieldFault t p ≡ NoFault
   unfolding fieldFault
   no-pick-fault r =
       passes 7 (pickFits (formats t) (p .format)) from8 (r .format)
       ∙ passes 8 (pickFits (subfields t (formatOf t p)) (p .capability)) from9 (r .capability)
       ∙ passes 9 (overlayFits t (p .overlay)) from11 (r .overlay)
       ∙ passes 11 (modeAcFits t (p .«data») 4096) last (r .mode-ac-data)
-      ∙ passes 12 (modeAcFits t (p .spi) 2) Fine (r .spi)
+      ∙ passes 12 (modeAcFits t (p .spi) 2) NoFault (r .spi)
 
 -- ---- the type
 -- a number with a rate above 0 is a type's
@@ -136,38 +136,38 @@ module _ (kind : ℕ) (e : Float) where
 
 -- ---- the draw
 module _ (rates : MessagesPerSecond) (all : Distributions) (d : Draw) where
-  abbrev message : Field
+  abbrev message : FieldFault
   message = messageFault (typeNumbered (d .kind)) d
 
-  abbrev from6 : Field
+  abbrev from6 : FieldFault
   from6 = checked 6 (clockFits all (d .kind) (d .clock)) message
 
-  abbrev from5 : Field
+  abbrev from5 : FieldFault
   from5 = checked 5 (phaseDrawFits (all .phase) (d .phase)) from6
 
-  abbrev from3 : Field
+  abbrev from3 : FieldFault
   from3 = checked 3 (amplitudeFits (d .amplitude)) (parameterFault all d)
 
-  abbrev from2 : Field
+  abbrev from2 : FieldFault
   from2 = checked 2 (finite (d .cn0)) from3
 
-  abbrev from1 : Field
+  abbrev from1 : FieldFault
   from1 = checked 1 (typeFits rates (d .kind)) from2
 
-  pub gap-in-range : drawFault rates all d ≢ Wrong 0 → T (finiteNotNegative (d .gap))
+  pub gap-in-range : drawFault rates all d ≢ Field 0 → T (finiteNotNegative (d .gap))
   unfolding drawFault
   gap-in-range h = not-wrong 0 (finiteNotNegative (d .gap)) from1 h
 
-  pub in-range : drawFault rates all d ≡ Fine → InRange rates all d
+  pub in-range : drawFault rates all d ≡ NoFault → InRange rates all d
   unfolding drawFault parameterFault typeFits amplitudeFits clockFits messageFault
   in-range e0 =
-      let e1 : from1 ≡ Fine = later-fits 0 (finiteNotNegative (d .gap)) from1 e0 in
-      let e2 : from2 ≡ Fine = later-fits 1 (typeFits rates (d .kind)) from2 e1 in
-      let e3 : from3 ≡ Fine = later-fits 2 (finite (d .cn0)) from3 e2 in
-      let e4 : parameterFault all d ≡ Fine = later-fits 3 (amplitudeFits (d .amplitude)) (parameterFault all d) e3 in
-      let e5 : from5 ≡ Fine = later-fits 4 (offsetDrawFits (all .carrier) (d .carrier)) from5 e4 in
-      let e6 : from6 ≡ Fine = later-fits 5 (phaseDrawFits (all .phase) (d .phase)) from6 e5 in
-      let e7 : message ≡ Fine = later-fits 6 (clockFits all (d .kind) (d .clock)) message e6 in
+      let e1 : from1 ≡ NoFault = later-fits 0 (finiteNotNegative (d .gap)) from1 e0 in
+      let e2 : from2 ≡ NoFault = later-fits 1 (typeFits rates (d .kind)) from2 e1 in
+      let e3 : from3 ≡ NoFault = later-fits 2 (finite (d .cn0)) from3 e2 in
+      let e4 : parameterFault all d ≡ NoFault = later-fits 3 (amplitudeFits (d .amplitude)) (parameterFault all d) e3 in
+      let e5 : from5 ≡ NoFault = later-fits 4 (offsetDrawFits (all .carrier) (d .carrier)) from5 e4 in
+      let e6 : from6 ≡ NoFault = later-fits 5 (phaseDrawFits (all .phase) (d .phase)) from6 e5 in
+      let e7 : message ≡ NoFault = later-fits 6 (clockFits all (d .kind) (d .clock)) message e6 in
       let rated : T (lt (ofBits binary64 0) (rateOf rates (d .kind))) = fits 1 (typeFits rates (d .kind)) from2 e1 in
       let k = rated-known rates (d .kind) rated in
       let a = fits 3 (amplitudeFits (d .amplitude)) (parameterFault all d) e3 in
@@ -188,7 +188,7 @@ module _ (rates : MessagesPerSecond) (all : Distributions) (d : Draw) where
         picks = picks-in-range (k .0) (d .picks) (sym (ap (λ (t : TypeFound). messageFault t d) (k .1)) ∙ e7);
       }
 
-  pub no-fault : InRange rates all d → drawFault rates all d ≡ Fine
+  pub no-fault : InRange rates all d → drawFault rates all d ≡ NoFault
   unfolding drawFault parameterFault typeFits amplitudeFits clockFits messageFault
   no-fault r =
       passes 0 (finiteNotNegative (d .gap)) from1 (r .gap)

@@ -3,7 +3,7 @@ use mathlib.Core.Path.{_≡_, refl, ap, _∙_}
 use mathlib.Core.List.{List}
 use Prim.Native.Nat.{ℕ}
 use lib.Ieee.{Float}
-use Rattle.message.specs.declared.Field.{Field}
+use Rattle.message.specs.declared.FieldFault.{FieldFault}
 use Rattle.message.specs.declared.MessageType.{MessageType}
 use Rattle.message.specs.Types.{typeNumbered}
 use Rattle.message.specs.Making.{kindOf, replyOf, madeWhere, made}
@@ -33,7 +33,7 @@ module _ (rates : MessagesPerSecond) (all : Distributions) (d : Draw) (r : InRan
   unfolding bytesDrawn made madeWhere
   bytes-drawn =
       ap (λ (t : MessageType). made t (d .picks) .reply .bytes) type-drawn
-      ∙ ap (λ (f : Field). madeWhere f (replyOf (r .message-type) (d .picks)) .reply .bytes) (no-pick-fault (r .message-type) (d .picks) (r .picks))
+      ∙ ap (λ (f : FieldFault). madeWhere f (replyOf (r .message-type) (d .picks)) .reply .bytes) (no-pick-fault (r .message-type) (d .picks) (r .picks))
 
   pub reply-drawn : (time : Float) → configOf all time d .reply ≡ replyOf (r .message-type) (d .picks)
   unfolding configOf configWith replyOf

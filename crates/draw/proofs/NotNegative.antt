@@ -8,7 +8,7 @@ use lib.IntN.{ℤ, pos}
 use lib.Ieee.{Float, nan, inf, fin, ofBits, le, lt, eq}
 use lib.Ieee.Fits.{and-l, up-pos, down-pos}
 use Rattle.float_rounding.proofs.Order.{le-fin}
-use Rattle.distributions.specs.Asked.{finiteNotNegative}
+use Rattle.distributions.specs.Accepted.{finiteNotNegative}
 use Rattle.draw.specs.Fault.{amplitudeFits}
 
 pub data NotNegative : Float → Type 0 where

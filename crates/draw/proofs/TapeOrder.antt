@@ -6,10 +6,10 @@ use mathlib.Core.List.{List, [], _∷_}
 use native.Mathlib.Omega.{arith}
 use lib.Dec.{T}
 use lib.Ieee.Scale.{finite}
-use Rattle.distributions.specs.Asked.{finiteNotNegative}
+use Rattle.distributions.specs.Accepted.{finiteNotNegative}
 use Rattle.distributions.specs.Drawn.{offsetDrawFits, phaseDrawFits}
-use Rattle.message.specs.declared.Field.{Field}
-use Rattle.message.specs.declared.Field.the-variants.{Fine}
+use Rattle.message.specs.declared.FieldFault.{FieldFault}
+use Rattle.message.specs.declared.FieldFault.the-variants.{NoFault}
 use Rattle.message.specs.declared.MessageType.{MessageType}
 use Rattle.message.specs.declared.Picks.{Picks}
 use Rattle.message.specs.declared.TypeFound.{TypeFound}
@@ -24,8 +24,8 @@ use Rattle.draw.specs.Fault.{typeFits, amplitudeFits, clockFits, message
 use Rattle.draw.proofs.InRange.{rated-known}
 
 -- the first that is false, counted from k
-abbrev pub firstFalse : ℕ → List Bool → Field
-firstFalse k [] = Fine
+abbrev pub firstFalse : ℕ → List Bool → FieldFault
+firstFalse k [] = NoFault
 firstFalse k (b ∷ bs) = checked k b (firstFalse (suc k) bs)
 
 -- whether fields 7 to 12 are in range for a type, in the order of the tape; field 10, the 14 bytes, always is
@@ -53,7 +53,7 @@ fieldsFit rates all d t =
 
 module _ (rates : MessagesPerSecond) (all : Distributions) (d : Draw) where
   -- fields 0 to 6, and then what comes of the message's
-  abbrev before : Bool → Field → Field
+  abbrev before : Bool → FieldFault → FieldFault
   before b message =
       checked 0 (finiteNotNegative (d .gap))
       (checked 1 b
@@ -78,9 +78,9 @@ module _ (rates : MessagesPerSecond) (all : Distributions) (d : Draw) where
   by-type : (f : TypeFound) → typeNumbered (d .kind) ≡ f → before (typeFits rates (d .kind)) (messageFault f d) ≡ firstFalse 0 (fieldsFit rates all d (typeDrawn f))
   unfolding messageFault fieldFault typeDrawn
   by-type (Of t) e = refl
-  by-type Unknown e = refused (typeFits rates (d .kind)) (unknown-unrated e) Fine (firstFalse 7 (picksFit (d .picks) (typeDrawn Unknown)))
+  by-type Unknown e = refused (typeFits rates (d .kind)) (unknown-unrated e) NoFault (firstFalse 7 (picksFit (d .picks) (typeDrawn Unknown)))
     where
-      refused : (b : Bool) → b ≡ false → (m n : Field) → before b m ≡ before b n
+      refused : (b : Bool) → b ≡ false → (m n : FieldFault) → before b m ≡ before b n
       refused true e m n = let z : _≡_ {A = ℕ} 0 1 = cc in absurd (omega arith)
       refused false e m n = refl
 

@@ -35,7 +35,7 @@ drawAt s = record {
 }
 
 -- the floats are values of their formats, as those read from bytes always are
-pub record Held (d : Draw) : Type 0 where
+pub record Representable (d : Draw) : Type 0 where
   pub gap : T (fits binary64 (d .gap))
   pub cn0 : T (fits binary64 (d .cn0))
   pub amplitude : T (fits binary32 (d .amplitude))

@@ -17,8 +17,8 @@ pub struct Draw {
 }
 
 // The first draw and its first field at fault, or none.
-pub enum Fault {
-    Clean,
+pub enum DrawFault {
+    None,
     At(u64, u64),
 }
 

@@ -6,11 +6,11 @@ use native.Mathlib.Numerals.{add-one}
 use native.Mathlib.Omega.{arith}
 use lib.ListN.{length, take, drop, length-drop}
 use lib.Seq.{take-all}
-use Rattle.message.specs.declared.Field.{Field}
-use Rattle.message.specs.declared.Field.the-variants.{Fine, Wrong}
+use Rattle.message.specs.declared.FieldFault.{FieldFault}
+use Rattle.message.specs.declared.FieldFault.the-variants.{NoFault, Field}
 use Rattle.settings.specs.declared.Distributions.{Distributions}
 use Rattle.settings.specs.declared.MessagesPerSecond.{MessagesPerSecond}
-use Rattle.draw.specs.declared.Fault.the-variants.{Clean, At}
+use Rattle.draw.specs.declared.DrawFault.the-variants.{None, At}
 use Rattle.draw.specs.Draw.{drawAt}
 use Rattle.draw.specs.Fault.{drawFault, faultAt, faultFrom}
 
@@ -23,23 +23,23 @@ module _ (rates : MessagesPerSecond) (all : Distributions) (rest : List ℕ) (k 
     one-more : length rest / 65 ≡ suc (length (drop 65 rest) / 65)
     one-more = rw length-drop (omega arith)
 
-    turn : (f : Field) → drawFault rates all (drawAt rest) ≡ f
+    turn : (f : FieldFault) → drawFault rates all (drawAt rest) ≡ f
         → faultFrom rates all (length rest / 65) k rest ≡ faultAt k f (faultFrom rates all (length (drop 65 rest) / 65) (suc k) (drop 65 rest))
     unfolding faultFrom
     turn f e =
         ap (λ (n : ℕ). faultFrom rates all n k rest) one-more
-        ∙ ap (λ (x : Field). faultAt k x (faultFrom rates all (length (drop 65 rest) / 65) (suc k) (drop 65 rest))) e
+        ∙ ap (λ (x : FieldFault). faultAt k x (faultFrom rates all (length (drop 65 rest) / 65) (suc k) (drop 65 rest))) e
 
-    pub goes-on : drawFault rates all (drawAt rest) ≡ Fine
+    pub goes-on : drawFault rates all (drawAt rest) ≡ NoFault
         → faultFrom rates all (length rest / 65) k rest ≡ faultFrom rates all (length (drop 65 rest) / 65) (k + 1) (drop 65 rest)
     unfolding faultAt
-    goes-on e = turn Fine e ∙ ap (λ (n : ℕ). faultFrom rates all (length (drop 65 rest) / 65) n (drop 65 rest)) (sym (add-one k))
+    goes-on e = turn NoFault e ∙ ap (λ (n : ℕ). faultFrom rates all (length (drop 65 rest) / 65) n (drop 65 rest)) (sym (add-one k))
 
-    pub stops : (f : ℕ) → drawFault rates all (drawAt rest) ≡ Wrong f → faultFrom rates all (length rest / 65) k rest ≡ At k f
+    pub stops : (f : ℕ) → drawFault rates all (drawAt rest) ≡ Field f → faultFrom rates all (length rest / 65) k rest ≡ At k f
     unfolding faultAt
-    stops f e = turn (Wrong f) e
+    stops f e = turn (Field f) e
 
-  pub ends : length rest < 65 → faultFrom rates all (length rest / 65) k rest ≡ Clean
+  pub ends : length rest < 65 → faultFrom rates all (length rest / 65) k rest ≡ None
   unfolding faultFrom
   ends h =
       let n : length rest / 65 ≡ 0 = omega arith in

@@ -5,9 +5,9 @@ ghost use Rattle.message.specs.Types.{typeNumbered};
 ghost use Rattle.message.specs.Making.{checked};
 ghost use Rattle.draw.specs.Fault.{typeFits, amplitudeFits, modeACLimit, clockFits, parameterFault, messageFault, drawFault, firstFault};
 use draw::Draw;
-use draw::Fault;
+use draw::DrawFault;
 use le_read::wide;
-use message::Field;
+use message::FieldFault;
 use message::Picks;
 use message::ReplyKind;
 use message::TypeFound;
@@ -107,28 +107,28 @@ fn clock_fits(all: Distributions, kind: u8, draw: f64) -> bool
 }
 
 // A field's number where it does not fit, or else what comes of the later fields.
-fn fault_or(field: u64, fits: bool, rest: Field) -> Field
+fn fault_or(field: u64, fits: bool, rest: FieldFault) -> FieldFault
     ensures { λ r. ⌜ r ≡ checked field fits rest ⌝ }
 {
     if fits {
         return rest;
     }
-    Field::Wrong(field)
+    FieldFault::Field(field)
 }
 
 // Fields 7 to 12.
-fn message_fault(d: Draw) -> Field
+fn message_fault(d: Draw) -> FieldFault
     ensures { λ r. ⌜ r ≡ messageFault (typeNumbered (d .kind)) d ⌝ }
 {
     let p = d.picks;
     match message::message_type(d.kind) {
         TypeFound::Of(t) => message_make::field_fault(t, p),
-        TypeFound::Unknown => Field::Fine,
+        TypeFound::Unknown => FieldFault::NoFault,
     }
 }
 
 // Fields 4 to 12.
-fn parameter_fault(all: Distributions, d: Draw) -> Field
+fn parameter_fault(all: Distributions, d: Draw) -> FieldFault
     ensures { λ r. ⌜ r ≡ parameterFault all d ⌝ }
 {
     let carrier = all.carrier;
@@ -145,7 +145,7 @@ fn parameter_fault(all: Distributions, d: Draw) -> Field
 }
 
 // The first field of a draw that is out of range.
-pub fn field_fault(rates: MessagesPerSecond, all: Distributions, d: Draw) -> Field
+pub fn field_fault(rates: MessagesPerSecond, all: Distributions, d: Draw) -> FieldFault
     ensures { λ r. ⌜ r ≡ drawFault rates all d ⌝ }
 {
     fault_or(
@@ -164,7 +164,7 @@ pub fn field_fault(rates: MessagesPerSecond, all: Distributions, d: Draw) -> Fie
 }
 
 // The first fault of the draws.
-pub fn first_fault(draws: &[u8], rates: MessagesPerSecond, all: Distributions) -> Fault
+pub fn first_fault(draws: &[u8], rates: MessagesPerSecond, all: Distributions) -> DrawFault
     ensures { λ r. ⌜ r ≡ firstFault rates all (now (draws .entry)) ⌝ }
 {
     let mut rest = draws;
@@ -172,11 +172,11 @@ pub fn first_fault(draws: &[u8], rates: MessagesPerSecond, all: Distributions) -
     while 65 <= rest.len() {
         let d = read(rest);
         let f = field_fault(rates, all, d);
-        if let Field::Wrong(n) = f {
-            return Fault::At(k, n);
+        if let FieldFault::Field(n) = f {
+            return DrawFault::At(k, n);
         }
         rest = &rest[65..];
         k = k + 1;
     }
-    Fault::Clean
+    DrawFault::None
 }

@@ -19,7 +19,7 @@ use Rattle.float_rounding.proofs.More.{Rep, G-rep, rep-of, mul-all, sub-all, of
 use Rattle.float_narrow.specs.Narrow.{narrow}
 use Rattle.constants.specs.Rate.{four, branches}
 use Rattle.filterbank.specs.Taps.{scaled, numbered, branchOf, tauOf}
-use Rattle.filterbank.proofs.Laid.{le-or-lt}
+use Rattle.filterbank.proofs.Padded.{le-or-lt}
 
 -- a remainder by a power of two has no more digits
 mod-scale : (q s t : ℕ) → 0 < t → q * t % (s * t) ≡ q % s * t

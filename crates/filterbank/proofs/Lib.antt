@@ -1,6 +1,6 @@
 pub mod Literals
-pub mod Laid
-pub mod LateSum
+pub mod Padded
+pub mod PaddedSum
 pub mod Grid
 pub mod ClockAtFour
 pub mod Ends

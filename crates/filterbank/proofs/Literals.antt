@@ -16,7 +16,7 @@ use Rattle.filterbank.specs.declared.Clock.{Clock}
 use Rattle.filterbank.specs.Taps.{one, scaled, branchOf, tauOf, branch, nextBranch, between, filterTaps}
 use Rattle.pulse_shape.specs.Values.{valuesFrom}
 use Rattle.filterbank.specs.PulseSum.{sumWhere}
-use Rattle.filterbank.specs.PaddedPulsesModel.{lateSum}
+use Rattle.filterbank.specs.PaddedPulsesModel.{paddedSum}
 use Rattle.filterbank.specs.Clocked.{stepOf, startClock, settle, advance, in64}
 
 -- 256.0, 1.0 and 4.0
@@ -130,9 +130,9 @@ advance-on d c e h = ap (clockAt (add binary64 (c .phase) d)) (sym (mod-eq-of-lt
 abbrev addedOf : Float → Float → Bool → Float
 addedOf sum tap on = cond on (add binary32 sum tap) sum
 
-pub sum-past : (t : List Float) (laid : List Bool) (i : ℕ) → 246 ≤ i → ofBits binary32 0 ≡ lateSum t laid i
-unfolding lateSum
-sum-past t laid i h = sym (rw (le-ltb i 246 h))
+pub sum-past : (t : List Float) (paddedPulses : List Bool) (i : ℕ) → 246 ≤ i → ofBits binary32 0 ≡ paddedSum t paddedPulses i
+unfolding paddedSum
+sum-past t paddedPulses i h = sym (rw (le-ltb i 246 h))
 
 place : (i a b : ℕ) → i + (a + b) - b ≡ i + a
 place i a b = omega arith
@@ -140,23 +140,23 @@ place i a b = omega arith
 place-0 : (i : ℕ) → i + 6 - 6 ≡ i
 place-0 i = omega arith
 
-pub sum-seven : (t : List Float) (laid : List Bool) (i : ℕ) (s0 s1 s2 s3 s4 s5 s6 : Float) → 7 ≡ length t → i < 246
-    → s0 ≡ addedOf (ofBits binary32 0) (getD t 0 nan) (getD laid (i + 6) false)
-    → s1 ≡ addedOf s0 (getD t 1 nan) (getD laid (i + 5) false)
-    → s2 ≡ addedOf s1 (getD t 2 nan) (getD laid (i + 4) false)
-    → s3 ≡ addedOf s2 (getD t 3 nan) (getD laid (i + 3) false)
-    → s4 ≡ addedOf s3 (getD t 4 nan) (getD laid (i + 2) false)
-    → s5 ≡ addedOf s4 (getD t 5 nan) (getD laid (i + 1) false)
-    → s6 ≡ addedOf s5 (getD t 6 nan) (getD laid i false)
-    → s6 ≡ lateSum t laid i
-unfolding lateSum sumWhere
-sum-seven [] laid i s0 s1 s2 s3 s4 s5 s6 l h e0 e1 e2 e3 e4 e5 e6 = absurd (omega arith)
-sum-seven (a ∷ []) laid i s0 s1 s2 s3 s4 s5 s6 l h e0 e1 e2 e3 e4 e5 e6 = absurd (omega arith)
-sum-seven (a ∷ b ∷ []) laid i s0 s1 s2 s3 s4 s5 s6 l h e0 e1 e2 e3 e4 e5 e6 = absurd (omega arith)
-sum-seven (a ∷ b ∷ c ∷ []) laid i s0 s1 s2 s3 s4 s5 s6 l h e0 e1 e2 e3 e4 e5 e6 = absurd (omega arith)
-sum-seven (a ∷ b ∷ c ∷ d ∷ []) laid i s0 s1 s2 s3 s4 s5 s6 l h e0 e1 e2 e3 e4 e5 e6 = absurd (omega arith)
-sum-seven (a ∷ b ∷ c ∷ d ∷ e ∷ []) laid i s0 s1 s2 s3 s4 s5 s6 l h e0 e1 e2 e3 e4 e5 e6 = absurd (omega arith)
-sum-seven (a ∷ b ∷ c ∷ d ∷ e ∷ f ∷ []) laid i s0 s1 s2 s3 s4 s5 s6 l h e0 e1 e2 e3 e4 e5 e6 = absurd (omega arith)
-sum-seven (a ∷ b ∷ c ∷ d ∷ e ∷ f ∷ g ∷ x ∷ l) laid i s0 s1 s2 s3 s4 s5 s6 n h e0 e1 e2 e3 e4 e5 e6 = absurd (omega arith)
-sum-seven (a ∷ b ∷ c ∷ d ∷ e ∷ f ∷ g ∷ []) laid i s0 s1 s2 s3 s4 s5 s6 l h e0 e1 e2 e3 e4 e5 e6 =
+pub sum-seven : (t : List Float) (paddedPulses : List Bool) (i : ℕ) (s0 s1 s2 s3 s4 s5 s6 : Float) → 7 ≡ length t → i < 246
+    → s0 ≡ addedOf (ofBits binary32 0) (getD t 0 nan) (getD paddedPulses (i + 6) false)
+    → s1 ≡ addedOf s0 (getD t 1 nan) (getD paddedPulses (i + 5) false)
+    → s2 ≡ addedOf s1 (getD t 2 nan) (getD paddedPulses (i + 4) false)
+    → s3 ≡ addedOf s2 (getD t 3 nan) (getD paddedPulses (i + 3) false)
+    → s4 ≡ addedOf s3 (getD t 4 nan) (getD paddedPulses (i + 2) false)
+    → s5 ≡ addedOf s4 (getD t 5 nan) (getD paddedPulses (i + 1) false)
+    → s6 ≡ addedOf s5 (getD t 6 nan) (getD paddedPulses i false)
+    → s6 ≡ paddedSum t paddedPulses i
+unfolding paddedSum sumWhere
+sum-seven [] paddedPulses i s0 s1 s2 s3 s4 s5 s6 l h e0 e1 e2 e3 e4 e5 e6 = absurd (omega arith)
+sum-seven (a ∷ []) paddedPulses i s0 s1 s2 s3 s4 s5 s6 l h e0 e1 e2 e3 e4 e5 e6 = absurd (omega arith)
+sum-seven (a ∷ b ∷ []) paddedPulses i s0 s1 s2 s3 s4 s5 s6 l h e0 e1 e2 e3 e4 e5 e6 = absurd (omega arith)
+sum-seven (a ∷ b ∷ c ∷ []) paddedPulses i s0 s1 s2 s3 s4 s5 s6 l h e0 e1 e2 e3 e4 e5 e6 = absurd (omega arith)
+sum-seven (a ∷ b ∷ c ∷ d ∷ []) paddedPulses i s0 s1 s2 s3 s4 s5 s6 l h e0 e1 e2 e3 e4 e5 e6 = absurd (omega arith)
+sum-seven (a ∷ b ∷ c ∷ d ∷ e ∷ []) paddedPulses i s0 s1 s2 s3 s4 s5 s6 l h e0 e1 e2 e3 e4 e5 e6 = absurd (omega arith)
+sum-seven (a ∷ b ∷ c ∷ d ∷ e ∷ f ∷ []) paddedPulses i s0 s1 s2 s3 s4 s5 s6 l h e0 e1 e2 e3 e4 e5 e6 = absurd (omega arith)
+sum-seven (a ∷ b ∷ c ∷ d ∷ e ∷ f ∷ g ∷ x ∷ l) paddedPulses i s0 s1 s2 s3 s4 s5 s6 n h e0 e1 e2 e3 e4 e5 e6 = absurd (omega arith)
+sum-seven (a ∷ b ∷ c ∷ d ∷ e ∷ f ∷ g ∷ []) paddedPulses i s0 s1 s2 s3 s4 s5 s6 l h e0 e1 e2 e3 e4 e5 e6 =
     rw (e6, e5, e4, e3, e2, e1, e0) (sym (rw (lt-ltb i 246 h) (rw (sub-zero (i + 6), place i 5 1, place i 4 2, place i 3 3, place i 2 4, place i 1 5, place-0 i))))

@@ -12,9 +12,9 @@ use Rattle.pulse_shape.proofs.Whole.{length-values}
 use Rattle.filterbank.specs.declared.Clock.{Clock}
 use Rattle.filterbank.specs.Taps.{branchOf, tauOf, branch, nextBranch, between, filterTaps}
 use Rattle.filterbank.specs.PulseSum.{pulseSum}
-use Rattle.filterbank.specs.PaddedPulsesModel.{late, lateSum}
+use Rattle.filterbank.specs.PaddedPulsesModel.{padPulses, paddedSum}
 use Rattle.filterbank.specs.Apply.{valueAt}
-use Rattle.filterbank.proofs.LateSum.{late-sum}
+use Rattle.filterbank.proofs.PaddedSum.{padded-sum}
 
 length-between : (tau : Float) (xs ys : List Float) → length (between tau xs ys) ≡ length xs
 unfolding between
@@ -35,6 +35,6 @@ length-taps sps prototype phase = go (eqb (length prototype) (prototypeLength sp
     go true = length-between (tauOf sps phase) (branch sps prototype (branchOf sps phase)) (nextBranch sps prototype (branchOf sps phase)) ∙ length-branch sps prototype (branchOf sps phase)
     go false = refl
 
-pub value-late : (sps : ℕ) (prototype : List Float) (pulses : List Bool) (clock : Clock) → length pulses ≤ 240 → lateSum (filterTaps sps prototype (clock .phase)) (late pulses) (clock .index) ≡ valueAt sps prototype pulses clock
+pub value-padded : (sps : ℕ) (prototype : List Float) (pulses : List Bool) (clock : Clock) → length pulses ≤ 240 → paddedSum (filterTaps sps prototype (clock .phase)) (padPulses pulses) (clock .index) ≡ valueAt sps prototype pulses clock
 unfolding valueAt
-value-late sps prototype pulses clock h = late-sum (filterTaps sps prototype (clock .phase)) pulses (clock .index) (le-of-eq (length-taps sps prototype (clock .phase))) h
+value-padded sps prototype pulses clock h = padded-sum (filterTaps sps prototype (clock .phase)) pulses (clock .index) (le-of-eq (length-taps sps prototype (clock .phase))) h

@@ -5,7 +5,7 @@ ghost use Rattle.filterbank.specs.Clocked.{stepOf, startClock, advance as advan
 ghost use mathlib.Core.Bool.{cond};
 ghost use lib.ListN.{take};
 ghost use lib.Ieee.{binary32, add};
-ghost use Rattle.filterbank.specs.PaddedPulsesModel.{late, lateSum};
+ghost use Rattle.filterbank.specs.PaddedPulsesModel.{padPulses, paddedSum};
 use constants::least;
 use filterbank::Clock;
 
@@ -44,8 +44,8 @@ pub fn advance(clock: Clock, step: f64) -> Clock
 }
 
 // The first `len` pulses laid six places late, so that a sum over them needs no tests of their places.
-pub fn lay_late(on: [bool; 240], len: usize) -> [bool; 252]
-    ensures { λ r. ⌜ r ≡ late (take len on) ⌝ }
+pub fn pad_pulses(on: [bool; 240], len: usize) -> [bool; 252]
+    ensures { λ r. ⌜ r ≡ padPulses (take len on) ⌝ }
 {
     let n = least(len, 240);
     let mut out = [false; 252];
@@ -64,17 +64,17 @@ fn added(sum: f32, tap: f32, on: bool) -> f32
 }
 
 // The sum of the taps at whose place there is a pulse.
-pub fn pulse_sum(taps: [f32; 7], laid: &[bool; 252], index: usize) -> f32
-    ensures { λ r. ⌜ r ≡ lateSum taps (now (laid .entry)) index ⌝ }
+pub fn pulse_sum(taps: [f32; 7], padded: &[bool; 252], index: usize) -> f32
+    ensures { λ r. ⌜ r ≡ paddedSum taps (now (padded .entry)) index ⌝ }
 {
     if index >= 246 {
         return 0.0;
     }
-    let s0 = added(0.0, taps[0], laid[index + 6]);
-    let s1 = added(s0, taps[1], laid[index + 5]);
-    let s2 = added(s1, taps[2], laid[index + 4]);
-    let s3 = added(s2, taps[3], laid[index + 3]);
-    let s4 = added(s3, taps[4], laid[index + 2]);
-    let s5 = added(s4, taps[5], laid[index + 1]);
-    added(s5, taps[6], laid[index])
+    let s0 = added(0.0, taps[0], padded[index + 6]);
+    let s1 = added(s0, taps[1], padded[index + 5]);
+    let s2 = added(s1, taps[2], padded[index + 4]);
+    let s3 = added(s2, taps[3], padded[index + 3]);
+    let s4 = added(s3, taps[4], padded[index + 2]);
+    let s5 = added(s4, taps[5], padded[index + 1]);
+    added(s5, taps[6], padded[index])
 }

@@ -7,7 +7,7 @@ use native.Mathlib.Omega.{arith}
 use lib.Dec.{leb}
 use lib.ListN.{length}
 use borrow.Author.Tests.{leb-true, leb-false, le-leb, lt-leb}
-use Rattle.le_read.specs.LeBytes.{inside, leAt, readAt, laid, bytesOf, put}
+use Rattle.le_read.specs.LeBytes.{inside, leAt, readAt, overwritten, bytesOf, put}
 
 -- the test of a place, without the sum
 pub no-sum : (at n len : ℕ) → n ≤ len → leb at (len - n) ≡ leb (at + n) len
@@ -29,13 +29,13 @@ module _ (n : ℕ) (s : List ℕ) (at : ℕ) {r : Bool} (e : r ≡ inside n s at
   unfolding readAt
   read-past value past t = ap (λ (b : Bool). cond b (value (leAt n s at)) past) (sym e ∙ t)
 
-  pub put-there : (v : ℕ) → r ≡ true → put n s at v ≡ laid s at (bytesOf n v)
+  pub put-there : (v : ℕ) → r ≡ true → put n s at v ≡ overwritten s at (bytesOf n v)
   unfolding put
-  put-there v t = ap (λ (b : Bool). cond b (laid s at (bytesOf n v)) s) (sym e ∙ t)
+  put-there v t = ap (λ (b : Bool). cond b (overwritten s at (bytesOf n v)) s) (sym e ∙ t)
 
   pub put-past : (v : ℕ) → r ≡ false → put n s at v ≡ s
   unfolding put
-  put-past v t = ap (λ (b : Bool). cond b (laid s at (bytesOf n v)) s) (sym e ∙ t)
+  put-past v t = ap (λ (b : Bool). cond b (overwritten s at (bytesOf n v)) s) (sym e ∙ t)
 
 -- what is made of a read's answer
 pub read-then : {X Y : Type 0} (g : X → Y) (n : ℕ) (value : ℕ → X) (past : X) (s : List ℕ) (at : ℕ) → g (readAt n value past s at) ≡ readAt n (λ v. g (value v)) (g past) s at

@@ -7,7 +7,7 @@ use native.Mathlib.Numerals.{add-one}
 use native.Mathlib.Omega.{arith}
 use lib.ListN.{length, getD, take, drop, set, length-append, length-drop}
 use lib.Seq.{take-add, drop-drop, drop-cons, length-take-le, take-at, drop-at, sets-eq}
-use Rattle.le_read.specs.LeBytes.{leOf, bytesOf, leAt, laid}
+use Rattle.le_read.specs.LeBytes.{leOf, bytesOf, leAt, overwritten}
 
 pub le-append : (xs ys : List ℕ) → leOf (xs ++ ys) ≡ leOf xs + 256 ^ length xs * leOf ys
 unfolding leOf
@@ -48,9 +48,9 @@ pub joined : (m n : ℕ) (s : List ℕ) (at : ℕ) {a b : ℕ} → at + m ≤ le
 joined m n s at h p q = (λ i. p i + 256 ^ m * q i) ∙ sym (le-halves m n s at h)
 
 -- bytes laid one part after the other
-pub laid-append : (s : List ℕ) (at : ℕ) (xs ys : List ℕ) → at + length xs ≤ length s → laid (laid s at xs) (at + length xs) ys ≡ laid s at (xs ++ ys)
-unfolding laid
-laid-append s at xs ys h =
+pub overwritten-append : (s : List ℕ) (at : ℕ) (xs ys : List ℕ) → at + length xs ≤ length s → overwritten (overwritten s at xs) (at + length xs) ys ≡ overwritten s at (xs ++ ys)
+unfolding overwritten
+overwritten-append s at xs ys h =
     let k = at + length xs in
     let front = take at s ++ xs in
     let p : length front ≡ k = length-append (take at s) xs ∙ ap (λ (n : ℕ). n + length xs) (length-take-le at s (omega arith)) in
@@ -62,24 +62,24 @@ laid-append s at xs ys h =
     ∙ ap (λ (n : ℕ). take at s ++ (xs ++ ys) ++ drop n s) (add-assoc at (length xs) (length ys) ∙ ap (λ (n : ℕ). at + n) (sym (length-append xs ys)))
 
 -- a write, of bytes that are all there
-pub put-halves : (m n : ℕ) (s : List ℕ) (at v : ℕ) → at + m ≤ length s → laid (laid s at (bytesOf m v)) (at + m) (bytesOf n (v / 256 ^ m)) ≡ laid s at (bytesOf (m + n) v)
+pub put-halves : (m n : ℕ) (s : List ℕ) (at v : ℕ) → at + m ≤ length s → overwritten (overwritten s at (bytesOf m v)) (at + m) (bytesOf n (v / 256 ^ m)) ≡ overwritten s at (bytesOf (m + n) v)
 put-halves m n s at v h =
     let e = length-bytes m v in
-    ap (λ (k : ℕ). laid (laid s at (bytesOf m v)) (at + k) (bytesOf n (v / 256 ^ m))) (sym e)
-    ∙ laid-append s at (bytesOf m v) (bytesOf n (v / 256 ^ m)) (omega arith)
-    ∙ ap (laid s at) (sym (bytes-append m n v))
+    ap (λ (k : ℕ). overwritten (overwritten s at (bytesOf m v)) (at + k) (bytesOf n (v / 256 ^ m))) (sym e)
+    ∙ overwritten-append s at (bytesOf m v) (bytesOf n (v / 256 ^ m)) (omega arith)
+    ∙ ap (overwritten s at) (sym (bytes-append m n v))
 
 -- one byte stored is one byte laid, and two are two
-pub laid-one : (s : List ℕ) (at b : ℕ) → at < length s → set s at b ≡ laid s at (b ∷ [])
-unfolding laid
-laid-one s at b h = sets-eq (b ∷ []) s at (omega arith)
+pub overwritten-one : (s : List ℕ) (at b : ℕ) → at < length s → set s at b ≡ overwritten s at (b ∷ [])
+unfolding overwritten
+overwritten-one s at b h = sets-eq (b ∷ []) s at (omega arith)
 
-pub laid-two : (s : List ℕ) (at v : ℕ) → at + 2 ≤ length s → set (set s at (v % 256)) (at + 1) (v / 256 % 256) ≡ laid s at (bytesOf 2 v)
-unfolding laid bytesOf
-laid-two s at v h = ap (λ (k : ℕ). set (set s at (v % 256)) k (v / 256 % 256)) (add-one at) ∙ sets-eq (v % 256 ∷ v / 256 % 256 ∷ []) s at h
+pub overwritten-two : (s : List ℕ) (at v : ℕ) → at + 2 ≤ length s → set (set s at (v % 256)) (at + 1) (v / 256 % 256) ≡ overwritten s at (bytesOf 2 v)
+unfolding overwritten bytesOf
+overwritten-two s at v h = ap (λ (k : ℕ). set (set s at (v % 256)) k (v / 256 % 256)) (add-one at) ∙ sets-eq (v % 256 ∷ v / 256 % 256 ∷ []) s at h
 
-pub laid-four : (s : List ℕ) (at v : ℕ) → at + 4 ≤ length s → laid (laid s at (bytesOf 2 v)) (at + 2) (bytesOf 2 (v / 65536)) ≡ laid s at (bytesOf 4 v)
-laid-four s at v h = put-halves 2 2 s at v (omega arith)
+pub overwritten-four : (s : List ℕ) (at v : ℕ) → at + 4 ≤ length s → overwritten (overwritten s at (bytesOf 2 v)) (at + 2) (bytesOf 2 (v / 65536)) ≡ overwritten s at (bytesOf 4 v)
+overwritten-four s at v h = put-halves 2 2 s at v (omega arith)
 
-pub laid-eight : (s : List ℕ) (at v : ℕ) → at + 8 ≤ length s → laid (laid s at (bytesOf 4 v)) (at + 4) (bytesOf 4 (v / 4294967296)) ≡ laid s at (bytesOf 8 v)
-laid-eight s at v h = put-halves 4 4 s at v (omega arith)
+pub overwritten-eight : (s : List ℕ) (at v : ℕ) → at + 8 ≤ length s → overwritten (overwritten s at (bytesOf 4 v)) (at + 4) (bytesOf 4 (v / 4294967296)) ≡ overwritten s at (bytesOf 8 v)
+overwritten-eight s at v h = put-halves 4 4 s at v (omega arith)

@@ -11,7 +11,7 @@ use lib.Dec.{leb, lit<}
 use lib.ListN.{length, take, drop, length-append, length-drop, take-append-drop}
 use lib.Seq.{length-take-le, take-at, drop-at, drop-drop, take-append-le, drop-append-le, take-append-seam}
 use borrow.Author.Tests.{le-leb}
-use Rattle.le_read.specs.LeBytes.{leOf, bytesOf, inside, leAt, readAt, laid, put}
+use Rattle.le_read.specs.LeBytes.{leOf, bytesOf, inside, leAt, readAt, overwritten, put}
 use Rattle.le_read.specs.Reads.{readU16, readU32, readU64}
 use Rattle.le_read.specs.declared.ReadU16.the-variants as U16
 use Rattle.le_read.specs.declared.ReadU32.the-variants as U32
@@ -43,21 +43,21 @@ module _ (s : List ℕ) (at : ℕ) (bs : List ℕ) (h : at + length bs ≤ lengt
   seam : length (take at s ++ bs) ≡ at + length bs
   seam = length-append (take at s) bs ∙ ap (λ (n : ℕ). n + length bs) front
 
-  pub length-laid : length (laid s at bs) ≡ length s
-  unfolding laid
-  length-laid = length-append (take at s ++ bs) (drop (at + length bs) s) ∙ omega (arith, seam, length-drop (at + length bs) s)
+  pub length-overwritten : length (overwritten s at bs) ≡ length s
+  unfolding overwritten
+  length-overwritten = length-append (take at s ++ bs) (drop (at + length bs) s) ∙ omega (arith, seam, length-drop (at + length bs) s)
 
-  pub laid-part : take (length bs) (drop at (laid s at bs)) ≡ bs
-  unfolding laid
-  laid-part =
+  pub overwritten-part : take (length bs) (drop at (overwritten s at bs)) ≡ bs
+  unfolding overwritten
+  overwritten-part =
       let rest = drop (at + length bs) s in
       ap (λ (l : List ℕ). take (length bs) (drop at l)) (append-assoc (take at s) bs rest)
       ∙ ap (take (length bs)) (drop-at (take at s) (bs ++ rest) at front)
       ∙ take-append-seam bs rest
 
-  pub laid-after : (i : ℕ) → at + length bs ≤ i → drop i (laid s at bs) ≡ drop i s
-  unfolding laid
-  laid-after i g =
+  pub overwritten-after : (i : ℕ) → at + length bs ≤ i → drop i (overwritten s at bs) ≡ drop i s
+  unfolding overwritten
+  overwritten-after i g =
       let k = at + length bs in
       let e : k + (i - k) ≡ i = omega arith in
       let l = take at s ++ bs ++ drop k s in
@@ -67,9 +67,9 @@ module _ (s : List ℕ) (at : ℕ) (bs : List ℕ) (h : at + length bs ≤ lengt
       ∙ drop-drop (i - k) k s
       ∙ ap (λ (n : ℕ). drop n s) e
 
-  pub laid-before : (m i : ℕ) → i + m ≤ at → take m (drop i (laid s at bs)) ≡ take m (drop i s)
-  unfolding laid
-  laid-before m i g =
+  pub overwritten-before : (m i : ℕ) → i + m ≤ at → take m (drop i (overwritten s at bs)) ≡ take m (drop i s)
+  unfolding overwritten
+  overwritten-before m i g =
       let rest = drop (at + length bs) s in
       let f : length (take at s) ≡ at = front in
       ap (λ (l : List ℕ). take m (drop i l)) (append-assoc (take at s) bs rest)
@@ -83,7 +83,7 @@ module _ (n : ℕ) (s : List ℕ) (at v : ℕ) where
   within : at + n ≤ length s → at + length (bytesOf n v) ≤ length s
   within h = let e = length-bytes n v in omega arith
 
-  written : at + n ≤ length s → put n s at v ≡ laid s at (bytesOf n v)
+  written : at + n ≤ length s → put n s at v ≡ overwritten s at (bytesOf n v)
   written h = put-there n s at {r = true} (sym (le-leb (at + n) (length s) h)) v refl
 
   -- written and read: the number's low n bytes
@@ -91,11 +91,11 @@ module _ (n : ℕ) (s : List ℕ) (at v : ℕ) where
   unfolding leAt
   back-low h =
       ap (λ (l : List ℕ). leOf (take n (drop at l))) (written h)
-      ∙ ap (λ (k : ℕ). leOf (take k (drop at (laid s at (bytesOf n v))))) (sym (length-bytes n v))
-      ∙ ap leOf (laid-part s at (bytesOf n v) (within h))
+      ∙ ap (λ (k : ℕ). leOf (take k (drop at (overwritten s at (bytesOf n v))))) (sym (length-bytes n v))
+      ∙ ap leOf (overwritten-part s at (bytesOf n v) (within h))
       ∙ le-bytes n v
 
-either : (n : ℕ) (s : List ℕ) (at v : ℕ) (P : List ℕ → Type 0) → P s → (at + n ≤ length s → P (laid s at (bytesOf n v))) → P (put n s at v)
+either : (n : ℕ) (s : List ℕ) (at v : ℕ) (P : List ℕ → Type 0) → P s → (at + n ≤ length s → P (overwritten s at (bytesOf n v))) → P (put n s at v)
 either n s at v P u w = go (inside n s at) refl
   where
     go : (b : Bool) → b ≡ inside n s at → P (put n s at v)
@@ -103,18 +103,18 @@ either n s at v P u w = go (inside n s at) refl
     go false e = subst P (sym (put-past n s at e v refl)) u
 
 pub length-put : (n : ℕ) (s : List ℕ) (at v : ℕ) → length (put n s at v) ≡ length s
-length-put n s at v = either n s at v (λ l. length l ≡ length s) refl (λ h. length-laid s at (bytesOf n v) (within n s at v h))
+length-put n s at v = either n s at v (λ l. length l ≡ length s) refl (λ h. length-overwritten s at (bytesOf n v) (within n s at v h))
 
 -- a read of other bytes does not see the write
 pub elsewhere : (n : ℕ) (s : List ℕ) (at v m i : ℕ) → (i + m ≤ at) ⊎ (at + n ≤ i) → leAt m (put n s at v) i ≡ leAt m s i
 unfolding leAt
 elsewhere n s at v m i apart = either n s at v (λ l. leAt m l i ≡ leAt m s i) refl (λ h. ⊎-elim (before h) (after h) apart)
   where
-    before : at + n ≤ length s → i + m ≤ at → leAt m (laid s at (bytesOf n v)) i ≡ leAt m s i
-    before h g = ap leOf (laid-before s at (bytesOf n v) (within n s at v h) m i g)
+    before : at + n ≤ length s → i + m ≤ at → leAt m (overwritten s at (bytesOf n v)) i ≡ leAt m s i
+    before h g = ap leOf (overwritten-before s at (bytesOf n v) (within n s at v h) m i g)
 
-    after : at + n ≤ length s → at + n ≤ i → leAt m (laid s at (bytesOf n v)) i ≡ leAt m s i
-    after h g = ap (λ (l : List ℕ). leOf (take m l)) (laid-after s at (bytesOf n v) (within n s at v h) i (let e = length-bytes n v in omega arith))
+    after : at + n ≤ length s → at + n ≤ i → leAt m (overwritten s at (bytesOf n v)) i ≡ leAt m s i
+    after h g = ap (λ (l : List ℕ). leOf (take m l)) (overwritten-after s at (bytesOf n v) (within n s at v h) i (let e = length-bytes n v in omega arith))
 
 -- every read gives back what was written
 pub back : {X : Type 0} (n : ℕ) (value : ℕ → X) (past : X) (s : List ℕ) (at v : ℕ) → at + n ≤ length s → v < 256 ^ n → readAt n value past (put n s at v) at ≡ value v
@@ -124,10 +124,10 @@ back n value past s at v h b =
     ap (λ (i : Bool). cond i (value (leAt n (put n s at v) at)) past) t ∙ ap value (back-low n s at v h ∙ mod-eq-of-lt b)
 
 pub u16-back : (s : List ℕ) (at v : ℕ) → at + 2 ≤ length s → v < 2 ^ 16 → readU16 (put 2 s at v) at ≡ U16.Value v
-u16-back = back 2 U16.Value U16.Past
+u16-back = back 2 U16.Value U16.OutOfBounds
 
 pub u32-back : (s : List ℕ) (at v : ℕ) → at + 4 ≤ length s → v < 2 ^ 32 → readU32 (put 4 s at v) at ≡ U32.Value v
-u32-back = back 4 U32.Value U32.Past
+u32-back = back 4 U32.Value U32.OutOfBounds
 
 pub u64-back : (s : List ℕ) (at v : ℕ) → at + 8 ≤ length s → v < 2 ^ 64 → readU64 (put 8 s at v) at ≡ U64.Value v
-u64-back = back 8 U64.Value U64.Past
+u64-back = back 8 U64.Value U64.OutOfBounds

@@ -34,10 +34,10 @@ abbrev pub numberAt : ℕ → List ℕ → ℕ → ℕ
 numberAt n s at = readAt n (λ v. v) 0 s at
 
 -- s with bs in the place of as many of its bytes from at
-unfoldable pub laid : List ℕ → ℕ → List ℕ → List ℕ
-laid s at bs = take at s ++ bs ++ drop (at + length bs) s
+unfoldable pub overwritten : List ℕ → ℕ → List ℕ → List ℕ
+overwritten s at bs = take at s ++ bs ++ drop (at + length bs) s
 
 -- s with v written in n bytes from at; s itself where they would run past the end
 unfoldable pub put : ℕ → List ℕ → ℕ → ℕ → List ℕ
-unfolding laid bytesOf
-put n s at v = cond (inside n s at) (laid s at (bytesOf n v)) s
+unfolding overwritten bytesOf
+put n s at v = cond (inside n s at) (overwritten s at (bytesOf n v)) s

@@ -9,17 +9,17 @@ ghost use Rattle.le_read.specs.Reads.{readU16, readU32, readU64};
 // What a read at a place finds: the number, or that its bytes run past the end.
 pub enum ReadU16 {
     Value(u16),
-    Past,
+    OutOfBounds,
 }
 
 pub enum ReadU32 {
     Value(u32),
-    Past,
+    OutOfBounds,
 }
 
 pub enum ReadU64 {
     Value(u64),
-    Past,
+    OutOfBounds,
 }
 
 // Whether n bytes from a place lie within a length; no sum, so that no place can overflow.
@@ -70,7 +70,7 @@ pub fn le_u16(s: &[u8], at: usize) -> ReadU16
     if holds(s.len(), at, 2) {
         return ReadU16::Value(two(s, at) as u16);
     }
-    ReadU16::Past
+    ReadU16::OutOfBounds
 }
 
 pub fn le_u32(s: &[u8], at: usize) -> ReadU32
@@ -79,7 +79,7 @@ pub fn le_u32(s: &[u8], at: usize) -> ReadU32
     if holds(s.len(), at, 4) {
         return ReadU32::Value(four(s, at) as u32);
     }
-    ReadU32::Past
+    ReadU32::OutOfBounds
 }
 
 pub fn le_u64(s: &[u8], at: usize) -> ReadU64
@@ -88,5 +88,5 @@ pub fn le_u64(s: &[u8], at: usize) -> ReadU64
     if holds(s.len(), at, 8) {
         return ReadU64::Value(eight(s, at));
     }
-    ReadU64::Past
+    ReadU64::OutOfBounds
 }

@@ -26,7 +26,7 @@ float-back n f w value other past s at x h F =
     back n (floatOf f value other) past s at (toBits f x) h (rw w (toBits-lt f x F)) ∙ float-of-bits f value other x F
 
 pub f32-back : (s : List ℕ) (at : ℕ) (x : Float) → at + 4 ≤ length s → T (fits binary32 x) → readF32 (put 4 s at (toBits binary32 x)) at ≡ cond (isNan x) F32.Nan (F32.Value x)
-f32-back = float-back 4 binary32 refl F32.Value F32.Nan F32.Past
+f32-back = float-back 4 binary32 refl F32.Value F32.Nan F32.OutOfBounds
 
 pub f64-back : (s : List ℕ) (at : ℕ) (x : Float) → at + 8 ≤ length s → T (fits binary64 x) → readF64 (put 8 s at (toBits binary64 x)) at ≡ cond (isNan x) F64.Nan (F64.Value x)
-f64-back = float-back 8 binary64 refl F64.Value F64.Nan F64.Past
+f64-back = float-back 8 binary64 refl F64.Value F64.Nan F64.OutOfBounds

@@ -12,10 +12,10 @@ unfoldable pub floatOf : {X : Type 0} → Format → (Float → X) → X → ℕ
 floatOf f value nan n = cond (nanBits f n) nan (value (ofBits f n))
 
 abbrev pub readF32 : List ℕ → ℕ → F32.ReadF32
-readF32 = readAt 4 (floatOf binary32 F32.the-variants.Value F32.the-variants.Nan) F32.the-variants.Past
+readF32 = readAt 4 (floatOf binary32 F32.the-variants.Value F32.the-variants.Nan) F32.the-variants.OutOfBounds
 
 abbrev pub readF64 : List ℕ → ℕ → F64.ReadF64
-readF64 = readAt 8 (floatOf binary64 F64.the-variants.Value F64.the-variants.Nan) F64.the-variants.Past
+readF64 = readAt 8 (floatOf binary64 F64.the-variants.Value F64.the-variants.Nan) F64.the-variants.OutOfBounds
 
 -- the float at a place, 0.0 past the end
 abbrev pub f64At : List ℕ → ℕ → Float

@@ -10,13 +10,13 @@ use le_read::ReadU64;
 pub enum ReadF32 {
     Value(f32),
     Nan,
-    Past,
+    OutOfBounds,
 }
 
 pub enum ReadF64 {
     Value(f64),
     Nan,
-    Past,
+    OutOfBounds,
 }
 
 // The float of a pattern, or that the pattern is a NaN's.
@@ -44,7 +44,7 @@ pub fn le_f32(s: &[u8], at: usize) -> ReadF32
 {
     match le_read::le_u32(s, at) {
         ReadU32::Value(n) => f32_read(n),
-        ReadU32::Past => ReadF32::Past,
+        ReadU32::OutOfBounds => ReadF32::OutOfBounds,
     }
 }
 
@@ -53,7 +53,7 @@ pub fn le_f64(s: &[u8], at: usize) -> ReadF64
 {
     match le_read::le_u64(s, at) {
         ReadU64::Value(n) => f64_read(n),
-        ReadU64::Past => ReadF64::Past,
+        ReadU64::OutOfBounds => ReadF64::OutOfBounds,
     }
 }
 

@@ -22,7 +22,7 @@ pub fn u16_at(s: &[u8], at: usize) -> u16
 {
     match le_read::le_u16(s, at) {
         ReadU16::Value(n) => n,
-        ReadU16::Past => 0,
+        ReadU16::OutOfBounds => 0,
     }
 }
 
@@ -31,7 +31,7 @@ pub fn u32_at(s: &[u8], at: usize) -> u32
 {
     match le_read::le_u32(s, at) {
         ReadU32::Value(n) => n,
-        ReadU32::Past => 0,
+        ReadU32::OutOfBounds => 0,
     }
 }
 
@@ -40,6 +40,6 @@ pub fn u64_at(s: &[u8], at: usize) -> u64
 {
     match le_read::le_u64(s, at) {
         ReadU64::Value(n) => n,
-        ReadU64::Past => 0,
+        ReadU64::OutOfBounds => 0,
     }
 }

@@ -2,13 +2,13 @@
 ghost use mathlib.Core.Path.{_≡_};
 ghost use Prim.Native.Nat.{_+_, _≤_};
 ghost use lib.ListN.{length};
-ghost use Rattle.le_read.specs.LeBytes.{inside, laid, bytesOf, put};
+ghost use Rattle.le_read.specs.LeBytes.{inside, overwritten, bytesOf, put};
 ghost use lib.Ieee.{binary32, binary64, toBits};
 
 // The low two, four and eight bytes of v, each written as two halves: LLVM turns that into one store.
 fn put_two(d: &mut [u8], at: usize, v: u64)
     requires { ⌜ at + 2 ≤ length (now d) ⌝ }
-    ensures { λ _. ⌜ now (d .exit) ≡ laid (now (d .entry)) at (bytesOf 2 v) ⌝ }
+    ensures { λ _. ⌜ now (d .exit) ≡ overwritten (now (d .entry)) at (bytesOf 2 v) ⌝ }
 {
     d[at] = (v % 256) as u8;
     d[at + 1] = (v / 256 % 256) as u8;
@@ -16,7 +16,7 @@ fn put_two(d: &mut [u8], at: usize, v: u64)
 
 fn put_four(d: &mut [u8], at: usize, v: u64)
     requires { ⌜ at + 4 ≤ length (now d) ⌝ }
-    ensures { λ _. ⌜ now (d .exit) ≡ laid (now (d .entry)) at (bytesOf 4 v) ⌝ }
+    ensures { λ _. ⌜ now (d .exit) ≡ overwritten (now (d .entry)) at (bytesOf 4 v) ⌝ }
 {
     put_two(d, at, v);
     put_two(d, at + 2, v / 0x1_0000);
@@ -24,7 +24,7 @@ fn put_four(d: &mut [u8], at: usize, v: u64)
 
 fn put_eight(d: &mut [u8], at: usize, v: u64)
     requires { ⌜ at + 8 ≤ length (now d) ⌝ }
-    ensures { λ _. ⌜ now (d .exit) ≡ laid (now (d .entry)) at (bytesOf 8 v) ⌝ }
+    ensures { λ _. ⌜ now (d .exit) ≡ overwritten (now (d .entry)) at (bytesOf 8 v) ⌝ }
 {
     put_four(d, at, v);
     put_four(d, at + 4, v / 0x1_0000_0000);

@@ -106,7 +106,7 @@ fn cosine_sum(r: f64) -> f64
 }
 
 // The sine and the cosine from S and C of the reduced phase.
-fn turned(q: u8, s: f64, c: f64) -> SinCos
+fn by_quadrant(q: u8, s: f64, c: f64) -> SinCos
     ensures { λ y. ⌜ y ≡ quadrant q s c ⌝ }
 {
     match q {
@@ -121,5 +121,5 @@ pub fn sin_cos(p: f64) -> SinCos
     ensures { λ y. ⌜ y ≡ sinCos p ⌝ }
 {
     let a = reduce(p);
-    turned(a.q, sine_sum(a.r), cosine_sum(a.r))
+    by_quadrant(a.q, sine_sum(a.r), cosine_sum(a.r))
 }

@@ -5,7 +5,7 @@ use Prim.Native.Nat.{ℕ, zero, suc, _+_, _/_, _%_, _<_, _≤_}
 use native.Mathlib.Omega.{arith}
 use lib.ListN.{length, getD, set, take, drop}
 use lib.Seq.{drop-cons, take-all}
-use Rattle.mode_s.specs.Parity.{parityOf, parityBytes, sealed}
+use Rattle.mode_s.specs.Parity.{parityOf, parityBytes, withParity}
 
 -- n bytes from place k on, each by itself
 unfoldable pub each : List ℕ → ℕ → ℕ → List ℕ
@@ -48,8 +48,8 @@ module _ (l : List ℕ) (fourteen : length l ≡ 14) where
 
     -- the parity of the first eleven bytes stored behind them, high byte first
     pub parity-set : (p x y : ℕ) → p ≡ parityOf (take 11 (set l 0 v)) → x ≡ p / 65536 % 256 → y ≡ p / 256 % 256
-        → set (set (set (set l 0 v) 11 x) 12 y) 13 (p % 256) ≡ sealed (v ∷ take 10 (drop 1 l)) 0
-    unfolding sealed parityBytes
+        → set (set (set (set l 0 v) 11 x) 12 y) 13 (p % 256) ≡ withParity (v ∷ take 10 (drop 1 l)) 0
+    unfolding withParity parityBytes
     parity-set p x y e ex ey =
         end-set x y (p % 256)
         ∙ ap₂ (λ (a b : ℕ). (v ∷ take 10 (drop 1 l)) ++ (a ∷ b ∷ p % 256 ∷ [])) ex ey

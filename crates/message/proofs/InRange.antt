@@ -11,8 +11,8 @@ use Rattle.mode_s.specs.Formats.{extendedFormats, capabilities, controls}
 use Rattle.message.specs.declared.MessageType.{MessageType}
 use Rattle.message.specs.declared.MessageType.the-variants.{ExtendedSquitter, AcquisitionSquitter, ShortAp, AllCallReply, LongAp, ModeAc}
 use Rattle.message.specs.declared.Picks.{Picks}
-use Rattle.message.specs.declared.Field.{Field}
-use Rattle.message.specs.declared.Field.the-variants.{Fine}
+use Rattle.message.specs.declared.FieldFault.{FieldFault}
+use Rattle.message.specs.declared.FieldFault.the-variants.{NoFault}
 use Rattle.message.specs.Making.{
   formats,
   subfields,
@@ -48,87 +48,87 @@ entry-lt b (x ∷ xs) h t (suc k) = entry-lt b xs h (allOf-right (ltb x b) (allL
 
 -- ---- no fault
 
-pub fits : (field : ℕ) (b : Bool) (rest : Field) → checked field b rest ≡ Fine → T b
+pub fits : (field : ℕ) (b : Bool) (rest : FieldFault) → checked field b rest ≡ NoFault → T b
 fits field true rest e = tt
 fits field false rest e = let z : _≡_ {A = ℕ} 0 1 = cc in absurd (omega arith)
 
-pub later-fits : (field : ℕ) (b : Bool) (rest : Field) → checked field b rest ≡ Fine → rest ≡ Fine
+pub later-fits : (field : ℕ) (b : Bool) (rest : FieldFault) → checked field b rest ≡ NoFault → rest ≡ NoFault
 later-fits field true rest e = e
 later-fits field false rest e = let z : _≡_ {A = ℕ} 0 1 = cc in absurd (omega arith)
 
 -- In range, each pick is below the length of its list, or the list uses none: the 0 past the end of a list is never what an entry is.
 module _ (t : MessageType) (p : Picks) where
-  abbrev afterCapability : Field
+  abbrev afterCapability : FieldFault
   afterCapability =
-      checked 9 (overlayFits t (p .overlay)) (checked 11 (modeAcFits t (p .«data») 4096) (checked 12 (modeAcFits t (p .spi) 2) Fine))
+      checked 9 (overlayFits t (p .overlay)) (checked 11 (modeAcFits t (p .«data») 4096) (checked 12 (modeAcFits t (p .spi) 2) NoFault))
 
-  abbrev afterFormat : Field
+  abbrev afterFormat : FieldFault
   afterFormat = checked 8 (pickFits (subfields t (formatOf t p)) (p .capability)) afterCapability
 
-  pub format-in-list : fieldFault t p ≡ Fine → T (pickFits (formats t) (p .format))
+  pub format-in-list : fieldFault t p ≡ NoFault → T (pickFits (formats t) (p .format))
   unfolding fieldFault
   format-in-list e = fits 7 (pickFits (formats t) (p .format)) afterFormat e
 
-  pub capability-in-list : fieldFault t p ≡ Fine → T (pickFits (subfields t (formatOf t p)) (p .capability))
+  pub capability-in-list : fieldFault t p ≡ NoFault → T (pickFits (subfields t (formatOf t p)) (p .capability))
   unfolding fieldFault
   capability-in-list e =
       fits 8 (pickFits (subfields t (formatOf t p)) (p .capability)) afterCapability
       (later-fits 7 (pickFits (formats t) (p .format)) afterFormat e)
 
 module _ (p : Picks) where
-  pub short-ap-format : fieldFault ShortAp p ≡ Fine → p .format < 3
+  pub short-ap-format : fieldFault ShortAp p ≡ NoFault → p .format < 3
   unfolding fieldFault formats subfields overlayFits modeAcFits
-  short-ap-format e = ltb→lt (p .format) 3 (fits 7 (ltb (p .format) 3) Fine e)
+  short-ap-format e = ltb→lt (p .format) 3 (fits 7 (ltb (p .format) 3) NoFault e)
 
-  pub long-ap-format : fieldFault LongAp p ≡ Fine → p .format < 11
+  pub long-ap-format : fieldFault LongAp p ≡ NoFault → p .format < 11
   unfolding fieldFault formats subfields overlayFits modeAcFits
-  long-ap-format e = ltb→lt (p .format) 11 (fits 7 (ltb (p .format) 11) Fine e)
+  long-ap-format e = ltb→lt (p .format) 11 (fits 7 (ltb (p .format) 11) NoFault e)
 
-  pub acquisition-capability : fieldFault AcquisitionSquitter p ≡ Fine → p .capability < 5
+  pub acquisition-capability : fieldFault AcquisitionSquitter p ≡ NoFault → p .capability < 5
   unfolding fieldFault formats subfields overlayFits modeAcFits
-  acquisition-capability e = ltb→lt (p .capability) 5 (fits 8 (ltb (p .capability) 5) Fine e)
+  acquisition-capability e = ltb→lt (p .capability) 5 (fits 8 (ltb (p .capability) 5) NoFault e)
 
   abbrev overlay : Bool
   overlay = allOf (ltb 0 (p .overlay)) (ltb (p .overlay) 128)
 
-  pub all-call-capability : fieldFault AllCallReply p ≡ Fine → p .capability < 5
+  pub all-call-capability : fieldFault AllCallReply p ≡ NoFault → p .capability < 5
   unfolding fieldFault formats subfields overlayFits modeAcFits
-  all-call-capability e = ltb→lt (p .capability) 5 (fits 8 (ltb (p .capability) 5) (checked 9 overlay Fine) e)
+  all-call-capability e = ltb→lt (p .capability) 5 (fits 8 (ltb (p .capability) 5) (checked 9 overlay NoFault) e)
 
-  all-call-overlay : fieldFault AllCallReply p ≡ Fine → T overlay
+  all-call-overlay : fieldFault AllCallReply p ≡ NoFault → T overlay
   unfolding fieldFault formats subfields overlayFits modeAcFits
-  all-call-overlay e = fits 9 overlay Fine (later-fits 8 (ltb (p .capability) 5) (checked 9 overlay Fine) e)
+  all-call-overlay e = fits 9 overlay NoFault (later-fits 8 (ltb (p .capability) 5) (checked 9 overlay NoFault) e)
 
-  pub overlay-above : fieldFault AllCallReply p ≡ Fine → 0 < p .overlay
+  pub overlay-above : fieldFault AllCallReply p ≡ NoFault → 0 < p .overlay
   overlay-above e = ltb→lt 0 (p .overlay) (allOf-left (ltb 0 (p .overlay)) (ltb (p .overlay) 128) (all-call-overlay e))
 
-  pub overlay-below : fieldFault AllCallReply p ≡ Fine → p .overlay < 128
+  pub overlay-below : fieldFault AllCallReply p ≡ NoFault → p .overlay < 128
   overlay-below e = ltb→lt (p .overlay) 128 (allOf-right (ltb 0 (p .overlay)) (ltb (p .overlay) 128) (all-call-overlay e))
 
-  abbrev spiFits : Field
-  spiFits = checked 12 (ltb (p .spi) 2) Fine
+  abbrev spiFits : FieldFault
+  spiFits = checked 12 (ltb (p .spi) 2) NoFault
 
-  pub data-below : fieldFault ModeAc p ≡ Fine → p .«data» < 4096
+  pub data-below : fieldFault ModeAc p ≡ NoFault → p .«data» < 4096
   unfolding fieldFault formats subfields overlayFits modeAcFits
   data-below e = ltb→lt (p .«data») 4096 (fits 11 (ltb (p .«data») 4096) spiFits e)
 
-  pub spi-below : fieldFault ModeAc p ≡ Fine → p .spi < 2
+  pub spi-below : fieldFault ModeAc p ≡ NoFault → p .spi < 2
   unfolding fieldFault formats subfields overlayFits modeAcFits
-  spi-below e = ltb→lt (p .spi) 2 (fits 12 (ltb (p .spi) 2) Fine (later-fits 11 (ltb (p .«data») 4096) spiFits e))
+  spi-below e = ltb→lt (p .spi) 2 (fits 12 (ltb (p .spi) 2) NoFault (later-fits 11 (ltb (p .«data») 4096) spiFits e))
 
   abbrev secondPick : Bool
   secondPick = pickFits (choose (eqb (getD extendedFormats (p .format) 0) 18) controls capabilities) (p .capability)
 
-  pub extended-format : fieldFault ExtendedSquitter p ≡ Fine → p .format < 2
+  pub extended-format : fieldFault ExtendedSquitter p ≡ NoFault → p .format < 2
   unfolding fieldFault formats subfields formatOf overlayFits modeAcFits
-  extended-format e = ltb→lt (p .format) 2 (fits 7 (ltb (p .format) 2) (checked 8 secondPick Fine) e)
+  extended-format e = ltb→lt (p .format) 2 (fits 7 (ltb (p .format) 2) (checked 8 secondPick NoFault) e)
 
-  extended-pick : fieldFault ExtendedSquitter p ≡ Fine → T secondPick
+  extended-pick : fieldFault ExtendedSquitter p ≡ NoFault → T secondPick
   unfolding fieldFault formats subfields formatOf overlayFits modeAcFits
-  extended-pick e = fits 8 secondPick Fine (later-fits 7 (ltb (p .format) 2) (checked 8 secondPick Fine) e)
+  extended-pick e = fits 8 secondPick NoFault (later-fits 7 (ltb (p .format) 2) (checked 8 secondPick NoFault) e)
 
-  pub control-pick : fieldFault ExtendedSquitter p ≡ Fine → getD extendedFormats (p .format) 0 ≡ 18 → p .capability < 6
+  pub control-pick : fieldFault ExtendedSquitter p ≡ NoFault → getD extendedFormats (p .format) 0 ≡ 18 → p .capability < 6
   control-pick e h = ltb→lt (p .capability) 6 (simp (eq-eqb (getD extendedFormats (p .format) 0) 18 h) at (extended-pick e))
 
-  pub capability-pick : fieldFault ExtendedSquitter p ≡ Fine → (getD extendedFormats (p .format) 0 ≡ 18 → ⊥) → p .capability < 5
+  pub capability-pick : fieldFault ExtendedSquitter p ≡ NoFault → (getD extendedFormats (p .format) 0 ≡ 18 → ⊥) → p .capability < 5
   capability-pick e h = ltb→lt (p .capability) 5 (simp (ne-eqb (getD extendedFormats (p .format) 0) 18 h) at (extended-pick e))

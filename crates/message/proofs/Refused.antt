@@ -2,8 +2,8 @@
 use Prim.Native.Nat.{ℕ}
 use mathlib.Core.Path.{_≡_, refl}
 use Rattle.refusals.specs.Answer.{unless}
-use Rattle.message.specs.declared.Field.{Field}
-use Rattle.message.specs.declared.Field.the-variants.{Fine, Wrong}
+use Rattle.message.specs.declared.FieldFault.{FieldFault}
+use Rattle.message.specs.declared.FieldFault.the-variants.{NoFault, Field}
 use Rattle.message.specs.declared.MessageType.{MessageType}
 use Rattle.message.specs.declared.Picks.{Picks}
 use Rattle.message.specs.Making.{replyOf, fieldFault, madeWhere, made, fieldRefusal, madeAnswer}
@@ -12,6 +12,6 @@ pub made-answers : (draw : ℕ) (t : MessageType) (p : Picks) → madeAnswer dra
 unfolding made madeAnswer
 made-answers draw t p = go (fieldFault t p)
   where
-    go : (f : Field) → unless (fieldRefusal draw (madeWhere f (replyOf t p) .fault)) (madeWhere f (replyOf t p) .reply) ≡ unless (fieldRefusal draw f) (replyOf t p)
-    go Fine = unfold madeWhere fieldRefusal unless in refl
-    go (Wrong field) = unfold madeWhere fieldRefusal unless in refl
+    go : (f : FieldFault) → unless (fieldRefusal draw (madeWhere f (replyOf t p) .fault)) (madeWhere f (replyOf t p) .reply) ≡ unless (fieldRefusal draw f) (replyOf t p)
+    go NoFault = unfold madeWhere fieldRefusal unless in refl
+    go (Field field) = unfold madeWhere fieldRefusal unless in refl

@@ -15,7 +15,7 @@ use Rattle.mode_s.specs.Formats.{
   capabilities,
   controls,
 }
-use Rattle.mode_s.specs.Parity.{sealed}
+use Rattle.mode_s.specs.Parity.{withParity}
 use Rattle.refusals.specs.declared.Refusal.{Refusal}
 use Rattle.refusals.specs.declared.Refusal.the-variants.{Draw}
 use Rattle.refusals.specs.Answer.{Answer, unless}
@@ -33,8 +33,8 @@ use Rattle.message.specs.declared.ReplyKind.{ReplyKind}
 use Rattle.message.specs.declared.ReplyKind.the-variants.{Short, Long, ModeAc as ModeAcKind}
 use Rattle.message.specs.declared.Reply.{Reply}
 use Rattle.message.specs.declared.Picks.{Picks}
-use Rattle.message.specs.declared.Field.{Field}
-use Rattle.message.specs.declared.Field.the-variants.{Fine, Wrong}
+use Rattle.message.specs.declared.FieldFault.{FieldFault}
+use Rattle.message.specs.declared.FieldFault.the-variants.{NoFault, Field}
 use Rattle.message.specs.declared.Made.{Made}
 
 -- the list that a type's downlink format comes from; Mode A/C has none
@@ -96,10 +96,10 @@ later p n = take n (drop 1 (p .bytes))
 -- the bytes of a message. Types 0, 1, 3 end in three bytes of parity, that of an all-call with its overlay; the others carry none.
 -- An all-call has 0 in bytes 1 to 3. Mode A/C is its data, low byte first, with SPI as bit 12.
 unfoldable pub messageBytes : MessageType → Picks → List ℕ
-messageBytes ExtendedSquitter p = sealed (byte0 ExtendedSquitter p ∷ later p 10) 0
-messageBytes AcquisitionSquitter p = sealed (byte0 AcquisitionSquitter p ∷ later p 3) 0
+messageBytes ExtendedSquitter p = withParity (byte0 ExtendedSquitter p ∷ later p 10) 0
+messageBytes AcquisitionSquitter p = withParity (byte0 AcquisitionSquitter p ∷ later p 3) 0
 messageBytes ShortAp p = byte0 ShortAp p ∷ later p 6
-messageBytes AllCallReply p = sealed (byte0 AllCallReply p ∷ 0 ∷ 0 ∷ 0 ∷ []) (p .overlay)
+messageBytes AllCallReply p = withParity (byte0 AllCallReply p ∷ 0 ∷ 0 ∷ 0 ∷ []) (p .overlay)
 messageBytes LongAp p = byte0 LongAp p ∷ later p 13
 messageBytes MilitaryExtendedSquitter p = byte0 MilitaryExtendedSquitter p ∷ later p 13
 messageBytes ModeAc p = (p .«data» % 256) ∷ (p .«data» / 256 + 16 * p .spi) ∷ []
@@ -148,32 +148,32 @@ modeAcFits MilitaryExtendedSquitter n limit = true
 modeAcFits ModeAc n limit = ltb n limit
 
 -- a field's number where it does not fit, or else what comes of the later fields
-abbrev pub checked : ℕ → Bool → Field → Field
+abbrev pub checked : ℕ → Bool → FieldFault → FieldFault
 checked field true rest = rest
-checked field false rest = Wrong field
+checked field false rest = Field field
 
 -- the first field at fault, counted from 0 in the order of the tape: the DF pick is 7, the CA pick 8, the overlay 9, the data 11, SPI 12
-unfoldable pub fieldFault : MessageType → Picks → Field
+unfoldable pub fieldFault : MessageType → Picks → FieldFault
 fieldFault t p =
     checked 7 (pickFits (formats t) (p .format))
     (checked 8 (pickFits (subfields t (formatOf t p)) (p .capability))
     (checked 9 (overlayFits t (p .overlay))
     (checked 11 (modeAcFits t (p .«data») 4096)
-    (checked 12 (modeAcFits t (p .spi) 2) Fine))))
+    (checked 12 (modeAcFits t (p .spi) 2) NoFault))))
 
 -- a reply of zeros stands beside a fault
-unfoldable pub madeWhere : Field → Reply → Made
-madeWhere Fine r = record { fault = Fine; reply = r }
-madeWhere (Wrong field) r = record { fault = Wrong field; reply = record { kind = Short; bytes = replicate 14 0 } }
+unfoldable pub madeWhere : FieldFault → Reply → Made
+madeWhere NoFault r = record { fault = NoFault; reply = r }
+madeWhere (Field field) r = record { fault = Field field; reply = record { kind = Short; bytes = replicate 14 0 } }
 
 -- what making answers: the fault, and the reply
 unfoldable pub made : MessageType → Picks → Made
 made t p = madeWhere (fieldFault t p) (replyOf t p)
 
 -- in the specification's terms: "a draw field out of range" is refusal 7, with the place of the draw and the field
-unfoldable pub fieldRefusal : ℕ → Field → Option Refusal
-fieldRefusal draw Fine = none
-fieldRefusal draw (Wrong field) = some (Draw draw field)
+unfoldable pub fieldRefusal : ℕ → FieldFault → Option Refusal
+fieldRefusal draw NoFault = none
+fieldRefusal draw (Field field) = some (Draw draw field)
 
 -- what making answers for the draw at a place: a reply, or that refusal
 unfoldable pub madeAnswer : ℕ → Made → Answer Reply

@@ -43,14 +43,14 @@ pub struct Picks {
 }
 
 // Whether a draw's fields are in range, or the first that is not, counted from 0 in the order of the tape.
-pub enum Field {
-    Fine,
-    Wrong(u64),
+pub enum FieldFault {
+    NoFault,
+    Field(u64),
 }
 
 // What making answers: a reply, or the field at fault beside a reply of zeros.
 pub struct Made {
-    pub fault: Field,
+    pub fault: FieldFault,
     pub reply: Reply,
 }
 

@@ -13,7 +13,7 @@ use Rattle.message.specs.declared.ReplyKind.{ReplyKind}
 use Rattle.message.specs.declared.ReplyKind.the-variants.{Short, Long, ModeAc}
 use Rattle.message.specs.declared.Reply.{Reply}
 use Rattle.message.specs.declared.Picks.{Picks}
-use Rattle.message.specs.declared.Field.the-variants.{Fine}
+use Rattle.message.specs.declared.FieldFault.the-variants.{NoFault}
 use Rattle.message.specs.declared.TypeFound.{TypeFound}
 use Rattle.message.specs.declared.TypeFound.the-variants.{Of, Unknown}
 use Rattle.message.specs.Types.{typeNumber}
@@ -122,7 +122,7 @@ read-as-zero : (r : Reply) → sevenAsZero (classOf r) ≡ typeOf r
 unfolding classOf typeOf
 read-as-zero r = read-kind (r .kind) (r .bytes)
 
-made-as-its-type : (p : Picks) → length (p .bytes) ≡ 14 → (t : MessageType) → fieldFault t p ≡ Fine → sevenAsZero (classOf (replyOf t p)) ≡ Of t
+made-as-its-type : (p : Picks) → length (p .bytes) ≡ 14 → (t : MessageType) → fieldFault t p ≡ NoFault → sevenAsZero (classOf (replyOf t p)) ≡ Of t
 made-as-its-type p h t e = read-as-zero (replyOf t p) ∙ made-classed p h t e
 
 pub class-changes : ClassChanges

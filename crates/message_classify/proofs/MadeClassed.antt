@@ -10,7 +10,7 @@ use lib.Dec.{eqb, lit<}
 use lib.ListN.{length, getD, take, drop, replicate, length-append, length-take, length-drop}
 use lib.Seq.{take-at}
 use Rattle.mode_s.specs.Formats.{extendedFormats, shortApFormats, capabilities, controls}
-use Rattle.mode_s.specs.Parity.{parityOf, parityBytes, sealed}
+use Rattle.mode_s.specs.Parity.{parityOf, parityBytes, withParity}
 use Rattle.mode_s.proofs.Laws.{sealed-parity, overlay-seen}
 use Rattle.message.specs.declared.MessageType.{MessageType}
 use Rattle.message.specs.declared.MessageType.the-variants.{
@@ -23,8 +23,8 @@ use Rattle.message.specs.declared.MessageType.the-variants.{
   ModeAc,
 }
 use Rattle.message.specs.declared.Picks.{Picks}
-use Rattle.message.specs.declared.Field.{Field}
-use Rattle.message.specs.declared.Field.the-variants.{Fine, Wrong}
+use Rattle.message.specs.declared.FieldFault.{FieldFault}
+use Rattle.message.specs.declared.FieldFault.the-variants.{NoFault, Field}
 use Rattle.message.specs.declared.TypeFound.the-variants.{Of}
 use Rattle.message.specs.Making.{
   formats,
@@ -105,28 +105,28 @@ short-ap-listed (suc (suc zero)) h m = refl
 short-ap-listed (suc (suc (suc k))) h m = absurd (omega arith)
 
 module _ (p : Picks) (fourteen : length (p .bytes) ≡ 14) where
-  acquisition-length : length (sealed (byte0 AcquisitionSquitter p ∷ take 3 (drop 1 (p .bytes))) 0) ≡ 7
-  unfolding sealed parityBytes
+  acquisition-length : length (withParity (byte0 AcquisitionSquitter p ∷ take 3 (drop 1 (p .bytes))) 0) ≡ 7
+  unfolding withParity parityBytes
   acquisition-length = simp (length-append, length-take, length-drop) (omega arith)
 
   acquisition-classed : typeOf (replyOf AcquisitionSquitter p) ≡ Of AcquisitionSquitter
-  unfolding typeOf kindClass replyOf kindOf messageBytes later filled sealed formatOf formats
+  unfolding typeOf kindClass replyOf kindOf messageBytes later filled withParity formatOf formats
   acquisition-classed =
       let head = byte0 AcquisitionSquitter p ∷ take 3 (drop 1 (p .bytes)) in
-      ap (λ (df : ℕ). shortClass df (take 7 (filled (sealed head 0)))) (byte0-format AcquisitionSquitter p)
-      ∙ ap (shortClass 11) (first-seven (sealed head 0) acquisition-length)
-      ∙ eleven-sealed (sealed head 0) (sealed-parity head)
+      ap (λ (df : ℕ). shortClass df (take 7 (filled (withParity head 0)))) (byte0-format AcquisitionSquitter p)
+      ∙ ap (shortClass 11) (first-seven (withParity head 0) acquisition-length)
+      ∙ eleven-sealed (withParity head 0) (sealed-parity head)
 
-  all-call-classed : fieldFault AllCallReply p ≡ Fine → typeOf (replyOf AllCallReply p) ≡ Of AllCallReply
-  unfolding typeOf kindClass replyOf kindOf messageBytes filled sealed parityBytes formatOf formats
+  all-call-classed : fieldFault AllCallReply p ≡ NoFault → typeOf (replyOf AllCallReply p) ≡ Of AllCallReply
+  unfolding typeOf kindClass replyOf kindOf messageBytes filled withParity parityBytes formatOf formats
   all-call-classed e =
       let head = byte0 AllCallReply p ∷ 0 ∷ 0 ∷ 0 ∷ [] in
       let below = overlay-below p e in
-      ap (λ (df : ℕ). shortClass df (sealed head (p .overlay))) (byte0-format AllCallReply p)
-      ∙ eleven-overlaid (sealed head (p .overlay)) (overlay-seen head (p .overlay) (overlay-above p e) (omega arith))
+      ap (λ (df : ℕ). shortClass df (withParity head (p .overlay))) (byte0-format AllCallReply p)
+      ∙ eleven-overlaid (withParity head (p .overlay)) (overlay-seen head (p .overlay) (overlay-above p e) (omega arith))
 
-  pub made-classed : (t : MessageType) → fieldFault t p ≡ Fine → typeOf (replyOf t p) ≡ Of t
-  unfolding typeOf kindClass replyOf kindOf messageBytes filled sealed formatOf formats longClass
+  pub made-classed : (t : MessageType) → fieldFault t p ≡ NoFault → typeOf (replyOf t p) ≡ Of t
+  unfolding typeOf kindClass replyOf kindOf messageBytes filled withParity formatOf formats longClass
   made-classed ExtendedSquitter e = ap longClass (byte0-format ExtendedSquitter p) ∙ extended-listed (p .format) (extended-format p e)
   made-classed AcquisitionSquitter e = acquisition-classed
   made-classed ShortAp e =
@@ -138,10 +138,10 @@ module _ (p : Picks) (fourteen : length (p .bytes) ≡ 14) where
   made-classed ModeAc e = refl
 
   -- the same of what making answers
-  pub answer-classed : (t : MessageType) → made t p .fault ≡ Fine → typeOf (made t p .reply) ≡ Of t
+  pub answer-classed : (t : MessageType) → made t p .fault ≡ NoFault → typeOf (made t p .reply) ≡ Of t
   unfolding made madeWhere
   answer-classed t e = by (fieldFault t p) refl e
     where
-      by : (f : Field) → fieldFault t p ≡ f → madeWhere f (replyOf t p) .fault ≡ Fine → typeOf (madeWhere f (replyOf t p) .reply) ≡ Of t
-      by Fine q h = made-classed t q
-      by (Wrong k) q h = let z : _≡_ {A = ℕ} 0 1 = cc in absurd (omega arith)
+      by : (f : FieldFault) → fieldFault t p ≡ f → madeWhere f (replyOf t p) .fault ≡ NoFault → typeOf (madeWhere f (replyOf t p) .reply) ≡ Of t
+      by NoFault q h = made-classed t q
+      by (Field k) q h = let z : _≡_ {A = ℕ} 0 1 = cc in absurd (omega arith)

@@ -9,7 +9,7 @@ use Rattle.message.specs.declared.MessageType.the-variants.{ExtendedSquitter}
 use Rattle.message.specs.declared.ReplyKind.the-variants.{Short, Long, ModeAc}
 use Rattle.message.specs.declared.Reply.{Reply}
 use Rattle.message.specs.declared.Picks.{Picks}
-use Rattle.message.specs.declared.Field.the-variants.{Fine}
+use Rattle.message.specs.declared.FieldFault.the-variants.{NoFault}
 use Rattle.message.specs.declared.TypeFound.the-variants.{Of}
 use Rattle.message.specs.Making.{replyOf, fieldFault}
 use Rattle.message_classify.specs.declared.Class.the-variants.{TisB}
@@ -42,5 +42,5 @@ pub record ClassChanges : Type 0 where
   -- with 7 read as 0 every answer is the base's
   pub read-as-zero : (r : Reply) → sevenAsZero (classOf r) ≡ typeOf r
   -- so each message that is made of fields in range is classed as its type
-  pub made-as-its-type : (p : Picks) → length (p .bytes) ≡ 14 → (t : MessageType) → fieldFault t p ≡ Fine
+  pub made-as-its-type : (p : Picks) → length (p .bytes) ≡ 14 → (t : MessageType) → fieldFault t p ≡ NoFault
       → sevenAsZero (classOf (replyOf t p)) ≡ Of t

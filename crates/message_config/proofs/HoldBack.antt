@@ -19,7 +19,7 @@ use Rattle.float_narrow.specs.Ceil.{ceilSigned, upward}
 use Rattle.float_narrow.specs.Range.{within}
 use Rattle.float_rounding.proofs.Size.{units-within, le-or-lt}
 use Rattle.math.proofs.InRange.{tests-of-within}
-use Rattle.distributions.specs.Asked.{tenth}
+use Rattle.distributions.specs.Accepted.{tenth}
 use Rattle.message.specs.declared.ReplyKind.{ReplyKind}
 use Rattle.message_config.specs.declared.Delays.{Delays}
 use Rattle.message_config.specs.declared.MessageConfig.{MessageConfig}

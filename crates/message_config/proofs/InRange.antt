@@ -19,7 +19,7 @@ use Rattle.float_narrow.proofs.Exact.{whole-value}
 use Rattle.float_narrow.proofs.Ranges.{within-finite, within-val}
 use Rattle.float_rounding.proofs.Size.{Within, number}
 use Rattle.math.proofs.Constants.{piUnits}
-use Rattle.distributions.specs.Asked.{tenth, offsetLimit}
+use Rattle.distributions.specs.Accepted.{tenth, offsetLimit}
 use Rattle.message.specs.declared.ReplyKind.{ReplyKind}
 use Rattle.message.specs.declared.ReplyKind.the-variants.{Short, Long, ModeAc}
 use Rattle.message_config.specs.declared.Delays.{Delays}

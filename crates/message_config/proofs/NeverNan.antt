@@ -22,7 +22,7 @@ use Rattle.float_rounding.proofs.Size as Size
 use Rattle.float_rounding.proofs.Size.{Within, units-within, within-neg, sum-within, le-or-lt}
 use Rattle.math.proofs.Constants.{piUnits, twoPiUnits, pi-val, twoPi-val}
 use Rattle.math.proofs.InRange.{Between, tests-of-within, wrapped-in-range}
-use Rattle.distributions.specs.Asked.{offsetLimit}
+use Rattle.distributions.specs.Accepted.{offsetLimit}
 use Rattle.message_config.specs.declared.Delays.{Delays}
 use Rattle.message_config.specs.declared.MessageConfig.{MessageConfig}
 use Rattle.message_config.specs.Timing.{one, delayOf, unroundedStart, startOf, filterClockError, clockPhase}

@@ -6,7 +6,7 @@ use native.Mathlib.Omega.{arith}
 use lib.ListN.{length, getD, take, length-append, length-take, length-drop}
 use lib.Bits.{bitXor, xor-lt}
 use Rattle.mode_s.specs.Formats.{shortApFormats}
-use Rattle.mode_s.specs.Parity.{parityOf, parityBytes, sealed}
+use Rattle.mode_s.specs.Parity.{parityOf, parityBytes, withParity}
 use Rattle.mode_s.proofs.Xor.{xor-twice}
 use Rattle.mode_s.proofs.Laws.{parity-lt, overlay-number}
 use Rattle.message.specs.declared.MessageType.{MessageType}
@@ -20,7 +20,7 @@ use Rattle.message.specs.declared.MessageType.the-variants.{
   ModeAc,
 }
 use Rattle.message.specs.declared.Picks.{Picks}
-use Rattle.message.specs.declared.Field.the-variants.{Fine}
+use Rattle.message.specs.declared.FieldFault.the-variants.{NoFault}
 use Rattle.message.specs.Making.{formats, formatOf, byte0, later, messageBytes, fieldFault}
 use Rattle.message.proofs.InRange.{short-ap-format, overlay-below}
 use Rattle.message_classify.proofs.MadeClassed.{byte0-format}
@@ -64,8 +64,8 @@ found-back (a ∷ b ∷ c ∷ d ∷ []) h o l =
 found-back (a ∷ b ∷ c ∷ d ∷ e ∷ m) h o l = absurd (omega arith)
 
 -- the same where the overlay is on the last byte alone
-sealed-back : (head : List ℕ) → length head ≡ 4 → (o : ℕ) → o < 256 → overlayOf (sealed head o) ≡ o
-unfolding overlayOf lastThree sealed parityBytes
+sealed-back : (head : List ℕ) → length head ≡ 4 → (o : ℕ) → o < 256 → overlayOf (withParity head o) ≡ o
+unfolding overlayOf lastThree withParity parityBytes
 sealed-back [] h o l = absurd (omega arith)
 sealed-back (a ∷ []) h o l = absurd (omega arith)
 sealed-back (a ∷ b ∷ []) h o l = absurd (omega arith)
@@ -78,8 +78,8 @@ sealed-back (a ∷ b ∷ c ∷ d ∷ e ∷ m) h o l = absurd (omega arith)
 -- ---- what is made
 
 module _ (p : Picks) (fourteen : length (p .bytes) ≡ 14) where
-  all-call : fieldFault AllCallReply p ≡ Fine → interrogatorOf (messageBytes AllCallReply p) ≡ codeOf (p .overlay)
-  unfolding messageBytes sealed parityBytes formatOf formats
+  all-call : fieldFault AllCallReply p ≡ NoFault → interrogatorOf (messageBytes AllCallReply p) ≡ codeOf (p .overlay)
+  unfolding messageBytes withParity parityBytes formatOf formats
   all-call e =
       let head = byte0 AllCallReply p ∷ 0 ∷ 0 ∷ 0 ∷ [] in
       let below = overlay-below p e in
@@ -89,12 +89,12 @@ module _ (p : Picks) (fourteen : length (p .bytes) ≡ 14) where
   unfolding later
   head-length = simp (length-take, length-drop) (omega arith)
 
-  acquisition-length : length (sealed (byte0 AcquisitionSquitter p ∷ later p 3) 0) ≡ 7
-  unfolding sealed parityBytes
+  acquisition-length : length (withParity (byte0 AcquisitionSquitter p ∷ later p 3) 0) ≡ 7
+  unfolding withParity parityBytes
   acquisition-length = simp length-append (omega (arith, head-length))
 
-  acquisition : fieldFault AcquisitionSquitter p ≡ Fine → interrogatorOf (messageBytes AcquisitionSquitter p) ≡ Ii 0
-  unfolding messageBytes sealed formatOf formats
+  acquisition : fieldFault AcquisitionSquitter p ≡ NoFault → interrogatorOf (messageBytes AcquisitionSquitter p) ≡ Ii 0
+  unfolding messageBytes withParity formatOf formats
   acquisition e =
       let head = byte0 AcquisitionSquitter p ∷ later p 3 in
       sym (reading (messageBytes AcquisitionSquitter p) (Ii 0) acquisition-length (byte0-format AcquisitionSquitter p)
@@ -105,7 +105,7 @@ module _ (p : Picks) (fourteen : length (p .bytes) ≡ 14) where
   later-length n h = simp (length-take, length-drop) (omega arith)
 
   extended-length : length (messageBytes ExtendedSquitter p) ≡ 14
-  unfolding messageBytes sealed parityBytes
+  unfolding messageBytes withParity parityBytes
   extended-length = simp length-append (omega (arith, later-length 10 (omega arith)))
 
   short-ap-eleven : (k : ℕ) → k < 3 → getD shortApFormats k 0 ≡ 11 → ⊥
@@ -114,7 +114,7 @@ module _ (p : Picks) (fourteen : length (p .bytes) ≡ 14) where
   short-ap-eleven (suc (suc zero)) h q = omega arith
   short-ap-eleven (suc (suc (suc k))) h q = omega arith
 
-  others : (t : MessageType) → fieldFault t p ≡ Fine → (t ≡ AllCallReply → ⊥) → (t ≡ AcquisitionSquitter → ⊥) → interrogatorOf (messageBytes t p) ≡ NoReading
+  others : (t : MessageType) → fieldFault t p ≡ NoFault → (t ≡ AllCallReply → ⊥) → (t ≡ AcquisitionSquitter → ⊥) → interrogatorOf (messageBytes t p) ≡ NoReading
   unfolding messageBytes formatOf formats
   others ExtendedSquitter e n m = sym (another-length (messageBytes ExtendedSquitter p) (λ q. omega (arith, extended-length)))
   others AcquisitionSquitter e n m = absurd (m refl)

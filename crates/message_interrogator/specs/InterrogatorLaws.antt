@@ -8,7 +8,7 @@ use Rattle.mode_s.specs.Parity.{parityOf}
 use Rattle.message.specs.declared.MessageType.{MessageType}
 use Rattle.message.specs.declared.MessageType.the-variants.{AcquisitionSquitter, AllCallReply}
 use Rattle.message.specs.declared.Picks.{Picks}
-use Rattle.message.specs.declared.Field.the-variants.{Fine}
+use Rattle.message.specs.declared.FieldFault.the-variants.{NoFault}
 use Rattle.message.specs.Making.{messageBytes, fieldFault}
 use Rattle.message_interrogator.specs.declared.Interrogator.the-variants.{Ii, Si, Unassigned, NoReading}
 use Rattle.message_interrogator.specs.Interrogators.{codeOf, overlayOf, interrogatorOf}
@@ -30,9 +30,9 @@ pub record InterrogatorLaws : Type 0 where
   -- an overlay of 24 bits is found back, whatever the first four bytes are
   pub found-back : (head : List ℕ) → length head ≡ 4 → (o : ℕ) → o < 2 ^ 24 → overlayOf (overlaidWith head o) ≡ o
   -- of messages made of fields in range: an all-call reads as the table has its overlay,
-  pub all-call : (p : Picks) → length (p .bytes) ≡ 14 → fieldFault AllCallReply p ≡ Fine → interrogatorOf (messageBytes AllCallReply p) ≡ codeOf (p .overlay)
+  pub all-call : (p : Picks) → length (p .bytes) ≡ 14 → fieldFault AllCallReply p ≡ NoFault → interrogatorOf (messageBytes AllCallReply p) ≡ codeOf (p .overlay)
   -- an acquisition squitter reads II 0,
-  pub acquisition : (p : Picks) → length (p .bytes) ≡ 14 → fieldFault AcquisitionSquitter p ≡ Fine → interrogatorOf (messageBytes AcquisitionSquitter p) ≡ Ii 0
+  pub acquisition : (p : Picks) → length (p .bytes) ≡ 14 → fieldFault AcquisitionSquitter p ≡ NoFault → interrogatorOf (messageBytes AcquisitionSquitter p) ≡ Ii 0
   -- and nothing else has a reading
-  pub others : (p : Picks) → length (p .bytes) ≡ 14 → (t : MessageType) → fieldFault t p ≡ Fine
+  pub others : (p : Picks) → length (p .bytes) ≡ 14 → (t : MessageType) → fieldFault t p ≡ NoFault
       → (t ≡ AllCallReply → ⊥) → (t ≡ AcquisitionSquitter → ⊥) → interrogatorOf (messageBytes t p) ≡ NoReading

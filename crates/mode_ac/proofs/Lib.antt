@@ -1,5 +1,5 @@
 pub mod DataOfDigits
-pub mod RisingPlaces
+pub mod RisingPositions
 pub mod PlaceRule
 pub mod BasePlaces
 mod Shifts

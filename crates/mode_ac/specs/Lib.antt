@@ -1,4 +1,4 @@
 pub mod Data
-pub mod Places
+pub mod Positions
 pub mod BasePlaces
 pub mod Building

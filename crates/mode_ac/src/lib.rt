@@ -3,7 +3,7 @@ ghost use mathlib.Core.Path.{_≡_};
 ghost use Prim.Native.Nat.{_%_};
 ghost use Rattle.mode_ac.specs.Data.{digitA, digitB, digitC, digitD, digitsOf, bitOf};
 ghost use Rattle.mode_ac.specs.Building.{answerOf, fromData, fromDigits};
-ghost use Rattle.mode_ac.specs.Places.{placeOf};
+ghost use Rattle.mode_ac.specs.Positions.{positionOf};
 
 pub struct ModeACReply {
     pub data: u16,
@@ -105,8 +105,8 @@ impl ModeACReply {
 const SHIFTS: [u16; 12] = [3, 9, 4, 10, 5, 11, 6, 0, 7, 1, 8, 2];
 
 // The place of the n-th bit: every third from 3 on, with one left out in the middle.
-pub fn place_of(n: usize) -> usize
-    ensures { λ r. ⌜ r ≡ placeOf n ⌝ }
+pub fn position_of(n: usize) -> usize
+    ensures { λ r. ⌜ r ≡ positionOf n ⌝ }
 {
     if n < 6 {
         return 3 * (n + 1);

@@ -9,7 +9,7 @@ use native.Mathlib.Omega.{arith}
 use lib.Dec.{T, eqb}
 use lib.ListN.{length, replicate}
 use lib.Bits.{bitXor, xor-block, xor-lt, xor-zero-r, xor-comm}
-use Rattle.mode_s.specs.Parity.{reduced, brought, remainder, bits, parityOf, parityBytes, sealed, laid}
+use Rattle.mode_s.specs.Parity.{reduced, brought, remainder, bits, parityOf, parityBytes, withParity, laid}
 use Rattle.mode_s.proofs.Below.{every, below}
 use Rattle.mode_s.proofs.ByBytes.{byteOver, over, parity-over, over-append, byteOver-xor, byteOver-small, over-lt}
 use Rattle.mode_s.proofs.Xor.{xor-twice}
@@ -95,12 +95,12 @@ overlay-number p o hp h =
     ∙ ap₂ bitXor e f
 
 -- a message that ends in its parity, with an overlay on the last byte, has the parity of the overlay alone
-pub overlaid : (bs : List ℕ) (o : ℕ) → o < 256 → parityOf (sealed bs o) ≡ parityOf (o ∷ [])
-unfolding sealed parityBytes
+pub overlaid : (bs : List ℕ) (o : ℕ) → o < 256 → parityOf (withParity bs o) ≡ parityOf (o ∷ [])
+unfolding withParity parityBytes
 overlaid bs o h =
     let p = parityOf bs in
     let hp : p < 0x1000000 = parity-lt bs in
-    parity-shifted (sealed bs o)
+    parity-shifted (withParity bs o)
     ∙ ap shifted
     (ended bs (p / 65536 % 256) (p / 256 % 256) (bitXor o (p % 256)) (omega arith) (omega arith)
     (xor-lt 8 o (p % 256) h (mod-lt p (omega arith)))
@@ -108,7 +108,7 @@ overlaid bs o h =
     ∙ sym (parity-shifted (o ∷ []))
 
 -- one that ends in its parity alone has parity 0
-pub sealed-parity : (bs : List ℕ) → parityOf (sealed bs 0) ≡ 0
+pub sealed-parity : (bs : List ℕ) → parityOf (withParity bs 0) ≡ 0
 unfolding parityOf remainder bits brought reduced
 sealed-parity bs = overlaid bs 0 (omega arith)
 
@@ -126,5 +126,5 @@ byte-seen zero h l e = omega arith
 byte-seen (suc k) h l e = subst (λ (n : ℕ). T (not (eqb n 0))) e (below seen 255 all-seen k (omega arith))
 
 -- and one with an overlay has not
-pub overlay-seen : (bs : List ℕ) (o : ℕ) → 0 < o → o < 256 → parityOf (sealed bs o) ≡ 0 → ⊥
+pub overlay-seen : (bs : List ℕ) (o : ℕ) → 0 < o → o < 256 → parityOf (withParity bs o) ≡ 0 → ⊥
 overlay-seen bs o h l e = byte-seen o h l (sym (overlaid bs o l) ∙ e)

@@ -36,8 +36,8 @@ unfoldable pub parityBytes : ℕ → ℕ → List ℕ
 parityBytes p o = p / 65536 % 256 ∷ p / 256 % 256 ∷ bitXor o (p % 256) ∷ []
 
 -- a message that ends in the parity of what precedes, with an overlay (0 for none)
-unfoldable pub sealed : List ℕ → ℕ → List ℕ
-sealed head o = head ++ parityBytes (parityOf head) o
+unfoldable pub withParity : List ℕ → ℕ → List ℕ
+withParity head o = head ++ parityBytes (parityOf head) o
 
 -- two messages of one length laid over each other by exclusive or, byte by byte
 unfoldable pub laid : List ℕ → List ℕ → List ℕ

@@ -14,7 +14,7 @@ use Rattle.run_open_checks.specs.Opening as Opening
 use Rattle.run_call.specs.declared.State.{State}
 use Rattle.run_call.specs.declared.Counts.{Counts}
 use Rattle.run_call.specs.declared.Answer as Answer
-use Rattle.run_call.specs.Buffers.{Left, Lent}
+use Rattle.run_call.specs.Buffers.{Left, CallBuffers}
 use Rattle.run_call.specs.CallModel.{runLeft}
 use Rattle.run_call.specs.Calls.{runsLeft}
 use Rattle.run_theorem.specs.Seen.{Numbered, stopped, refused, Seen, answerSeen, seenLeft, countsOf, answerOf, seenResult}
@@ -23,17 +23,17 @@ use Rattle.run_theorem.proofs.Demand3.{opened-runs}
 use Rattle.more1090_generator.specs.declared.FlatState.{FlatState}
 use Rattle.more1090_generator.specs.declared.FlatAnswer.{FlatAnswer}
 use Rattle.more1090_generator.specs.States.{flatOf}
-use Rattle.more1090_generator.specs.Answers.{valuesFlat, openedFlat, told, answered, ranFlat, FlatLeft, leftFlat, flatRunLeft, flatRunsLeft}
+use Rattle.more1090_generator.specs.Answers.{valuesFlat, openedFlat, flat_answer, answered, ranFlat, FlatLeft, leftFlat, flatRunLeft, flatRunsLeft}
 use Rattle.more1090_generator.specs.Seen.{FlatSeen, flatSeen, benchAnswer, benchSeen}
 use Rattle.more1090_generator.specs.OpenedCalls.{lastFlat, Demand3InC, OpenedCalls}
 use Rattle.more1090_generator.proofs.StateBack.{state-back}
 
 -- a list of calls in C's numbers is the list of calls, each as C has it
 module _ (modeS modeAC : List Float) where
-  next : Left → List Lent → List FlatLeft
+  next : Left → List CallBuffers → List FlatLeft
   next r ls = leftFlat r ∷ flatRunsLeft (flatOf (r .ran .state)) modeS modeAC (r .memory) ls
 
-  runs-flat : (ls : List Lent) (s : State) (memory : List Float) → flatRunsLeft (flatOf s) modeS modeAC memory ls ≡ map leftFlat (runsLeft s modeS modeAC memory ls)
+  runs-flat : (ls : List CallBuffers) (s : State) (memory : List Float) → flatRunsLeft (flatOf s) modeS modeAC memory ls ≡ map leftFlat (runsLeft s modeS modeAC memory ls)
   unfolding flatRunsLeft runsLeft flatRunLeft leftFlat ranFlat next
   runs-flat [] s memory = refl
   runs-flat (l ∷ ls) s memory =
@@ -48,8 +48,8 @@ last-flat (l ∷ ls) s = last-flat ls (l .ran .state)
 
 -- what is seen of a run call, in C's numbers
 answerFlat : Counts → Numbered → FlatAnswer
-answerFlat n (stopped stop) = told n stop 0 0 0
-answerFlat n (refused ns) = told n 5 (getD ns 0 0) (getD ns 1 0) (getD ns 2 0)
+answerFlat n (stopped stop) = flat_answer n stop 0 0 0
+answerFlat n (refused ns) = flat_answer n 5 (getD ns 0 0) (getD ns 1 0) (getD ns 2 0)
 
 seenFlat : Seen → FlatSeen
 seenFlat v = record { answer = answerFlat (v .counts) (v .answer); output = v .output; records = v .records }
@@ -64,7 +64,7 @@ unfolding flatSeen leftFlat ranFlat seenFlat seenLeft
 same-seen l = λ i. record { answer = same-answer (l .ran .counts) (l .ran .answer) i; output = l .output; records = l .records }
 
 bench-answer : (a : Bench.Answer) → answerFlat (countsOf a) (answerOf a) ≡ benchAnswer a
-unfolding answerFlat told benchAnswer countsOf answerOf
+unfolding answerFlat flat_answer benchAnswer countsOf answerOf
 bench-answer (Bench.refused q) = refl
 bench-answer (Bench.ran taken samples noise records stop) = refl
 
@@ -78,8 +78,8 @@ each f g h e [] = refl
 each f g h e (a ∷ l) = λ i. e a i ∷ each f g h e l i
 
 -- a run's calls in C
-module _ (tapsS tapsAC : List Float) (settings : List ℕ) (given : Opening.Lent) (r : Run) (o : Opens tapsS tapsAC settings given r) where
-  same-calls : (cs : List Lent) → flatRunsLeft (flatOf (r .state)) (r .buffers .modeS) (r .buffers .modeAC) (r .buffers .memory) cs ≡ map leftFlat (calls r cs)
+module _ (tapsS tapsAC : List Float) (settings : List ℕ) (given : Opening.OpenBuffers) (r : Run) (o : Opens tapsS tapsAC settings given r) where
+  same-calls : (cs : List CallBuffers) → flatRunsLeft (flatOf (r .state)) (r .buffers .modeS) (r .buffers .modeAC) (r .buffers .memory) cs ≡ map leftFlat (calls r cs)
   same-calls cs = runs-flat (r .buffers .modeS) (r .buffers .modeAC) cs (r .state) (r .buffers .memory)
 
   in-c : Demand3InC tapsS tapsAC settings given (flatOf (r .state)) r
@@ -109,9 +109,9 @@ refusal-above Refusal.the-variants.Taps e = absurd (omega arith)
 refusal-above Refusal.the-variants.Prototype e = absurd (omega arith)
 refusal-above (Refusal.the-variants.Draw d k) e = absurd (omega arith)
 refusal-above (Refusal.the-variants.Noise p) e = absurd (omega arith)
-refusal-above Refusal.the-variants.Lent e = absurd (omega arith)
+refusal-above Refusal.the-variants.Length e = absurd (omega arith)
 
-opened-as : (tapsS tapsAC : List Float) (settings : List ℕ) (given : Opening.Lent) (o : Opened.Opened) → Opening.openedOf four Opening.half tapsS tapsAC settings given ≡ o → openedFlat o .refusal ≡ 0
+opened-as : (tapsS tapsAC : List Float) (settings : List ℕ) (given : Opening.OpenBuffers) (o : Opened.Opened) → Opening.openedOf four Opening.half tapsS tapsAC settings given ≡ o → openedFlat o .refusal ≡ 0
     → (r : Run) × Demand3InC tapsS tapsAC settings given (openedFlat o .state) r
 unfolding openedFlat
 opened-as tapsS tapsAC settings given (Opened.the-variants.Refused q) e h = absurd (refusal-above q h)

@@ -9,7 +9,7 @@ use Rattle.run_open_checks.specs.declared.Opened as Opened
 use Rattle.run_call.specs.declared.Counts.{Counts}
 use Rattle.run_call.specs.declared.Answer as Answer
 use Rattle.run_call.specs.declared.Ran.{Ran}
-use Rattle.run_call.specs.Buffers.{Left, Lent}
+use Rattle.run_call.specs.Buffers.{Left, CallBuffers}
 use Rattle.run_call.specs.Given.{stopNumber}
 use Rattle.run_call.specs.CallModel.{runLeft}
 use Rattle.more1090_generator.specs.declared.FlatState.{FlatState}
@@ -28,13 +28,13 @@ unfoldable pub openedFlat : Opened.Opened → FlatOpened
 openedFlat (Opened.the-variants.Run s) = record { state = flatOf s; refusal = 0; value = 0 }
 openedFlat (Opened.the-variants.Refused q) = record { state = noState; refusal = numberOf q; value = valuesFlat q .value }
 
-unfoldable pub told : Counts → ℕ → ℕ → ℕ → ℕ → FlatAnswer
-told n stop refusal value field = record { taken = n .taken; samples = n .samples; noise = n .noise; records = n .records; stop = stop; refusal = refusal; value = value; field = field }
+unfoldable pub flat_answer : Counts → ℕ → ℕ → ℕ → ℕ → FlatAnswer
+flat_answer n stop refusal value field = record { taken = n .taken; samples = n .samples; noise = n .noise; records = n .records; stop = stop; refusal = refusal; value = value; field = field }
 
 -- refusal 0 is none; stop 5 is none
 unfoldable pub answered : Counts → Answer.Answer → FlatAnswer
-answered n (Answer.the-variants.Stopped w) = told n (stopNumber w) 0 0 0
-answered n (Answer.the-variants.Refused q) = told n 5 (numberOf q) (valuesFlat q .value) (valuesFlat q .field)
+answered n (Answer.the-variants.Stopped w) = flat_answer n (stopNumber w) 0 0 0
+answered n (Answer.the-variants.Refused q) = flat_answer n 5 (numberOf q) (valuesFlat q .value) (valuesFlat q .field)
 
 unfoldable pub ranFlat : Ran → FlatRan
 ranFlat r = record { state = flatOf (r .state); answer = answered (r .counts) (r .answer) }
@@ -53,7 +53,7 @@ unfoldable pub flatRunLeft : FlatState → List Float → List Float → List Fl
 flatRunLeft f modeS modeAC memory draws noise output records = leftFlat (runLeft (stateFrom f) modeS modeAC memory draws noise output records)
 
 -- what each run call of a list answers and leaves, given state, prototypes and memory as the last call left them
-unfoldable pub flatRunsLeft : FlatState → List Float → List Float → List Float → List Lent → List FlatLeft
+unfoldable pub flatRunsLeft : FlatState → List Float → List Float → List Float → List CallBuffers → List FlatLeft
 flatRunsLeft f modeS modeAC memory [] = []
 flatRunsLeft f modeS modeAC memory (l ∷ ls) =
     let r = flatRunLeft f modeS modeAC memory (l .draws) (l .noise) (l .output) (l .records) in

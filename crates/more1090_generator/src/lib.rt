@@ -311,11 +311,11 @@ fn values_of(q: Refusal) -> Values
             value: draw,
             field: field,
         },
-        Refusal::Noise(place) => Values {
-            value: place,
+        Refusal::Noise(index) => Values {
+            value: index,
             field: 0,
         },
-        Refusal::Lent => Values { value: 0, field: 0 },
+        Refusal::Length => Values { value: 0, field: 0 },
     }
 }
 
@@ -351,8 +351,8 @@ fn stop_number(w: Stop) -> u64
     }
 }
 
-fn told(n: Counts, stop: u64, refusal: u64, value: u64, field: u64) -> FlatAnswer
-    ensures { λ r. ⌜ r ≡ Rattle.more1090_generator.specs.Answers.told n stop refusal value field ⌝ }
+fn flat_answer(n: Counts, stop: u64, refusal: u64, value: u64, field: u64) -> FlatAnswer
+    ensures { λ r. ⌜ r ≡ Rattle.more1090_generator.specs.Answers.flat_answer n stop refusal value field ⌝ }
 {
     FlatAnswer {
         taken: n.taken as u64,
@@ -370,10 +370,10 @@ fn answer_out(n: Counts, answer: Answer) -> FlatAnswer
     ensures { λ r. ⌜ r ≡ answered n answer ⌝ }
 {
     match answer {
-        Answer::Stopped(w) => told(n, stop_number(w), 0, 0, 0),
+        Answer::Stopped(w) => flat_answer(n, stop_number(w), 0, 0, 0),
         Answer::Refused(q) => {
             let v = values_of(q);
-            told(n, 5, refusals::number(q), v.value, v.field)
+            flat_answer(n, 5, refusals::number(q), v.value, v.field)
         }
     }
 }

@@ -34,7 +34,7 @@ pub fn group_delay(level: f32, prototype: &[f32]) -> Crossing
         }
         j = j + 1;
     }
-    Crossing::Nowhere
+    Crossing::None
 }
 
 // The delay of a Mode A/C prototype, whose filterbank runs faster than the Mode S one.
@@ -44,6 +44,6 @@ pub fn mode_ac_group_delay(level: f32, prototype: &[f32]) -> Crossing
     let crossing = group_delay(level, prototype);
     match crossing {
         Crossing::At(delay) => Crossing::At(delay / (1500.0 / 1450.0)),
-        Crossing::Nowhere => Crossing::Nowhere,
+        Crossing::None => Crossing::None,
     }
 }

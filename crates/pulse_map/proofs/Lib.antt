@@ -1,6 +1,6 @@
 pub mod Marked
-pub mod ModeSTurns
-pub mod ModeACTurns
-pub mod ModeSPlaceByPlace
-pub mod ModeACPlaceByPlace
+pub mod ModeSLoop
+pub mod ModeACLoop
+pub mod ModeSPositions
+pub mod ModeACPositions
 pub mod BasePulses

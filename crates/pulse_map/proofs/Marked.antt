@@ -71,9 +71,9 @@ map-from-at ps k (suc n) (suc j) h =
     map-from-at ps (suc k) n j (le-of-suc-le-suc h) ∙ ap (pulseAt ps) (omega arith)
 
 -- in the map of a list a pulse stands at a place exactly where the list has it
-pub place-by-place : (ps : List ℕ) (len k : ℕ) → k < 240 → getD (mapOf ps len .on) k false ≡ pulseAt ps k
+pub position-by-position : (ps : List ℕ) (len k : ℕ) → k < 240 → getD (mapOf ps len .on) k false ≡ pulseAt ps k
 unfolding mapOf
-place-by-place ps len k h = map-from-at ps 0 240 k h ∙ ap (pulseAt ps) (zero-add k)
+position-by-position ps len k h = map-from-at ps 0 240 k h ∙ ap (pulseAt ps) (zero-add k)
 
 marked-at : (ps : List ℕ) (k : ℕ) → k < 240 → getD (mark ps (replicate 240 false)) k false ≡ getD (mapFrom ps 0 240) k false
 marked-at ps k h =

@@ -10,7 +10,7 @@ use Rattle.pulse_map.specs.declared.Pulses.{Pulses}
 use Rattle.pulse_map.specs.Map.{mapOf}
 use Rattle.pulse_map.specs.ModeAC.{modeACLength, onlyIf, modeACPulses}
 
--- as `dataPlaces`, each place from the list
+-- as `dataPositions`, each place from the list
 unfoldable pub baseDataPlaces : ℕ → ℕ → ℕ → List ℕ
 baseDataPlaces d zero n = []
 baseDataPlaces d (suc left) n = onlyIf (bitOf d n) (getD basePlaces n 0) ++ baseDataPlaces d left (suc n)

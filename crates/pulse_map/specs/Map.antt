@@ -21,4 +21,4 @@ mapFrom ps k (suc n) = pulseAt ps k ∷ mapFrom ps (suc k) n
 
 -- the map of a reply: 240 places, of which it takes so many
 unfoldable pub mapOf : List ℕ → ℕ → Pulses
-mapOf ps places = record { on = mapFrom ps 0 240; len = places }
+mapOf ps positions = record { on = mapFrom ps 0 240; len = positions }

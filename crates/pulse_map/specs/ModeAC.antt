@@ -3,7 +3,7 @@ use Prim.Native.Nat.{ℕ, zero, suc}
 use mathlib.Core.Bool.{Bool, true, false}
 use mathlib.Core.List.{List, [], _∷_, _++_}
 use Rattle.mode_ac.specs.Data.{bitOf}
-use Rattle.mode_ac.specs.Places.{placeOf}
+use Rattle.mode_ac.specs.Positions.{positionOf}
 use Rattle.pulse_map.specs.declared.Pulses.{Pulses}
 use Rattle.pulse_map.specs.Map.{mapOf}
 
@@ -17,13 +17,13 @@ onlyIf true p = p ∷ []
 onlyIf false p = []
 
 -- the places of those bits that are set, of so many, from bit n on
-unfoldable pub dataPlaces : ℕ → ℕ → ℕ → List ℕ
-dataPlaces d zero n = []
-dataPlaces d (suc left) n = onlyIf (bitOf d n) (placeOf n) ++ dataPlaces d left (suc n)
+unfoldable pub dataPositions : ℕ → ℕ → ℕ → List ℕ
+dataPositions d zero n = []
+dataPositions d (suc left) n = onlyIf (bitOf d n) (positionOf n) ++ dataPositions d left (suc n)
 
 -- pulses 0, the twelve bits', 42, and 51 for SPI
-unfoldable pub modeACPlaces : ℕ → Bool → List ℕ
-modeACPlaces d spi = 0 ∷ (dataPlaces d 12 0 ++ (42 ∷ onlyIf spi 51))
+unfoldable pub modeACPositions : ℕ → Bool → List ℕ
+modeACPositions d spi = 0 ∷ (dataPositions d 12 0 ++ (42 ∷ onlyIf spi 51))
 
 unfoldable pub modeACPulses : ℕ → Bool → Pulses
-modeACPulses d spi = mapOf (modeACPlaces d spi) (modeACLength spi)
+modeACPulses d spi = mapOf (modeACPositions d spi) (modeACLength spi)

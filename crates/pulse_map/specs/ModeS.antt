@@ -24,18 +24,18 @@ unfoldable pub bitOf : List ℕ → ℕ → ℕ
 bitOf m n = byteBit (getD m (n / 8) 0) (n % 8)
 
 -- the pair of bit n, from place 16 on: its first place for 1, its second for 0
-abbrev pub pairPlace : ℕ → ℕ → ℕ
-pairPlace n zero = 16 + 2 * n + 1
-pairPlace n (suc b) = 16 + 2 * n
+abbrev pub pairPosition : ℕ → ℕ → ℕ
+pairPosition n zero = 16 + 2 * n + 1
+pairPosition n (suc b) = 16 + 2 * n
 
 -- a pulse for each of so many bits, from bit n on
-unfoldable pub bitPlaces : List ℕ → ℕ → ℕ → List ℕ
-bitPlaces m zero n = []
-bitPlaces m (suc left) n = pairPlace n (bitOf m n) ∷ bitPlaces m left (suc n)
+unfoldable pub bitPositions : List ℕ → ℕ → ℕ → List ℕ
+bitPositions m zero n = []
+bitPositions m (suc left) n = pairPosition n (bitOf m n) ∷ bitPositions m left (suc n)
 
 -- pulses 0, 2, 7, 9, then a pair per bit
-unfoldable pub modeSPlaces : List ℕ → Bool → List ℕ
-modeSPlaces m long = 0 ∷ 2 ∷ 7 ∷ 9 ∷ bitPlaces m (modeSBits long) 0
+unfoldable pub modeSPositions : List ℕ → Bool → List ℕ
+modeSPositions m long = 0 ∷ 2 ∷ 7 ∷ 9 ∷ bitPositions m (modeSBits long) 0
 
 unfoldable pub modeSPulses : List ℕ → Bool → Pulses
-modeSPulses m long = mapOf (modeSPlaces m long) (modeSLength long)
+modeSPulses m long = mapOf (modeSPositions m long) (modeSLength long)

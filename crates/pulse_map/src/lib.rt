@@ -51,7 +51,7 @@ pub fn mode_ac_pulses(data: u16, spi: bool) -> Pulses
     let mut n: usize = 0;
     while n < 12 {
         if mode_ac::bit_of(data, n) {
-            on[mode_ac::place_of(n)] = true;
+            on[mode_ac::position_of(n)] = true;
         }
         n += 1;
     }

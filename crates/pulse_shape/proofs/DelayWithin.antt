@@ -19,7 +19,7 @@ use Rattle.float_rounding.proofs.Order.{le-out, zero-le-fin}
 use Rattle.float_rounding.proofs.Val.{Val, val-units, minus-zero, div-val}
 use Rattle.constants.specs.Rate.{four, branches, prototypeLength}
 use Rattle.pulse_shape.specs.declared.Crossing.{Crossing}
-use Rattle.pulse_shape.specs.declared.Crossing.the-variants.{At, Nowhere}
+use Rattle.pulse_shape.specs.declared.Crossing.the-variants.{At, None}
 use Rattle.pulse_shape.specs.Accepted.{within16, allWithin16}
 use Rattle.pulse_shape.specs.GroupDelay.{crosses, delayAt, choose, delayFrom, groupDelay, modeACRatio, over, modeACGroupDelay}
 
@@ -303,7 +303,7 @@ smaller x n q k h l = le-trans (mul-le-mul-right (2 ^ 1074) h) (mul-le-mul-left 
 -- the delay that a Mode A/C delay comes from
 from-ratio : (c : Crossing) (d : Float) → over modeACRatio c ≡ At d → (x : Float) × (c ≡ At x) × (div binary64 x modeACRatio ≡ d)
 from-ratio (At x) d e = (x, refl, cc)
-from-ratio Nowhere d e = let y : _≡_ {A = ℕ} 0 1 = cc in absurd (omega arith)
+from-ratio None d e = let y : _≡_ {A = ℕ} 0 1 = cc in absurd (omega arith)
 
 pub mode-ac-delay-most : (sps : ℕ) (level : Float) (p : List Float) (d : Float) → 0 < sps → sps ≤ 2 ^ 30 → T (fits binary32 level) → T (lt zeroF level) → Held p → allWithin16 p ≡ true → length p ≤ prototypeLength sps → modeACGroupDelay sps level p ≡ At d
     → (n : ℕ) × Units d n × (n ≤ (prototypeLength sps - 1) * 2 ^ 1068)

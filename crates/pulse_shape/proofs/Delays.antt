@@ -6,7 +6,7 @@ use lib.IntN.{pos}
 use lib.Ieee.{Float, binary64, ofBits, ofInt, add, sub, div}
 use Rattle.constants.specs.Rate.{four}
 use Rattle.pulse_shape.specs.declared.Crossing.{Crossing}
-use Rattle.pulse_shape.specs.declared.Crossing.the-variants.{At, Nowhere}
+use Rattle.pulse_shape.specs.declared.Crossing.the-variants.{At, None}
 use Rattle.pulse_shape.specs.GroupDelay.{delayAt, groupDelay, modeACRatio, over, modeACGroupDelay}
 
 sixty-four : ofBits binary64 4634204016564240384 ≡ ofInt binary64 (pos 64)
@@ -33,6 +33,6 @@ pub mode-ac-at : (level : Float) (p : List Float) (d : Float) (c : Crossing) →
 unfolding modeACGroupDelay
 mode-ac-at level p d c e f = ap (λ (x : Float). At (div binary64 d x)) ratio-is ∙ ap (over modeACRatio) (sym f ∙ e)
 
-pub mode-ac-nowhere : (level : Float) (p : List Float) (c : Crossing) → c ≡ groupDelay four level p → c ≡ Nowhere → Nowhere ≡ modeACGroupDelay four level p
+pub mode-ac-none : (level : Float) (p : List Float) (c : Crossing) → c ≡ groupDelay four level p → c ≡ None → None ≡ modeACGroupDelay four level p
 unfolding modeACGroupDelay
-mode-ac-nowhere level p c e f = ap (over modeACRatio) (sym f ∙ e)
+mode-ac-none level p c e f = ap (over modeACRatio) (sym f ∙ e)

@@ -15,9 +15,9 @@ unfoldable pub fillFrom : (ℕ → Float) → ℕ → List Float → ℕ → Lis
 fillFrom f zero t k = t
 fillFrom f (suc n) t k = fillFrom f n (set t k (f k)) (k + 1)
 
-pub fill-turn : (f : ℕ → Float) (e : ℕ) (t : List Float) (k : ℕ) → k < e → fillFrom f (e - k) t k ≡ fillFrom f (e - (k + 1)) (set t k (f k)) (k + 1)
+pub fill-step : (f : ℕ → Float) (e : ℕ) (t : List Float) (k : ℕ) → k < e → fillFrom f (e - k) t k ≡ fillFrom f (e - (k + 1)) (set t k (f k)) (k + 1)
 unfolding fillFrom
-fill-turn f e t k h =
+fill-step f e t k h =
     let n : e - k ≡ suc (e - (k + 1)) = omega arith in
     rw n
 
@@ -46,7 +46,7 @@ fill-first f t = ap (λ (n : ℕ). fillFrom f n t 0) (sub-zero (length t))
 -- a turn of the loop, from what the loop comes to before it
 pub fill-on : (f : ℕ → Float) (e : ℕ) (t : List Float) (k : ℕ) (x : Float) (w : List Float) → k < e → x ≡ f k → fillFrom f (e - k) t k ≡ w
     → fillFrom f (e - (k + 1)) (set t k x) (k + 1) ≡ w
-fill-on f e t k x w h p q = ap (λ (y : Float). fillFrom f (e - (k + 1)) (set t k y) (k + 1)) p ∙ sym (fill-turn f e t k h) ∙ q
+fill-on f e t k x w h p q = ap (λ (y : Float). fillFrom f (e - (k + 1)) (set t k y) (k + 1)) p ∙ sym (fill-step f e t k h) ∙ q
 
 -- the end of the loop, over a list of the same length
 pub fill-done : (f : ℕ → Float) (e : ℕ) (t : List Float) (k : ℕ) (before : List Float) → e ≤ k → length before ≡ e → fillFrom f (e - k) t k ≡ fillFrom f e before 0 → t ≡ values f e

@@ -4,4 +4,4 @@ pub mod Whole
 pub mod Delays
 pub mod Fill
 pub mod Trapezoids
-pub mod Turns
+pub mod LoopSteps

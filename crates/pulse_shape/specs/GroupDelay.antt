@@ -8,7 +8,7 @@ use Rattle.constants.specs.Rate.{branches}
 use Rattle.refusals.specs.declared.Refusal.the-variants.{Prototype}
 use Rattle.refusals.specs.Answer.{Answer, accepted, refused}
 use Rattle.pulse_shape.specs.declared.Crossing.{Crossing}
-use Rattle.pulse_shape.specs.declared.Crossing.the-variants.{At, Nowhere}
+use Rattle.pulse_shape.specs.declared.Crossing.the-variants.{At, None}
 
 -- the level is at or above the first value and below the second
 unfoldable pub crosses : Float → Float → Float → Bool
@@ -25,8 +25,8 @@ choose false a b = b
 
 -- the first pair that the level crosses, the first value standing at place j
 unfoldable pub delayFrom : ℕ → Float → ℕ → List Float → Crossing
-delayFrom sps level j [] = Nowhere
-delayFrom sps level j (a ∷ []) = Nowhere
+delayFrom sps level j [] = None
+delayFrom sps level j (a ∷ []) = None
 delayFrom sps level j (a ∷ b ∷ rest) = choose (crosses level a b) (At (delayAt sps level j a b)) (delayFrom sps level (j + 1) (b ∷ rest))
 
 unfoldable pub groupDelay : ℕ → Float → List Float → Crossing
@@ -38,7 +38,7 @@ modeACRatio = div binary64 (ofInt binary64 (pos 1500)) (ofInt binary64 (pos 1450
 
 abbrev pub over : Float → Crossing → Crossing
 over ratio (At delay) = At (div binary64 delay ratio)
-over ratio Nowhere = Nowhere
+over ratio None = None
 
 -- the delay of a Mode A/C prototype, in samples of the Mode S rate
 unfoldable pub modeACGroupDelay : ℕ → Float → List Float → Crossing
@@ -47,4 +47,4 @@ modeACGroupDelay sps level prototype = over modeACRatio (groupDelay sps level pr
 -- a crossing in the specification's terms: a delay, or, for "no 0.5 crossing", refusal 6
 unfoldable pub crossingAnswer : Crossing → Answer Float
 crossingAnswer (At delay) = accepted delay
-crossingAnswer Nowhere = refused Prototype
+crossingAnswer None = refused Prototype

@@ -122,5 +122,5 @@ pub fn mode_ac_prototype(lowpass: &[f32]) -> [f32; 1792]
 // A crossing of the level, at its delay in samples, or none.
 pub enum Crossing {
     At(f64),
-    Nowhere,
+    None,
 }

@@ -4,14 +4,14 @@ use mathlib.Core.Path.{_≡_, refl, sym, ap, _∙_}
 use mathlib.Core.List.{List, [], _∷_}
 use lib.ListN.{getD}
 use Rattle.refusals.specs.declared.Refusal.{Refusal}
-use Rattle.refusals.specs.declared.Refusal.the-variants.{Duration, Rate, Total, Distribution, Taps, Prototype, Draw, Noise, Lent}
+use Rattle.refusals.specs.declared.Refusal.the-variants.{Duration, Rate, Total, Distribution, Taps, Prototype, Draw, Noise, Length}
 use Rattle.refusals.specs.Number.{numberOf, valuesOf}
 
 -- the refusal with a number, from 1 on, and values
 refusalOf : ℕ → List ℕ → Refusal
 refusalOf n vs =
     getD
-    (Lent
+    (Length
     ∷ Duration
     ∷ Rate (getD vs 0 0)
     ∷ Total
@@ -22,7 +22,7 @@ refusalOf n vs =
     ∷ Noise (getD vs 0 0)
     ∷ [])
     n
-    Lent
+    Length
 
 back : (r : Refusal) → refusalOf (numberOf r) (valuesOf r) ≡ r
 unfolding numberOf valuesOf refusalOf
@@ -34,7 +34,7 @@ back Taps = refl
 back Prototype = refl
 back (Draw d f) = refl
 back (Noise p) = refl
-back Lent = refl
+back Length = refl
 
 pub told-apart : (r s : Refusal) → numberOf r ≡ numberOf s → valuesOf r ≡ valuesOf s → r ≡ s
 told-apart r s n v = sym (back r) ∙ ap (λ (k : ℕ). refusalOf k (valuesOf r)) n ∙ ap (refusalOf (numberOf s)) v ∙ back s

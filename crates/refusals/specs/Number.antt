@@ -2,7 +2,7 @@
 use Prim.Native.Nat.{ℕ}
 use mathlib.Core.List.{List, [], _∷_}
 use Rattle.refusals.specs.declared.Refusal.{Refusal}
-use Rattle.refusals.specs.declared.Refusal.the-variants.{Duration, Rate, Total, Distribution, Taps, Prototype, Draw, Noise, Lent}
+use Rattle.refusals.specs.declared.Refusal.the-variants.{Duration, Rate, Total, Distribution, Taps, Prototype, Draw, Noise, Length}
 
 unfoldable pub numberOf : Refusal → ℕ
 numberOf Duration = 1
@@ -12,8 +12,8 @@ numberOf (Distribution distribution) = 4
 numberOf Taps = 5
 numberOf Prototype = 6
 numberOf (Draw draw field) = 7
-numberOf (Noise place) = 8
-numberOf Lent = 9
+numberOf (Noise index) = 8
+numberOf Length = 9
 
 -- what is returned beside the number: the rate, 0 to 6; the distribution, 0 to 2; the draw and the field; the place
 unfoldable pub valuesOf : Refusal → List ℕ
@@ -24,5 +24,5 @@ valuesOf (Distribution distribution) = distribution ∷ []
 valuesOf Taps = []
 valuesOf Prototype = []
 valuesOf (Draw draw field) = draw ∷ field ∷ []
-valuesOf (Noise place) = place ∷ []
-valuesOf Lent = []
+valuesOf (Noise index) = index ∷ []
+valuesOf Length = []

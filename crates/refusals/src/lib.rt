@@ -20,7 +20,7 @@ pub enum Refusal {
     // The place of the first noise value at fault.
     Noise(u64),
     // The length of something that was lent.
-    Lent,
+    Length,
 }
 
 // The number (SPECIFICATION 3.1).
@@ -36,6 +36,6 @@ pub fn number(r: Refusal) -> u64
         Refusal::Prototype => 6,
         Refusal::Draw(_, _) => 7,
         Refusal::Noise(_) => 8,
-        Refusal::Lent => 9,
+        Refusal::Length => 9,
     }
 }

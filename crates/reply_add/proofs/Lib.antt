@@ -1,3 +1,3 @@
 pub mod Filling
-pub mod LateWave
+pub mod PaddedWave
 pub mod Adding

@@ -13,12 +13,12 @@ use Rattle.message_config.specs.declared.MessageConfig.{MessageConfig}
 use Rattle.message_config.specs.Config.{configClockPhase, configClockError, configRate, configPhase}
 use Rattle.filterbank.specs.declared.Clock.{Clock}
 use Rattle.filterbank.specs.Taps.{filterTaps}
-use Rattle.filterbank.specs.PaddedPulsesModel.{lateSum}
+use Rattle.filterbank.specs.PaddedPulsesModel.{paddedSum}
 use Rattle.filterbank.specs.Clocked.{stepOf, startClock}
 use Rattle.filterbank.specs.Apply.{clockValues, limitOf, fuelOf}
 use Rattle.reply_samples.specs.declared.Sample.{Sample}
 use Rattle.reply_add.specs.declared.Wave.{Wave}
-use Rattle.reply_samples.specs.Samples.{turned}
+use Rattle.reply_samples.specs.Samples.{rotated}
 use Rattle.reply_samples.specs.RingModel.{addedReply, addedCount}
 
 unfoldable pub isModeAC : ReplyKind → Bool
@@ -27,12 +27,12 @@ isModeAC Long = false
 isModeAC ModeAc = true
 
 -- the filterbank's value at a clock, over pulses laid late
-unfoldable pub lateValue : List Float → List Bool → Clock → Float
-lateValue prototype laid clock = lateSum (filterTaps four prototype (clock .phase)) laid (clock .index)
+unfoldable pub paddedValue : List Float → List Bool → Clock → Float
+paddedValue prototype padded clock = paddedSum (filterTaps four prototype (clock .phase)) padded (clock .index)
 
 -- the filterbank's values from a clock on, over pulses laid late
-abbrev pub lateValues : List Float → List Bool → ℕ → Float → Clock → List Float
-lateValues prototype laid limit step first = clockValues (fuelOf four limit) limit step (lateValue prototype laid) first
+abbrev pub paddedValues : List Float → List Bool → ℕ → Float → Clock → List Float
+paddedValues prototype padded limit step first = clockValues (fuelOf four limit) limit step (paddedValue prototype padded) first
 
 -- the wave of a message whose reply has so many places
 unfoldable pub waveOf : MessageConfig → Float → Delays → ℕ → Wave
@@ -47,8 +47,8 @@ waveOf c amplitude delays len =
     }
 
 unfoldable pub waveSamples : List Float → List Bool → Wave → List Sample
-waveSamples prototype laid w = turned (w .amplitude) (w .rate) (w .phase) (lateValues prototype laid (w .limit) (w .step) (w .clock))
+waveSamples prototype padded w = rotated (w .amplitude) (w .rate) (w .phase) (paddedValues prototype padded (w .limit) (w .step) (w .clock))
 
 -- samples added into memory from a place on, and their number answered
 abbrev pub Adds : List Float → ℕ → List Sample → List Float → ℕ → Type 0
-Adds m place zs m′ r = (m′ ≡ addedReply four m place zs) × (r ≡ addedCount four m place (length zs))
+Adds m slot zs m′ r = (m′ ≡ addedReply four m slot zs) × (r ≡ addedCount four m slot (length zs))

@@ -7,7 +7,7 @@ ghost use Rattle.constants.specs.Rate.{four};
 ghost use Rattle.filterbank.specs.Apply.{limitOf};
 ghost use Rattle.reply_samples.specs.Samples.{samplesBy, replyCount, replySamples};
 ghost use Rattle.reply_samples.specs.RingModel.{addedReply, addedCount};
-ghost use Rattle.reply_add.specs.AddModel.{isModeAC, lateValue, lateValues, waveOf, waveSamples, Adds};
+ghost use Rattle.reply_add.specs.AddModel.{isModeAC, paddedValue, paddedValues, waveOf, waveSamples, Adds};
 use filterbank::Clock;
 use message::ReplyKind;
 use message_config::Delays;
@@ -22,12 +22,12 @@ fn limit_of(len: usize) -> usize
 }
 
 // The filterbank's value at a clock.
-fn value_at(prototype: &[f32], laid: &[bool; 252], clock: Clock) -> f32
-    ensures { λ r. ⌜ r ≡ lateValue (now (prototype .entry)) (now (laid .entry)) clock ⌝ }
+fn value_at(prototype: &[f32], padded: &[bool; 252], clock: Clock) -> f32
+    ensures { λ r. ⌜ r ≡ paddedValue (now (prototype .entry)) (now (padded .entry)) clock ⌝ }
 {
     filterbank_apply::pulse_sum(
         filterbank::filter_taps(prototype, clock.phase),
-        laid,
+        padded,
         clock.index,
     )
 }
@@ -60,14 +60,14 @@ fn wave_of(c: MessageConfig, amplitude: f32, delays: Delays, len: usize) -> Wave
 // Writes the filterbank's values from a clock on, up to a limit of indices, and answers how many they are.
 fn fill_values(
     prototype: &[f32],
-    laid: &[bool; 252],
+    padded: &[bool; 252],
     first: Clock,
     step: f64,
     limit: usize,
     values: &mut [f32],
 ) -> usize
     requires { ⌜ (length (now values) ≡ 1968) × (limit ≤ 246) ⌝ }
-    ensures { λ r. ⌜ (take r (now (values .exit)) ≡ lateValues (now (prototype .entry)) (now (laid .entry)) limit step first) × (r ≤ 1968) × (length (now (values .exit)) ≡ 1968) ⌝ }
+    ensures { λ r. ⌜ (take r (now (values .exit)) ≡ paddedValues (now (prototype .entry)) (now (padded .entry)) limit step first) × (r ≤ 1968) × (length (now (values .exit)) ≡ 1968) ⌝ }
 {
     let fuel = 8 * limit;
     let mut clock = first;
@@ -76,7 +76,7 @@ fn fill_values(
         if clock.index >= limit {
             return n;
         }
-        values[n] = value_at(prototype, laid, clock);
+        values[n] = value_at(prototype, padded, clock);
         clock = filterbank_apply::advance(clock, step);
         n = n + 1;
     }
@@ -84,20 +84,19 @@ fn fill_values(
 }
 
 // Adds the samples of a wave from a place on, and answers how many they are. The values come first, in a loop of their own: the processor works on more samples at once than where each one's value and sine wait for each other.
-fn add_wave(prototype: &[f32], laid: &[bool; 252], w: Wave, memory: &mut [f32], place: usize) -> u16
+fn add_wave(
+    prototype: &[f32],
+    padded: &[bool; 252],
+    w: Wave,
+    memory: &mut [f32],
+    slot: usize,
+) -> u16
     requires { ⌜ w .limit ≤ 246 ⌝ }
-    ensures { λ r. ⌜ Adds (now (memory .entry)) place (waveSamples (now (prototype .entry)) (now (laid .entry)) w) (now (memory .exit)) r ⌝ }
+    ensures { λ r. ⌜ Adds (now (memory .entry)) slot (waveSamples (now (prototype .entry)) (now (padded .entry)) w) (now (memory .exit)) r ⌝ }
 {
     let mut values = [0.0; 1968];
-    let count = fill_values(prototype, laid, w.clock, w.step, w.limit, &mut values);
-    reply_samples::add_turned(
-        &values[..count],
-        w.amplitude,
-        w.rate,
-        w.phase,
-        memory,
-        place,
-    ) as u16
+    let count = fill_values(prototype, padded, w.clock, w.step, w.limit, &mut values);
+    reply_samples::add_rotated(&values[..count], w.amplitude, w.rate, w.phase, memory, slot) as u16
 }
 
 // Adds the samples of a reply by a prototype.
@@ -107,16 +106,16 @@ fn add_by(
     amplitude: f32,
     delays: Delays,
     memory: &mut [f32],
-    place: usize,
+    slot: usize,
 ) -> u16
-    ensures { λ r. ⌜ Adds (now (memory .entry)) place (samplesBy four (now (prototype .entry)) delays amplitude c) (now (memory .exit)) r ⌝ }
+    ensures { λ r. ⌜ Adds (now (memory .entry)) slot (samplesBy four (now (prototype .entry)) delays amplitude c) (now (memory .exit)) r ⌝ }
 {
     let reply = c.reply;
     let p = reply_pulses::message_to_pulses(reply);
     let on = p.on;
-    let laid = filterbank_apply::lay_late(on, p.len);
+    let padded = filterbank_apply::pad_pulses(on, p.len);
     let w = wave_of(c, amplitude, delays, p.len);
-    add_wave(prototype, &laid, w, memory, place)
+    add_wave(prototype, &padded, w, memory, slot)
 }
 
 fn is_mode_ac(kind: ReplyKind) -> bool
@@ -137,14 +136,14 @@ pub fn add_reply(
     amplitude: f32,
     delays: Delays,
     memory: &mut [f32],
-    place: usize,
+    slot: usize,
 ) -> u16
-    ensures { λ r. ⌜ (now (memory .exit) ≡ addedReply four (now (memory .entry)) place (replySamples four (now («mode_s» .entry)) (now («mode_ac» .entry)) delays amplitude c)) × (r ≡ addedCount four (now (memory .entry)) place (replyCount four delays c)) ⌝ }
+    ensures { λ r. ⌜ (now (memory .exit) ≡ addedReply four (now (memory .entry)) slot (replySamples four (now («mode_s» .entry)) (now («mode_ac» .entry)) delays amplitude c)) × (r ≡ addedCount four (now (memory .entry)) slot (replyCount four delays c)) ⌝ }
 {
     let reply = c.reply;
     let kind = reply.kind;
     if is_mode_ac(kind) {
-        return add_by(mode_ac, c, amplitude, delays, memory, place);
+        return add_by(mode_ac, c, amplitude, delays, memory, slot);
     }
-    add_by(mode_s, c, amplitude, delays, memory, place)
+    add_by(mode_s, c, amplitude, delays, memory, slot)
 }

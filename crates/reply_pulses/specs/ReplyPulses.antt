@@ -28,8 +28,8 @@ unfoldable pub pulsesOf : Reply → Pulses
 pulsesOf r = pulsesOfKind (r .kind) (r .bytes)
 
 -- the places that a reply takes, and whether a pulse stands at each
-unfoldable pub placesOf : Reply → List Bool
-placesOf r = take (pulsesOf r .len) (pulsesOf r .on)
+unfoldable pub positionsOf : Reply → List Bool
+positionsOf r = take (pulsesOf r .len) (pulsesOf r .on)
 
 -- `message_num_samples`: the samples that a reply lasts at the nominal clock rate
 abbrev pub numSamplesOfKind : ℕ → ReplyKind → List ℕ → ℕ

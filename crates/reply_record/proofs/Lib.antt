@@ -1,3 +1,3 @@
-pub mod Laid
+pub mod Overwritten
 pub mod RecordLength
 pub mod Joined

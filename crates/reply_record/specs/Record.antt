@@ -3,7 +3,7 @@ use Prim.Native.Nat.{ℕ}
 use mathlib.Core.Bool.{cond}
 use mathlib.Core.List.{List, [], _∷_, _++_}
 use lib.Ieee.{Float, binary64, toBits}
-use Rattle.le_read.specs.LeBytes.{bytesOf, inside, laid}
+use Rattle.le_read.specs.LeBytes.{bytesOf, inside, overwritten}
 use Rattle.message.specs.declared.Reply.{Reply}
 use Rattle.message.specs.declared.ReplyKind.{ReplyKind}
 use Rattle.message.specs.declared.ReplyKind.the-variants.{Short, Long, ModeAc}
@@ -36,4 +36,4 @@ recordBytes c first type count = floatBytes c ++ otherBytes (c .reply) first typ
 
 -- s with a record written from at; s itself where it would run past the end
 unfoldable pub recordAt : List ℕ → ℕ → List ℕ → List ℕ
-recordAt s at record′ = cond (inside recordLength s at) (laid s at record′) s
+recordAt s at record′ = cond (inside recordLength s at) (overwritten s at record′) s

@@ -3,7 +3,7 @@ ghost use mathlib.Core.Path.{_≡_};
 ghost use mathlib.Core.List.{[], _∷_};
 ghost use Prim.Native.Nat.{_+_, _≤_, _<_};
 ghost use lib.ListN.{length};
-ghost use Rattle.le_read.specs.LeBytes.{inside, laid};
+ghost use Rattle.le_read.specs.LeBytes.{inside, overwritten};
 ghost use Rattle.reply_record.specs.Record.{recordLength, messageLength, floatBytes, otherBytes, recordBytes, recordAt};
 use message::Reply;
 use message::ReplyKind;
@@ -21,14 +21,14 @@ fn message_length(kind: ReplyKind) -> u8
 
 fn put_u8(d: &mut [u8], at: usize, v: u8)
     requires { ⌜ at < length (now d) ⌝ }
-    ensures { λ _. ⌜ now (d .exit) ≡ laid (now (d .entry)) at (v ∷ []) ⌝ }
+    ensures { λ _. ⌜ now (d .exit) ≡ overwritten (now (d .entry)) at (v ∷ []) ⌝ }
 {
     d[at] = v;
 }
 
 fn put_bytes(d: &mut [u8], at: usize, b: [u8; 14])
     requires { ⌜ at + 14 ≤ length (now d) ⌝ }
-    ensures { λ _. ⌜ now (d .exit) ≡ laid (now (d .entry)) at b ⌝ }
+    ensures { λ _. ⌜ now (d .exit) ≡ overwritten (now (d .entry)) at b ⌝ }
 {
     let mut k: usize = 0;
     while k < 14 {
@@ -39,7 +39,7 @@ fn put_bytes(d: &mut [u8], at: usize, b: [u8; 14])
 
 fn put_floats(d: &mut [u8], at: usize, c: MessageConfig)
     requires { ⌜ at + 40 ≤ length (now d) ⌝ }
-    ensures { λ _. ⌜ now (d .exit) ≡ laid (now (d .entry)) at (floatBytes c) ⌝ }
+    ensures { λ _. ⌜ now (d .exit) ≡ overwritten (now (d .entry)) at (floatBytes c) ⌝ }
 {
     le_write::put_f64(d, at, c.time);
     le_write::put_f64(d, at + 8, c.cn0);
@@ -50,7 +50,7 @@ fn put_floats(d: &mut [u8], at: usize, c: MessageConfig)
 
 fn put_others(d: &mut [u8], at: usize, reply: Reply, first: u64, kind: u8, count: u16)
     requires { ⌜ at + 26 ≤ length (now d) ⌝ }
-    ensures { λ _. ⌜ now (d .exit) ≡ laid (now (d .entry)) at (otherBytes reply first kind count) ⌝ }
+    ensures { λ _. ⌜ now (d .exit) ≡ overwritten (now (d .entry)) at (otherBytes reply first kind count) ⌝ }
 {
     let sent = reply.kind;
     let bytes = reply.bytes;

@@ -11,10 +11,10 @@ use lib.Dec.{ltb, lit≤}
 use lib.ListN.{length}
 use lib.Ieee.{Float}
 use Rattle.constants.specs.Rate.{four}
-use Rattle.filterbank.proofs.Laid.{le-or-lt}
+use Rattle.filterbank.proofs.Padded.{le-or-lt}
 use Rattle.reply_samples.specs.declared.Sample.{Sample}
-use Rattle.reply_samples.specs.RingModel.{ringPlaces, addedAt, nextPlace, addedFrom, isPlace, addedReply}
-use Rattle.reply_samples.proofs.Turns.{added-length}
+use Rattle.reply_samples.specs.RingModel.{ringSlots, addedAt, nextSlot, addedFrom, isSlot, addedReply}
+use Rattle.reply_samples.proofs.LoopSteps.{added-length}
 
 -- among W places the next is one more, and 0 after the last
 step : (W s : ℕ) → 0 < W → cond (ltb (s % W) (W - 1)) (s % W + 1) 0 ≡ (s + 1) % W
@@ -29,22 +29,22 @@ step W s h = elim (le-or-lt (W - 1) (s % W)) [
     inside : (W r : ℕ) → r < W - 1 → r + 1 < W
     inside W r l = omega arith
 
-pub next-ring : (sps s : ℕ) → 0 < ringPlaces sps → nextPlace sps (s % ringPlaces sps) ≡ (s + 1) % ringPlaces sps
-unfolding nextPlace
-next-ring sps s h = step (ringPlaces sps) s h
+pub next-ring : (sps s : ℕ) → 0 < ringSlots sps → nextSlot sps (s % ringSlots sps) ≡ (s + 1) % ringSlots sps
+unfolding nextSlot
+next-ring sps s h = step (ringSlots sps) s h
 
-pub next-at-four : (s : ℕ) → nextPlace four (s % 1126) ≡ (s + 1) % 1126
+pub next-at-four : (s : ℕ) → nextSlot four (s % 1126) ≡ (s + 1) % 1126
 next-at-four s = next-ring four s (lit≤ tt)
 
-pub length-kept : (sps : ℕ) (m : List Float) (place : ℕ) (zs : List Sample) → length (addedFrom sps m place zs) ≡ length m
+pub length-kept : (sps : ℕ) (m : List Float) (slot : ℕ) (zs : List Sample) → length (addedFrom sps m slot zs) ≡ length m
 unfolding addedFrom
-length-kept sps m place [] = refl
-length-kept sps m place (z ∷ zs) = length-kept sps (addedAt m place z) (nextPlace sps place) zs ∙ added-length m place z
+length-kept sps m slot [] = refl
+length-kept sps m slot (z ∷ zs) = length-kept sps (addedAt m slot z) (nextSlot sps slot) zs ∙ added-length m slot z
 
-pub reply-length-kept : (sps : ℕ) (m : List Float) (place : ℕ) (zs : List Sample) → length (addedReply sps m place zs) ≡ length m
+pub reply-length-kept : (sps : ℕ) (m : List Float) (slot : ℕ) (zs : List Sample) → length (addedReply sps m slot zs) ≡ length m
 unfolding addedReply
-reply-length-kept sps m place zs = go (isPlace sps m place)
+reply-length-kept sps m slot zs = go (isSlot sps m slot)
   where
-    go : (b : Bool) → length (cond b (addedFrom sps m place zs) m) ≡ length m
-    go true = length-kept sps m place zs
+    go : (b : Bool) → length (cond b (addedFrom sps m slot zs) m) ≡ length m
+    go true = length-kept sps m slot zs
     go false = refl

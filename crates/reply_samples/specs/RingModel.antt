@@ -9,31 +9,31 @@ use Rattle.constants.specs.Rate.{replyLimit, holdBack, workingMemory}
 use Rattle.reply_samples.specs.declared.Sample.{Sample}
 
 -- the places of the ring: 1,126
-abbrev pub ringPlaces : ℕ → ℕ
-ringPlaces sps = replyLimit sps + holdBack sps
+abbrev pub ringSlots : ℕ → ℕ
+ringSlots sps = replyLimit sps + holdBack sps
 
 -- a sample added at a place
 unfoldable pub addedAt : List Float → ℕ → Sample → List Float
-addedAt memory place z =
-    set (set memory (2 * place) (add binary32 (getD memory (2 * place) nan) (z .re))) (2 * place + 1) (add binary32 (getD memory (2 * place + 1) nan) (z .im))
+addedAt memory slot z =
+    set (set memory (2 * slot) (add binary32 (getD memory (2 * slot) nan) (z .re))) (2 * slot + 1) (add binary32 (getD memory (2 * slot + 1) nan) (z .im))
 
 -- the place after the last is the first
-unfoldable pub nextPlace : ℕ → ℕ → ℕ
-nextPlace sps place = cond (ltb place (ringPlaces sps - 1)) (place + 1) 0
+unfoldable pub nextSlot : ℕ → ℕ → ℕ
+nextSlot sps slot = cond (ltb slot (ringSlots sps - 1)) (slot + 1) 0
 
 -- samples added one after the other, from a place on
 unfoldable pub addedFrom : ℕ → List Float → ℕ → List Sample → List Float
-addedFrom sps memory place [] = memory
-addedFrom sps memory place (z ∷ zs) = addedFrom sps (addedAt memory place z) (nextPlace sps place) zs
+addedFrom sps memory slot [] = memory
+addedFrom sps memory slot (z ∷ zs) = addedFrom sps (addedAt memory slot z) (nextSlot sps slot) zs
 
 -- the memory has the length of working memory, and the place is one of its ring. A run refuses other memory, and names no other place
-unfoldable pub isPlace : ℕ → List Float → ℕ → Bool
-isPlace sps memory place = eqb (length memory) (workingMemory sps) && ltb place (ringPlaces sps)
+unfoldable pub isSlot : ℕ → List Float → ℕ → Bool
+isSlot sps memory slot = eqb (length memory) (workingMemory sps) && ltb slot (ringSlots sps)
 
 -- what a call leaves in memory, given a reply's samples: at what is no place, nothing is added
 unfoldable pub addedReply : ℕ → List Float → ℕ → List Sample → List Float
-addedReply sps memory place zs = cond (isPlace sps memory place) (addedFrom sps memory place zs) memory
+addedReply sps memory slot zs = cond (isSlot sps memory slot) (addedFrom sps memory slot zs) memory
 
 -- what it answers, given their number: at what is no place, 0
 unfoldable pub addedCount : ℕ → List Float → ℕ → ℕ → ℕ
-addedCount sps memory place n = cond (isPlace sps memory place) n 0
+addedCount sps memory slot n = cond (isSlot sps memory slot) n 0

@@ -13,7 +13,7 @@ use Rattle.message_config.specs.declared.MessageConfig.{MessageConfig}
 use Rattle.message_config.specs.Config.{configClockPhase, configClockError, configRate, configPhase}
 use Rattle.filterbank.specs.Apply.{applyFilterbank, sampleCount}
 use Rattle.reply_samples.specs.declared.Sample.{Sample}
-use Rattle.reply_pulses.specs.ReplyPulses.{placesOf}
+use Rattle.reply_pulses.specs.ReplyPulses.{positionsOf}
 
 -- a value of the filterbank times the amplitude, and that times the cosine and the sine of a phase, each narrowed to f32
 unfoldable pub sampleAt : Float → Float → Float → Sample
@@ -22,14 +22,14 @@ sampleAt amplitude value phase =
     record { re = mul binary32 x (narrow (sinCos phase .cos)); im = mul binary32 x (narrow (sinCos phase .sin)) }
 
 -- the values in order, the phase going on by the rate and wrapped once after each
-unfoldable pub turned : Float → Float → Float → List Float → List Sample
-turned amplitude rate phase [] = []
-turned amplitude rate phase (v ∷ vs) = sampleAt amplitude v phase ∷ turned amplitude rate (phaseWrapOnce (add binary64 phase rate)) vs
+unfoldable pub rotated : Float → Float → Float → List Float → List Sample
+rotated amplitude rate phase [] = []
+rotated amplitude rate phase (v ∷ vs) = sampleAt amplitude v phase ∷ rotated amplitude rate (phaseWrapOnce (add binary64 phase rate)) vs
 
 -- the samples of a reply by a prototype, given the delays and the draw's amplitude
 unfoldable pub samplesBy : ℕ → List Float → Delays → Float → MessageConfig → List Sample
 samplesBy sps prototype delays amplitude c =
-    turned amplitude (configRate sps c) (configPhase sps delays c) (applyFilterbank sps prototype (placesOf (c .reply)) (configClockPhase delays c) (configClockError c))
+    rotated amplitude (configRate sps c) (configPhase sps delays c) (applyFilterbank sps prototype (positionsOf (c .reply)) (configClockPhase delays c) (configClockError c))
 
 -- each kind of reply has its prototype
 unfoldable pub prototypeOf : ReplyKind → List Float → List Float → List Float
@@ -43,4 +43,4 @@ replySamples sps modeS modeAC delays amplitude c = samplesBy sps (prototypeOf (c
 
 -- how many they are: the count of a reply (SPECIFICATION 6.8)
 unfoldable pub replyCount : ℕ → Delays → MessageConfig → ℕ
-replyCount sps delays c = sampleCount sps (length (placesOf (c .reply))) (configClockPhase delays c) (configClockError c)
+replyCount sps delays c = sampleCount sps (length (positionsOf (c .reply))) (configClockPhase delays c) (configClockError c)

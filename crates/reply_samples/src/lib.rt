@@ -5,8 +5,8 @@ ghost use Prim.Native.Nat.{_≤_, _<_};
 ghost use lib.ListN.{length, getD, set};
 ghost use lib.Ieee.{binary32, nan, add};
 ghost use Rattle.constants.specs.Rate.{four};
-ghost use Rattle.reply_samples.specs.Samples.{sampleAt, turned};
-ghost use Rattle.reply_samples.specs.RingModel.{addedAt, nextPlace, addedFrom, addedReply, addedCount};
+ghost use Rattle.reply_samples.specs.Samples.{sampleAt, rotated};
+ghost use Rattle.reply_samples.specs.RingModel.{addedAt, nextSlot, addedFrom, addedReply, addedCount};
 
 // A complex sample.
 pub struct Sample {
@@ -35,61 +35,61 @@ fn add_to(memory: &mut [f32], i: usize, x: f32)
 }
 
 // Adds a sample at a place of the memory.
-fn add_at(memory: &mut [f32], place: usize, z: Sample)
-    requires { ⌜ (length (now memory) ≡ 2252) × (place < 1126) ⌝ }
-    ensures { λ r. ⌜ (now (memory .exit) ≡ addedAt (now (memory .entry)) place z) × (length (now (memory .exit)) ≡ 2252) ⌝ }
+fn add_at(memory: &mut [f32], slot: usize, z: Sample)
+    requires { ⌜ (length (now memory) ≡ 2252) × (slot < 1126) ⌝ }
+    ensures { λ r. ⌜ (now (memory .exit) ≡ addedAt (now (memory .entry)) slot z) × (length (now (memory .exit)) ≡ 2252) ⌝ }
 {
-    let i = 2 * place;
+    let i = 2 * slot;
     add_to(memory, i, z.re);
     add_to(memory, i + 1, z.im);
 }
 
 // The place after a place of the ring.
-fn next_place(place: usize) -> usize
-    ensures { λ r. ⌜ (r ≡ nextPlace four place) × (r < 1126) ⌝ }
+fn next_slot(slot: usize) -> usize
+    ensures { λ r. ⌜ (r ≡ nextSlot four slot) × (r < 1126) ⌝ }
 {
-    if place < 1125 {
-        return place + 1;
+    if slot < 1125 {
+        return slot + 1;
     }
     0
 }
 
 // Adds values, turned by the carrier, from a place on.
-fn add_from(values: &[f32], amplitude: f32, rate: f64, first: f64, memory: &mut [f32], place: usize)
-    requires { ⌜ (length (now memory) ≡ 2252) × (place < 1126) ⌝ }
-    ensures { λ _. ⌜ now (memory .exit) ≡ addedFrom four (now (memory .entry)) place (turned amplitude rate first (now (values .entry))) ⌝ }
+fn add_from(values: &[f32], amplitude: f32, rate: f64, first: f64, memory: &mut [f32], slot: usize)
+    requires { ⌜ (length (now memory) ≡ 2252) × (slot < 1126) ⌝ }
+    ensures { λ _. ⌜ now (memory .exit) ≡ addedFrom four (now (memory .entry)) slot (rotated amplitude rate first (now (values .entry))) ⌝ }
 {
     let count = values.len();
     let mut phase = first;
-    let mut at = place;
+    let mut at = slot;
     let mut i: usize = 0;
     while i < count {
         let next = math::phase_wrap_once_f64(phase + rate);
         let z = sample_at(amplitude, values[i], phase);
         add_at(memory, at, z);
         phase = next;
-        at = next_place(at);
+        at = next_slot(at);
         i = i + 1;
     }
 }
 
 // Adds values of the filterbank, times the amplitude and turned by the carrier, into working memory from a place on, and answers how many they are.
-pub fn add_turned(
+pub fn add_rotated(
     values: &[f32],
     amplitude: f32,
     rate: f64,
     phase: f64,
     memory: &mut [f32],
-    place: usize,
+    slot: usize,
 ) -> usize
-    ensures { λ r. ⌜ (now (memory .exit) ≡ addedReply four (now (memory .entry)) place (turned amplitude rate phase (now (values .entry)))) × (r ≡ addedCount four (now (memory .entry)) place (length (now (values .entry)))) × (r ≤ length (now (values .entry))) ⌝ }
+    ensures { λ r. ⌜ (now (memory .exit) ≡ addedReply four (now (memory .entry)) slot (rotated amplitude rate phase (now (values .entry)))) × (r ≡ addedCount four (now (memory .entry)) slot (length (now (values .entry)))) × (r ≤ length (now (values .entry))) ⌝ }
 {
     if memory.len() != 2252 {
         return 0;
     }
-    if place >= 1126 {
+    if slot >= 1126 {
         return 0;
     }
-    add_from(values, amplitude, rate, phase, memory, place);
+    add_from(values, amplitude, rate, phase, memory, slot);
     values.len()
 }

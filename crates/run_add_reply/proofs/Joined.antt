@@ -13,11 +13,11 @@ use Rattle.draw.specs.Draw.{picksAt, drawAt}
 use Rattle.draw_config.specs.Pending.{completedBy}
 use Rattle.reply_record.specs.Record.{recordBytes, recordAt}
 use Rattle.reply_samples.specs.Samples.{replySamples, replyCount}
-use Rattle.reply_samples.specs.RingModel.{ringPlaces, addedReply, addedCount}
+use Rattle.reply_samples.specs.RingModel.{ringSlots, addedReply, addedCount}
 use Rattle.run_add_reply.specs.RecordedModel.{messageAt, memoryWith, recordsWith}
 
 module _ (pending : MessageConfig) (delays : Delays) (first : ℕ) (rest : List ℕ) (place kind : ℕ) (amplitude : Float) (p : Picks) (c : MessageConfig)
-    (here : place ≡ first % ringPlaces four) (type : kind ≡ getD rest 8 0) (loudness : amplitude ≡ ofBits binary32 (numberAt 4 rest 17)) (picks : p ≡ picksAt rest) (made : c ≡ completedBy pending kind p) where
+    (here : place ≡ first % ringSlots four) (type : kind ≡ getD rest 8 0) (loudness : amplitude ≡ ofBits binary32 (numberAt 4 rest 17)) (picks : p ≡ picksAt rest) (made : c ≡ completedBy pending kind p) where
   message : c ≡ messageAt pending delays first rest
   unfolding drawAt
   message = made ∙ (λ i. completedBy pending (type i) (picks i))

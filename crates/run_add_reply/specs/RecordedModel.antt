@@ -9,7 +9,7 @@ use Rattle.draw.specs.Draw.{drawAt}
 use Rattle.draw_config.specs.Pending.{completedBy}
 use Rattle.reply_record.specs.Record.{recordBytes, recordAt}
 use Rattle.reply_samples.specs.Samples.{replySamples, replyCount}
-use Rattle.reply_samples.specs.RingModel.{ringPlaces, addedReply, addedCount}
+use Rattle.reply_samples.specs.RingModel.{ringSlots, addedReply, addedCount}
 
 -- the message but for its reply's bytes, its first sample, and the bytes that begin with its draw
 module _ (pending : MessageConfig) (delays : Delays) (first : ℕ) (rest : List ℕ) where
@@ -18,8 +18,8 @@ module _ (pending : MessageConfig) (delays : Delays) (first : ℕ) (rest : List 
 
   -- its samples are added from the place of its first sample on
   unfoldable pub memoryWith : List Float → List Float → List Float → List Float
-  memoryWith modeS modeAC memory = addedReply four memory (first % ringPlaces four) (replySamples four modeS modeAC delays (drawAt rest .amplitude) messageAt)
+  memoryWith modeS modeAC memory = addedReply four memory (first % ringSlots four) (replySamples four modeS modeAC delays (drawAt rest .amplitude) messageAt)
 
   -- its record is written from a place on, with the count of the samples added
   unfoldable pub recordsWith : List Float → ℕ → List ℕ → List ℕ
-  recordsWith memory at records = recordAt records at (recordBytes messageAt first (drawAt rest .kind) (addedCount four memory (first % ringPlaces four) (replyCount four delays messageAt)))
+  recordsWith memory at records = recordAt records at (recordBytes messageAt first (drawAt rest .kind) (addedCount four memory (first % ringSlots four) (replyCount four delays messageAt)))

@@ -2,14 +2,14 @@
 ghost use mathlib.Core.Path.{_≡_};
 ghost use Prim.Native.Nat.{_%_};
 ghost use Rattle.constants.specs.Rate.{four};
-ghost use Rattle.reply_samples.specs.RingModel.{ringPlaces};
+ghost use Rattle.reply_samples.specs.RingModel.{ringSlots};
 ghost use Rattle.run_add_reply.specs.RecordedModel.{memoryWith, recordsWith};
 use message_config::Delays;
 use message_config::MessageConfig;
 
 // The place of a sample in working memory.
 fn ring(n: u64) -> usize
-    ensures { λ r. ⌜ r ≡ n % ringPlaces four ⌝ }
+    ensures { λ r. ⌜ r ≡ n % ringSlots four ⌝ }
 {
     (n % 1126) as usize
 }

@@ -3,6 +3,6 @@ pub mod Writing
 pub mod Said
 pub mod Going
 pub mod Refusing
-pub mod RunIsTheTheorys
+pub mod RunIsTheModels
 pub mod MemoryKept
-pub mod RunsAreTheTheorys
+pub mod RunsAreTheModels

@@ -8,12 +8,12 @@ use lib.ListN.{length}
 use lib.Ieee.{Float}
 use Rattle.run_theory.specs.Generator.{Generator}
 use Rattle.run_theory.specs.PlainBench as Bench
-use Rattle.draw.specs.declared.Fault as Fault
+use Rattle.draw.specs.declared.DrawFault as DrawFault
 use Rattle.refusals.specs.declared.Refusal as Refusal
-use Rattle.run_generator.specs.Real.{loud}
+use Rattle.run_generator.specs.Instance.{outOfRange}
 use Rattle.run_call.specs.declared.State.{State}
-use Rattle.run_call_checks.specs.declared.Loud as Loud
-use Rattle.run_call_checks.specs.NoiseModel.{loudFrom, loudRead}
+use Rattle.run_call_checks.specs.declared.NoiseFault as NoiseFault
+use Rattle.run_call_checks.specs.NoiseModel.{outOfRangeFrom, noiseFaultRead}
 use Rattle.run_call.specs.declared.Ran.{Ran}
 use Rattle.run_call.specs.StateGenerator.{genOf}
 use Rattle.run_call.specs.Buffers.{Left}
@@ -39,10 +39,10 @@ module _ (s : State) (modeS modeAC memory : List Float) (draws : List ℕ) (nois
   G = genOf s modeS modeAC
 
   -- ---- noise of the theory
-  loud-same : (vs : List Float) (k : ℕ) → loudFrom k vs ≡ Bench.firstLoud (genOf s modeS modeAC) k vs
-  unfolding loudFrom
-  loud-same [] k = refl
-  loud-same (x ∷ vs) k = ap (λ (o : Option Bench.Refusal). cond (loud x) (some (Bench.wrongNoise k)) o) (loud-same vs (suc k))
+  out-of-range-same : (vs : List Float) (k : ℕ) → outOfRangeFrom k vs ≡ Bench.firstOutOfRange (genOf s modeS modeAC) k vs
+  unfolding outOfRangeFrom
+  out-of-range-same [] k = refl
+  out-of-range-same (x ∷ vs) k = ap (λ (o : Option Bench.Refusal). cond (outOfRange x) (some (Bench.wrongNoise k)) o) (out-of-range-same vs (suc k))
 
   abbrev asks : Option Bench.Refusal
   asks = Bench.drawRefusal (genOf s modeS modeAC) (s .time) (some (s .latest)) (Bench.drawsOf (genOf s modeS modeAC) draws)
@@ -52,7 +52,7 @@ module _ (s : State) (modeS modeAC memory : List Float) (draws : List ℕ) (nois
   Same x = _≡_ {A = Left} (record { ran = x; memory = memory; output = output; records = records }) (runLeft s modeS modeAC memory draws noise output records)
 
   abbrev after-lengths : Option Bench.Refusal
-  after-lengths = Bench.orElse (genOf s modeS modeAC) asks (Bench.firstLoud (genOf s modeS modeAC) 0 noise)
+  after-lengths = Bench.orElse (genOf s modeS modeAC) asks (Bench.firstOutOfRange (genOf s modeS modeAC) 0 noise)
 
   refused-with : (q : Bench.Refusal) (x : Ran) → callRefusal s modeS modeAC memory draws noise output records ≡ some q → x ≡ refusedBy s (refusalGiven q) → Same x
   unfolding runLeft
@@ -60,29 +60,29 @@ module _ (s : State) (modeS modeAC memory : List Float) (draws : List ℕ) (nois
       (λ i. record { ran = k i; memory = memory; output = output; records = records })
       ∙ sym (ap (λ (o : Option Bench.Refusal). runBy s memory output records (callLeft s modeS modeAC memory draws noise output records) o) e)
 
-  pub lent-refused : (wrongMemory (length memory) (length modeS) (length modeAC) || wrongBuffers (length output) (length draws)) ≡ true → (x : Ran) → x ≡ refusedBy s Refusal.the-variants.Lent → Same x
+  pub buffers-refused : (wrongMemory (length memory) (length modeS) (length modeAC) || wrongBuffers (length output) (length draws)) ≡ true → (x : Ran) → x ≡ refusedBy s Refusal.the-variants.Length → Same x
   unfolding refusalGiven
-  lent-refused e x k = refused-with Bench.wrongLength x (first-of Bench.wrongLength after-lengths (wrongMemory (length memory) (length modeS) (length modeAC)) (wrongBuffers (length output) (length draws)) e) k
+  buffers-refused e x k = refused-with Bench.wrongLength x (first-of Bench.wrongLength after-lengths (wrongMemory (length memory) (length modeS) (length modeAC)) (wrongBuffers (length output) (length draws)) e) k
 
-  module _ (lengths : (wrongMemory (length memory) (length modeS) (length modeAC) || wrongBuffers (length output) (length draws)) ≡ false) (f : Fault.Fault) (drawn : faultRead f ≡ asks) where
-    is : callRefusal s modeS modeAC memory draws noise output records ≡ Bench.orElse G (faultRead f) (Bench.firstLoud G 0 noise)
+  module _ (lengths : (wrongMemory (length memory) (length modeS) (length modeAC) || wrongBuffers (length output) (length draws)) ≡ false) (f : DrawFault.DrawFault) (drawn : faultRead f ≡ asks) where
+    is : callRefusal s modeS modeAC memory draws noise output records ≡ Bench.orElse G (faultRead f) (Bench.firstOutOfRange G 0 noise)
     is =
         neither Bench.wrongLength after-lengths (wrongMemory (length memory) (length modeS) (length modeAC)) (wrongBuffers (length output) (length draws)) lengths
-        ∙ ap (λ (o : Option Bench.Refusal). Bench.orElse G o (Bench.firstLoud G 0 noise)) (sym drawn)
+        ∙ ap (λ (o : Option Bench.Refusal). Bench.orElse G o (Bench.firstOutOfRange G 0 noise)) (sym drawn)
 
-    pub draw-refused : (k n : ℕ) → f ≡ Fault.the-variants.At k n → (x : Ran) → x ≡ refusedBy s (Refusal.the-variants.Draw k n) → Same x
+    pub draw-refused : (k n : ℕ) → f ≡ DrawFault.the-variants.At k n → (x : Ran) → x ≡ refusedBy s (Refusal.the-variants.Draw k n) → Same x
     unfolding faultRead refusalGiven
-    draw-refused k n e x r = refused-with (Bench.wrongDraw k n) x (is ∙ ap (λ (y : Fault.Fault). Bench.orElse G (faultRead y) (Bench.firstLoud G 0 noise)) e) r
+    draw-refused k n e x r = refused-with (Bench.wrongDraw k n) x (is ∙ ap (λ (y : DrawFault.DrawFault). Bench.orElse G (faultRead y) (Bench.firstOutOfRange G 0 noise)) e) r
 
-    module _ (clean : f ≡ Fault.the-variants.Clean) (l : Loud.Loud) (heard : loudRead l ≡ loudFrom 0 noise) where
-      then-noise : callRefusal s modeS modeAC memory draws noise output records ≡ loudRead l
+    module _ (clean : f ≡ DrawFault.the-variants.None) (l : NoiseFault.NoiseFault) (heard : noiseFaultRead l ≡ outOfRangeFrom 0 noise) where
+      then-noise : callRefusal s modeS modeAC memory draws noise output records ≡ noiseFaultRead l
       unfolding faultRead
-      then-noise = is ∙ ap (λ (y : Fault.Fault). Bench.orElse G (faultRead y) (Bench.firstLoud G 0 noise)) clean ∙ sym (heard ∙ loud-same noise 0)
+      then-noise = is ∙ ap (λ (y : DrawFault.DrawFault). Bench.orElse G (faultRead y) (Bench.firstOutOfRange G 0 noise)) clean ∙ sym (heard ∙ out-of-range-same noise 0)
 
-      pub noise-refused : (p : ℕ) → l ≡ Loud.the-variants.At p → (x : Ran) → x ≡ refusedBy s (Refusal.the-variants.Noise p) → Same x
-      unfolding loudRead refusalGiven
-      noise-refused p e x r = refused-with (Bench.wrongNoise p) x (then-noise ∙ ap loudRead e) r
+      pub noise-refused : (p : ℕ) → l ≡ NoiseFault.the-variants.At p → (x : Ran) → x ≡ refusedBy s (Refusal.the-variants.Noise p) → Same x
+      unfolding noiseFaultRead refusalGiven
+      noise-refused p e x r = refused-with (Bench.wrongNoise p) x (then-noise ∙ ap noiseFaultRead e) r
 
-      pub not-refused : l ≡ Loud.the-variants.Quiet → (left : Left) → left ≡ callLeft s modeS modeAC memory draws noise output records → left ≡ runLeft s modeS modeAC memory draws noise output records
-      unfolding loudRead runLeft
-      not-refused e left k = k ∙ sym (ap (λ (o : Option Bench.Refusal). runBy s memory output records (callLeft s modeS modeAC memory draws noise output records) o) (then-noise ∙ ap loudRead e))
+      pub not-refused : l ≡ NoiseFault.the-variants.None → (left : Left) → left ≡ callLeft s modeS modeAC memory draws noise output records → left ≡ runLeft s modeS modeAC memory draws noise output records
+      unfolding noiseFaultRead runLeft
+      not-refused e left k = k ∙ sym (ap (λ (o : Option Bench.Refusal). runBy s memory output records (callLeft s modeS modeAC memory draws noise output records) o) (then-noise ∙ ap noiseFaultRead e))

@@ -12,14 +12,14 @@ use Rattle.run_theory.specs.Generator.{Generator, startFrom}
 use Rattle.run_theory.specs.PlainRun.{kindOf}
 use Rattle.run_theory.specs.PlainBench as Bench
 use Rattle.run_call_model.specs.Machine.{later}
-use Rattle.run_call_model.specs.Buffers.{laid}
-use Rattle.run_call_model.specs.Turns as Turns
-use Rattle.run_call_model.specs.Plans as Plans
-use Rattle.run_call_model.specs.Plans.{Plan, stopAt, drainMany, dueMany, ignore, endRun, addReply}
-use Rattle.run_call_model.proofs.Turns.{wroteTurn}
-use Rattle.run_call_model.proofs.Plans as Theory
-use Rattle.run_call_model.proofs.Batched.{nextTurn, nearer}
-use Rattle.run_due_samples.specs.DueModel.{Lent, dueOf}
+use Rattle.run_call_model.specs.Buffers.{overwritten}
+use Rattle.run_call_model.specs.Progress as Turns
+use Rattle.run_call_model.specs.Plan as Plans
+use Rattle.run_call_model.specs.Plan.{Plan, stopAt, drainMany, dueMany, ignore, endRun, addReply}
+use Rattle.run_call_model.proofs.Progress.{progressWithSamples}
+use Rattle.run_call_model.proofs.Plan as Theory
+use Rattle.run_call_model.proofs.Batched.{nextProgress, nearer}
+use Rattle.run_due_samples.specs.DueModel.{DueBuffers, dueOf}
 use Rattle.run_due_samples.proofs.AnyDraws.{any-samples, any-memory}
 use Rattle.draw.specs.Draw.{drawAt}
 use Rattle.draw.specs.Config.{timeAfter, configOf}
@@ -29,18 +29,18 @@ use Rattle.message_config.specs.declared.MessageConfig.{MessageConfig}
 use Rattle.reply_record.specs.Record.{recordBytes}
 use Rattle.run_add_reply.specs.RecordedModel.{memoryWith, recordsWith}
 use Rattle.reply_samples.specs.Samples.{replySamples}
-use Rattle.run_generator.specs.Real.{draws}
-use Rattle.run_generator.proofs.RealDrawLaws.{line-length}
+use Rattle.run_generator.specs.Instance.{draws}
+use Rattle.run_generator.proofs.InstanceDrawLaws.{line-length}
 use Rattle.run_call.specs.declared.State.{State}
-use Rattle.run_steps.specs.declared.Turn.{Turn}
+use Rattle.run_steps.specs.declared.Progress.{Progress}
 use Rattle.run_steps.specs.declared.Stop as Stop
 use Rattle.run_steps.specs.declared.Plan as Plan
 use Rattle.run_steps.specs.PlanModel.{counted, planRead, chosen}
-use Rattle.run_steps.specs.ProgressModel.{wroteBy, tookBy, haltedBy, movedBy}
-use Rattle.run_call.specs.StepModel.{Inside, turnRead, restAfter, Went, StepSays}
+use Rattle.run_steps.specs.ProgressModel.{progressAfterSamples, progressAfterDraw, progressAfterStop, progressAfterStep}
+use Rattle.run_call.specs.StepModel.{Inside, progressRead, restAfter, Went, StepSays}
 use Rattle.run_call.specs.StateGenerator.{filtersOf, genOf}
 use Rattle.run_call.proofs.Adding.{added-put, counts, added-by, recorded-by}
-use Rattle.run_call.proofs.Writing.{wrote-memory, wrote-output}
+use Rattle.run_call.proofs.Writing.{samples-written-memory, samples-written-output}
 
 -- what is lent, and the run, have sizes of 64 bits, so no count goes over
 pub record Sized (total taken rest output records : ℕ) : Type 0 where
@@ -69,30 +69,30 @@ pub record Planned : Type 0 where
   pub modeS : List Float
   pub modeAC : List Float
   pub noise : List Float
-  pub t : Turn
+  pub t : Progress
   pub memory : List Float
   pub rest : List ℕ
   pub output : List Float
   pub records : List ℕ
-  pub next : MessageConfig
+  pub last : MessageConfig
   pub plan : Plan.Plan
   pub memory-is : length memory ≡ 2252
   pub inside : Inside t (length noise) (length output) (length records)
   pub sized : Sized (s .total) (t .taken) (length rest) (length output) (length records)
-  pub next-is : next ≡ pendingOf (s .distributions) (timeAfter (t .time) (drawAt rest)) (drawAt rest)
-  pub chose : planRead plan ≡ chosen (t .ended) (t .written) (s .total) (s .delays) next (length rest) (length output - 2 * t .samples) (length noise - 2 * t .samples) (length records - 66 * t .records)
+  pub next-is : last ≡ pendingOf (s .distributions) (timeAfter (t .time) (drawAt rest)) (drawAt rest)
+  pub chose : planRead plan ≡ chosen (t .ended) (t .written) (s .total) (s .delays) last (length rest) (length output - 2 * t .samples) (length noise - 2 * t .samples) (length records - 66 * t .records)
 
 module _ (P : Planned) where
-  open Planned P using (s, modeS, modeAC, noise, t, memory, rest, output, records, next, plan, memory-is, inside, sized, next-is, chose)
+  open Planned P using (s, modeS, modeAC, noise, t, memory, rest, output, records, last, plan, memory-is, inside, sized, next-is, chose)
 
   abbrev G : Generator
   G = genOf s modeS modeAC
 
-  abbrev z : Turns.Turn (genOf s modeS modeAC) nan
-  z = turnRead s modeS modeAC t memory rest output records
+  abbrev z : Turns.Progress (genOf s modeS modeAC) nan
+  z = progressRead s modeS modeAC t memory rest output records
 
-  abbrev Step : Turn → List Float → List Float → List ℕ → Type 0
-  Step r memory′ output′ records′ = StepSays (genOf s modeS modeAC) noise nan (r .next) z (turnRead s modeS modeAC r memory′ (restAfter (r .next) rest) output′ records′)
+  abbrev Step : Progress → List Float → List Float → List ℕ → Type 0
+  Step r memory′ output′ records′ = StepSays (genOf s modeS modeAC) noise nan (r .last) z (progressRead s modeS modeAC r memory′ (restAfter (r .last) rest) output′ records′)
 
   -- the message's own time and start are the theory's
   chosen-is : planRead plan ≡ Theory.planOf G nan noise z
@@ -118,30 +118,30 @@ module _ (P : Planned) where
 
   -- a plan that is no stop, carried out
   went : (x : Plan.Plan) → plan ≡ x → isStop (planRead x) ≡ false
-      → Theory.afterPlan G nan noise (lit< tt) (lit< tt) z (planRead x) ≡ Turns.restOf G nan noise (nextTurn G nan noise z (planRead x))
-      → (y : Turns.Turn G nan) → y ≡ nextTurn G nan noise z (planRead x) → Went G noise nan z y
+      → Theory.afterPlan G nan noise (lit< tt) (lit< tt) z (planRead x) ≡ Turns.restOf G nan noise (nextProgress G nan noise z (planRead x))
+      → (y : Turns.Progress G nan) → y ≡ nextProgress G nan noise z (planRead x) → Went G noise nan z y
   went x h e after y k =
       let near = nearer G nan noise (lit< tt) (lit< tt) (λ time d k n. line-length (s .distributions) time (d .draw) k n) z within (planRead x) (says x h) (no-stop (planRead x) e) in
-      subst (λ (u : Turns.Turn G nan). Went G noise nan z u) (sym k) (record { same = right x h ∙ after; within = near .within; less = near .less })
+      subst (λ (u : Turns.Progress G nan). Went G noise nan z u) (sym k) (record { same = right x h ∙ after; within = near .within; less = near .less })
 
   -- the turn that was made is the plan's
-  by-plan : (x : Plan.Plan) → plan ≡ x → (r : Turn) (memory′ output′ : List Float) (records′ : List ℕ) → r ≡ movedBy t plan → Step (movedBy t x) memory′ output′ records′ → Step r memory′ output′ records′
-  by-plan x h r memory′ output′ records′ k = subst (λ (y : Turn). Step y memory′ output′ records′) (sym (k ∙ ap (movedBy t) h))
+  by-plan : (x : Plan.Plan) → plan ≡ x → (r : Progress) (memory′ output′ : List Float) (records′ : List ℕ) → r ≡ progressAfterStep t plan → Step (progressAfterStep t x) memory′ output′ records′ → Step r memory′ output′ records′
+  by-plan x h r memory′ output′ records′ k = subst (λ (y : Progress). Step y memory′ output′ records′) (sym (k ∙ ap (progressAfterStep t) h))
 
   -- ---- a stop
-  pub halted : (w : Stop.Stop) → plan ≡ Plan.the-variants.Halt w → (r : Turn) → r ≡ movedBy t plan → Step r memory output records
-  unfolding planRead movedBy haltedBy
+  pub halted : (w : Stop.Stop) → plan ≡ Plan.the-variants.Halt w → (r : Progress) → r ≡ progressAfterStep t plan → Step r memory output records
+  unfolding planRead progressAfterStep progressAfterStop
   halted w h r k = by-plan (Plan.the-variants.Halt w) h r memory output records k (says (Plan.the-variants.Halt w) h, refl)
 
   -- ---- samples
-  abbrev Wrote : ℕ → List Float → List Float → Type 0
-  Wrote n memory′ output′ = _≡_ {A = Lent} (record { memory = memory′; output = output′ }) (dueOf noise (t .written) (t .samples) n (record { memory = memory; output = output }))
+  abbrev SamplesWritten : ℕ → List Float → List Float → Type 0
+  SamplesWritten n memory′ output′ = _≡_ {A = DueBuffers} (record { memory = memory′; output = output′ }) (dueOf noise (t .written) (t .samples) n (record { memory = memory; output = output }))
 
-  wrote-is : (n : ℕ) (m : Float) → Theory.Written G nan noise z n m → (memory′ output′ : List Float) → Wrote n memory′ output′ → turnRead s modeS modeAC (wroteBy t n m) memory′ rest output′ records ≡ wroteTurn G nan noise z n m
-  unfolding wroteBy
-  wrote-is n m f memory′ output′ e = λ j. record {
+  samples-written-is : (n : ℕ) (m : Float) → Theory.Written G nan noise z n m → (memory′ output′ : List Float) → SamplesWritten n memory′ output′ → progressRead s modeS modeAC (progressAfterSamples t n m) memory′ rest output′ records ≡ progressWithSamples G nan noise z n m
+  unfolding progressAfterSamples
+  samples-written-is n m f memory′ output′ e = λ j. record {
     state = record {
-      memory = (wrote-memory noise memory output memory′ output′ (t .written) (t .samples) n memory-is (f .noise-fits) (f .output-fits) e ∙ sym (any-memory (draws (filtersOf s modeS modeAC)) (s .total) memory (t .written) n)) j;
+      memory = (samples-written-memory noise memory output memory′ output′ (t .written) (t .samples) n memory-is (f .noise-fits) (f .output-fits) e ∙ sym (any-memory (draws (filtersOf s modeS modeAC)) (s .total) memory (t .written) n)) j;
       written = not-over (t .written + n) (t .written + n) refl (omega (arith, f .below, sized .run-in)) j;
       time = t .time;
       over = t .ended;
@@ -151,29 +151,29 @@ module _ (P : Planned) where
     samples = not-over (t .samples + n) (t .samples + n) refl (omega (arith, f .output-fits, sized .output-in)) j;
     lines = t .records;
     rest = rest;
-    output = (wrote-output noise memory output memory′ output′ (t .written) (t .samples) n memory-is (f .noise-fits) (f .output-fits) e
-        ∙ ap (λ (l : List Float). laid (2 * t .samples) l output) (sym (any-samples (draws (filtersOf s modeS modeAC)) (s .total) memory (t .written) (take (2 * n) (drop (2 * t .samples) noise))))) j;
+    output = (samples-written-output noise memory output memory′ output′ (t .written) (t .samples) n memory-is (f .noise-fits) (f .output-fits) e
+        ∙ ap (λ (l : List Float). overwritten (2 * t .samples) l output) (sym (any-samples (draws (filtersOf s modeS modeAC)) (s .total) memory (t .written) (take (2 * n) (drop (2 * t .samples) noise))))) j;
     records = records;
   }
 
-  pub drained : (n : ℕ) → plan ≡ Plan.the-variants.Drain n → (r : Turn) (memory′ output′ : List Float) → r ≡ movedBy t plan → Wrote n memory′ output′ → Step r memory′ output′ records
-  unfolding planRead movedBy wroteBy
+  pub drained : (n : ℕ) → plan ≡ Plan.the-variants.Drain n → (r : Progress) (memory′ output′ : List Float) → r ≡ progressAfterStep t plan → SamplesWritten n memory′ output′ → Step r memory′ output′ records
+  unfolding planRead progressAfterStep progressAfterSamples
   drained n h r memory′ output′ k e =
       by-plan (Plan.the-variants.Drain n) h r memory′ output′ records k
-      (went (Plan.the-variants.Drain n) h refl refl _ (wrote-is n (t .latest) (says (Plan.the-variants.Drain n) h) memory′ output′ e), refl)
+      (went (Plan.the-variants.Drain n) h refl refl _ (samples-written-is n (t .latest) (says (Plan.the-variants.Drain n) h) memory′ output′ e), refl)
 
-  pub dued : (n : ℕ) (time : Float) → plan ≡ Plan.the-variants.Due n time → (r : Turn) (memory′ output′ : List Float) → r ≡ movedBy t plan → Wrote n memory′ output′ → Step r memory′ output′ records
-  unfolding planRead movedBy wroteBy
+  pub dued : (n : ℕ) (time : Float) → plan ≡ Plan.the-variants.Due n time → (r : Progress) (memory′ output′ : List Float) → r ≡ progressAfterStep t plan → SamplesWritten n memory′ output′ → Step r memory′ output′ records
+  unfolding planRead progressAfterStep progressAfterSamples
   dued n time h r memory′ output′ k e =
       by-plan (Plan.the-variants.Due n time) h r memory′ output′ records k
-      (went (Plan.the-variants.Due n time) h refl refl _ (wrote-is n (later G (t .latest) time) (says (Plan.the-variants.Due n time) h .0) memory′ output′ e), refl)
+      (went (Plan.the-variants.Due n time) h refl refl _ (samples-written-is n (later G (t .latest) time) (says (Plan.the-variants.Due n time) h .0) memory′ output′ e), refl)
 
   -- ---- draws
   one-taken : 65 ≤ length rest → (t .taken + 1) % 2 ^ 64 ≡ t .taken + 1
   one-taken h = not-over (t .taken + 1) (t .taken + 1) refl (omega (arith, sized .draws-in))
 
   -- a draw that is not recorded
-  took-none : (time : Float) (ended : Bool) → 65 ≤ length rest → time ≡ timeAfter (t .time) (drawAt rest) → turnRead s modeS modeAC (tookBy t time ended 0) memory (drop 65 rest) output records ≡ record {
+  draw-taken-none : (time : Float) (ended : Bool) → 65 ≤ length rest → time ≡ timeAfter (t .time) (drawAt rest) → progressRead s modeS modeAC (progressAfterDraw t time ended 0) memory (drop 65 rest) output records ≡ record {
     state = record { memory = memory; written = t .written; time = timeAfter (t .time) (drawAt rest); over = ended; mark = t .latest };
     taken = t .taken + 1;
     samples = t .samples;
@@ -182,8 +182,8 @@ module _ (P : Planned) where
     output = output;
     records = records;
   }
-  unfolding tookBy
-  took-none time ended h e = λ j. record {
+  unfolding progressAfterDraw
+  draw-taken-none time ended h e = λ j. record {
     state = record { memory = memory; written = t .written; time = e j; over = ended; mark = t .latest };
     taken = one-taken h j;
     samples = t .samples;
@@ -193,27 +193,27 @@ module _ (P : Planned) where
     records = records;
   }
 
-  pub skipped : (time : Float) → plan ≡ Plan.the-variants.Skip time → (r : Turn) → r ≡ movedBy t plan → Step r memory output records
-  unfolding planRead movedBy tookBy timeAfter
+  pub skipped : (time : Float) → plan ≡ Plan.the-variants.Skip time → (r : Progress) → r ≡ progressAfterStep t plan → Step r memory output records
+  unfolding planRead progressAfterStep progressAfterDraw timeAfter
   skipped time h r k =
       let f = says (Plan.the-variants.Skip time) h in
       by-plan (Plan.the-variants.Skip time) h r memory output records k
-      (went (Plan.the-variants.Skip time) h refl refl _ (took-none time (t .ended) (f .bytes) (f .at)), one-taken (f .bytes), f .bytes)
+      (went (Plan.the-variants.Skip time) h refl refl _ (draw-taken-none time (t .ended) (f .bytes) (f .at)), one-taken (f .bytes), f .bytes)
 
-  pub ended-by : (time : Float) → plan ≡ Plan.the-variants.End time → (r : Turn) → r ≡ movedBy t plan → Step r memory output records
-  unfolding planRead movedBy tookBy timeAfter
+  pub ended-by : (time : Float) → plan ≡ Plan.the-variants.End time → (r : Progress) → r ≡ progressAfterStep t plan → Step r memory output records
+  unfolding planRead progressAfterStep progressAfterDraw timeAfter
   ended-by time h r k =
       let f = says (Plan.the-variants.End time) h in
       by-plan (Plan.the-variants.End time) h r memory output records k
-      (went (Plan.the-variants.End time) h refl refl _ (took-none time true (f .bytes) (f .at)), one-taken (f .bytes), f .bytes)
+      (went (Plan.the-variants.End time) h refl refl _ (draw-taken-none time true (f .bytes) (f .at)), one-taken (f .bytes), f .bytes)
 
-  pub added : (time : Float) (first : ℕ) → plan ≡ Plan.the-variants.Add time first → (r : Turn) (memory′ : List Float) (records′ : List ℕ) → r ≡ movedBy t plan
-      → memory′ ≡ memoryWith next (s .delays) first rest modeS modeAC memory → records′ ≡ recordsWith next (s .delays) first rest memory (66 * t .records) records → Step r memory′ output records′
-  unfolding planRead movedBy tookBy timeAfter
+  pub added : (time : Float) (first : ℕ) → plan ≡ Plan.the-variants.Add time first → (r : Progress) (memory′ : List Float) (records′ : List ℕ) → r ≡ progressAfterStep t plan
+      → memory′ ≡ memoryWith last (s .delays) first rest modeS modeAC memory → records′ ≡ recordsWith last (s .delays) first rest memory (66 * t .records) records → Step r memory′ output records′
+  unfolding planRead progressAfterStep progressAfterDraw timeAfter
   added time first h r memory′ records′ k p o =
       let f = says (Plan.the-variants.Add time first) h in
       by-plan (Plan.the-variants.Add time first) h r memory′ output records′ k
-      (went (Plan.the-variants.Add time first) h refl refl _ (took-reply f), one-taken (f .taken .bytes), f .taken .bytes)
+      (went (Plan.the-variants.Add time first) h refl refl _ (draw-taken-reply f), one-taken (f .taken .bytes), f .taken .bytes)
     where
       at : Float
       at = timeAfter (t .time) (drawAt rest)
@@ -221,10 +221,10 @@ module _ (P : Planned) where
       message : MessageConfig
       message = configOf (s .distributions) at (drawAt rest)
 
-      took-reply : Theory.Added G nan noise z time first → turnRead s modeS modeAC (tookBy t time (t .ended) 1) memory′ (drop 65 rest) output records′ ≡ nextTurn G nan noise z (addReply time first)
-      took-reply f = λ j. record {
+      draw-taken-reply : Theory.Added G nan noise z time first → progressRead s modeS modeAC (progressAfterDraw t time (t .ended) 1) memory′ (drop 65 rest) output records′ ≡ nextProgress G nan noise z (addReply time first)
+      draw-taken-reply f = λ j. record {
         state = record {
-          memory = (added-by (s .distributions) (s .delays) at first rest next next-is memory memory-is modeS modeAC memory′ p ∙ added-put (filtersOf s modeS modeAC) (s .total) (replySamples four modeS modeAC (s .delays) (drawAt rest .amplitude) message) memory first) j;
+          memory = (added-by (s .distributions) (s .delays) at first rest last next-is memory memory-is modeS modeAC memory′ p ∙ added-put (filtersOf s modeS modeAC) (s .total) (replySamples four modeS modeAC (s .delays) (drawAt rest .amplitude) message) memory first) j;
           written = t .written;
           time = f .taken .at j;
           over = t .ended;
@@ -235,6 +235,6 @@ module _ (P : Planned) where
         lines = not-over (t .records + 1) (t .records + 1) refl (omega (arith, f .fits, sized .records-in)) j;
         rest = drop 65 rest;
         output = output;
-        records = (recorded-by (s .distributions) (s .delays) at first rest next next-is memory memory-is records records′ (66 * t .records) (omega (arith, f .fits)) o
-            ∙ ap (λ (n : ℕ). laid (66 * t .records) (recordBytes message first (drawAt rest .kind) n) records) (sym (counts (filtersOf s modeS modeAC) (s .total) (drawAt rest .amplitude) message))) j;
+        records = (recorded-by (s .distributions) (s .delays) at first rest last next-is memory memory-is records records′ (66 * t .records) (omega (arith, f .fits)) o
+            ∙ ap (λ (n : ℕ). overwritten (66 * t .records) (recordBytes message first (drawAt rest .kind) n) records) (sym (counts (filtersOf s modeS modeAC) (s .total) (drawAt rest .amplitude) message))) j;
       }

@@ -5,26 +5,26 @@ use mathlib.Core.List.{List}
 use Prim.Native.Nat.{ℕ, _+_, _*_, _≤_}
 use lib.ListN.{length, take, drop}
 use lib.Ieee.{Float}
-use Rattle.run_call_model.specs.Buffers.{laid}
-use Rattle.run_due_samples.specs.DueModel.{samplesOf, clearOf, Lent, dueOf}
-use Rattle.run_due_samples.proofs.LentTest.{fits-if}
+use Rattle.run_call_model.specs.Buffers.{overwritten}
+use Rattle.run_due_samples.specs.DueModel.{samplesOf, clearOf, DueBuffers, dueOf}
+use Rattle.run_due_samples.proofs.BuffersTest.{fits-if}
 
-made : List Float → List Float → Lent
+made : List Float → List Float → DueBuffers
 made memory output = record { memory = memory; output = output }
 
 module _ (noise memory output memory′ output′ : List Float) (w k n : ℕ) (l : length memory ≡ 2252) (in-noise : 2 * (k + n) ≤ length noise) (in-output : 2 * (k + n) ≤ length output)
     (e : record { memory = memory′; output = output′ } ≡ dueOf noise w k n (record { memory = memory; output = output })) where
-  both : made memory′ output′ ≡ made (clearOf memory w n) (laid (2 * k) (samplesOf memory w (take (2 * n) (drop (2 * k) noise))) output)
+  both : made memory′ output′ ≡ made (clearOf memory w n) (overwritten (2 * k) (samplesOf memory w (take (2 * n) (drop (2 * k) noise))) output)
   unfolding dueOf made
   both =
       e
-      ∙ ap (λ (b : Bool). cond b (made (clearOf memory w n) (laid (2 * k) (samplesOf memory w (take (2 * n) (drop (2 * k) noise))) output)) (made memory output))
+      ∙ ap (λ (b : Bool). cond b (made (clearOf memory w n) (overwritten (2 * k) (samplesOf memory w (take (2 * n) (drop (2 * k) noise))) output)) (made memory output))
       (sym (fits-if (length memory) (length noise) (length output) k n (record { memory-is = l; noise-holds = in-noise; output-holds = in-output })))
 
-  pub wrote-memory : memory′ ≡ clearOf memory w n
+  pub samples-written-memory : memory′ ≡ clearOf memory w n
   unfolding made
-  wrote-memory = ap (λ (x : Lent). x .memory) both
+  samples-written-memory = ap (λ (x : DueBuffers). x .memory) both
 
-  pub wrote-output : output′ ≡ laid (2 * k) (samplesOf memory w (take (2 * n) (drop (2 * k) noise))) output
+  pub samples-written-output : output′ ≡ overwritten (2 * k) (samplesOf memory w (take (2 * n) (drop (2 * k) noise))) output
   unfolding made
-  wrote-output = ap (λ (x : Lent). x .output) both
+  samples-written-output = ap (λ (x : DueBuffers). x .output) both

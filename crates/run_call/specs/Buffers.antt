@@ -12,7 +12,7 @@ pub record Left : Type 0 where
   pub records : List ℕ
 
 -- what a run call is lent, beside what opening was lent
-pub record Lent : Type 0 where
+pub record CallBuffers : Type 0 where
   pub draws : List ℕ
   pub noise : List Float
   pub output : List Float

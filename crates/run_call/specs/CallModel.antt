@@ -2,10 +2,10 @@
 use Prim.Native.Nat.{ℕ, _*_}
 use mathlib.Core.List.{List}
 use lib.Ieee.{Float, nan}
-use Rattle.run_call_model.specs.Turns as Theory
+use Rattle.run_call_model.specs.Progress as Theory
 use Rattle.run_call.specs.declared.State.{State}
-use Rattle.run_steps.specs.declared.Turn.{Turn}
-use Rattle.run_steps.specs.declared.Next as Next
+use Rattle.run_steps.specs.declared.Progress.{Progress}
+use Rattle.run_steps.specs.declared.LastStep as LastStep
 use Rattle.run_steps.specs.declared.Stop as Stop
 use Rattle.run_call.specs.declared.Answer as Answer
 use Rattle.run_call.specs.declared.Ran.{Ran}
@@ -20,11 +20,11 @@ use Rattle.refusals.specs.declared.Refusal as Refusal
 use Rattle.run_call_checks.specs.Checks.{wrongMemory}
 
 -- the first turn of a call
-unfoldable pub firstBy : State → Turn
-firstBy s = record { written = s .written; time = s .time; latest = s .latest; ended = s .ended; taken = 0; samples = 0; records = 0; next = Next.the-variants.Wrote }
+unfoldable pub initialBy : State → Progress
+initialBy s = record { written = s .written; time = s .time; latest = s .latest; ended = s .ended; taken = 0; samples = 0; records = 0; last = LastStep.the-variants.SamplesWritten }
 
 -- the answer at a stop: the state with what moved, and the counts
-unfoldable pub ranBy : State → Turn → Stop.Stop → Ran
+unfoldable pub ranBy : State → Progress → Stop.Stop → Ran
 ranBy s t w = record {
   state = record { written = t .written; total = s .total; time = t .time; latest = t .latest; ended = t .ended; rates = s .rates; delays = s .delays; distributions = s .distributions };
   counts = record { taken = t .taken; samples = t .samples; noise = 2 * t .samples; records = t .records };
@@ -50,7 +50,7 @@ module _ (s : State) (modeS modeAC : List Float) where
   callLeft memory draws noise output records =
       leftBy
       (Theory.restOf (genOf s modeS modeAC) nan noise
-      (Theory.firstTurn (genOf s modeS modeAC) nan (record { memory = memory; written = s .written; time = s .time; over = s .ended; mark = s .latest }) (record { draws = draws; noise = noise; output = output; records = records })))
+      (Theory.initialProgress (genOf s modeS modeAC) nan (record { memory = memory; written = s .written; time = s .time; over = s .ended; mark = s .latest }) (record { draws = draws; noise = noise; output = output; records = records })))
 
 unfoldable pub refusedBy : State → Refusal.Refusal → Ran
 refusedBy s q = record { state = s; counts = record { taken = 0; samples = 0; noise = 0; records = 0 }; answer = Answer.the-variants.Refused q }

@@ -22,6 +22,6 @@ stopNumber Stop.the-variants.RecordsFull = 4
 
 -- a refusal of the theory, as the code answers it: the same number and values
 unfoldable pub refusalGiven : Bench.Refusal → Refusal.Refusal
-refusalGiven Bench.wrongLength = Refusal.the-variants.Lent
+refusalGiven Bench.wrongLength = Refusal.the-variants.Length
 refusalGiven (Bench.wrongDraw k field) = Refusal.the-variants.Draw k field
-refusalGiven (Bench.wrongNoise place) = Refusal.the-variants.Noise place
+refusalGiven (Bench.wrongNoise slot) = Refusal.the-variants.Noise slot

@@ -7,7 +7,7 @@ use Rattle.run_call.specs.declared.State.{State}
 use Rattle.run_call.specs.declared.Answer as Answer
 use Rattle.run_call.specs.declared.Ran.{Ran}
 use Rattle.run_call.specs.StateGenerator.{genOf}
-use Rattle.run_call.specs.Buffers.{Left, Lent}
+use Rattle.run_call.specs.Buffers.{Left, CallBuffers}
 use Rattle.run_call.specs.Given.{stopGiven, refusalGiven}
 use Rattle.run_call.specs.Calls.{callOf}
 
@@ -31,7 +31,7 @@ module _ (s : State) (modeS modeAC : List Float) where
 
 module _ (s : State) (modeS modeAC : List Float) where
   -- of the theory's calls, from a machine's state on
-  unfoldable pub runsGiven : Machine.State (genOf s modeS modeAC) nan → List Lent → List Left
+  unfoldable pub runsGiven : Machine.State (genOf s modeS modeAC) nan → List CallBuffers → List Left
   runsGiven z [] = []
   runsGiven z (l ∷ ls) =
       let r = Machine.machineRun (genOf s modeS modeAC) nan z (callOf s modeS modeAC l) in

@@ -3,17 +3,17 @@ ghost use mathlib.Core.Path.{_≡_};
 ghost use Prim.Native.Nat.{_+_, _*_, _≤_, _<_, _^_};
 ghost use lib.ListN.{length};
 ghost use lib.Ieee.{nan};
-ghost use Rattle.run_call.specs.CallModel.{firstBy, ranBy, callLeft, refusedBy, runLeft};
-ghost use Rattle.run_call.specs.StepModel.{Inside, turnRead, restAfter, StepSays};
+ghost use Rattle.run_call.specs.CallModel.{initialBy, ranBy, callLeft, refusedBy, runLeft};
+ghost use Rattle.run_call.specs.StepModel.{Inside, progressRead, restAfter, StepSays};
 ghost use Rattle.run_call.specs.StateGenerator.{genOf};
-use draw::Fault;
+use draw::DrawFault;
 use message_config::Delays;
 use refusals::Refusal;
-use run_call_checks::Loud;
-use run_steps::Next;
+use run_call_checks::NoiseFault;
+use run_steps::LastStep;
 use run_steps::Plan;
+use run_steps::Progress;
 pub use run_steps::Stop;
-use run_steps::Turn;
 use settings::Distributions;
 use settings::MessagesPerSecond;
 
@@ -52,7 +52,7 @@ pub struct Ran {
 // One turn: a stop, so many samples, or a draw.
 fn step(
     s: State,
-    t: Turn,
+    t: Progress,
     mode_s: &[f32],
     mode_ac: &[f32],
     memory: &mut [f32],
@@ -60,13 +60,13 @@ fn step(
     noise: &[f32],
     output: &mut [f32],
     records: &mut [u8],
-) -> Turn
+) -> Progress
     requires { ⌜ (length (now memory) ≡ 2252) × (Inside t (length (now noise)) (length (now output)) (length (now records))) × (65 * t .taken + length (now rest) < 2 ^ 64) × (s .total < 2 ^ 64) ⌝ }
-    ensures { λ r. ⌜ StepSays (genOf s (now («mode_s» .entry)) (now («mode_ac» .entry))) (now (noise .entry)) nan (r .next) (turnRead s (now («mode_s» .entry)) (now («mode_ac» .entry)) t (now (memory .entry)) (now (rest .entry)) (now (output .entry)) (now (records .entry))) (turnRead s (now («mode_s» .entry)) (now («mode_ac» .entry)) r (now (memory .exit)) (restAfter (r .next) (now (rest .entry))) (now (output .exit)) (now (records .exit))) ⌝ }
+    ensures { λ r. ⌜ StepSays (genOf s (now («mode_s» .entry)) (now («mode_ac» .entry))) (now (noise .entry)) nan (r .last) (progressRead s (now («mode_s» .entry)) (now («mode_ac» .entry)) t (now (memory .entry)) (now (rest .entry)) (now (output .entry)) (now (records .entry))) (progressRead s (now («mode_s» .entry)) (now («mode_ac» .entry)) r (now (memory .exit)) (restAfter (r .last) (now (rest .entry))) (now (output .exit)) (now (records .exit))) ⌝ }
 {
     let all = s.distributions;
     let delays = s.delays;
-    let next = draw_config::pending(all, t.time, rest);
+    let last = draw_config::pending(all, t.time, rest);
     let used = 2 * t.samples;
     let lines = t.records;
     let p = run_steps::choose(
@@ -74,13 +74,13 @@ fn step(
         t.written,
         s.total,
         delays,
-        next,
+        last,
         rest.len(),
         output.len() - used,
         noise.len() - used,
         records.len() - 66 * lines,
     );
-    let r = run_steps::moved(t, p);
+    let r = run_steps::after_step(t, p);
     match p {
         Plan::Halt(_) => {}
         Plan::Drain(n) => run_due_samples::write_due(
@@ -102,7 +102,7 @@ fn step(
         Plan::Skip(_) => {}
         Plan::End(_) => {}
         Plan::Add(_, first) => run_add_reply::add(
-            next,
+            last,
             delays,
             first,
             mode_s,
@@ -117,10 +117,10 @@ fn step(
 }
 
 // The first turn of a call.
-fn first_turn(s: State) -> Turn
-    ensures { λ r. ⌜ r ≡ firstBy s ⌝ }
+fn initial_progress(s: State) -> Progress
+    ensures { λ r. ⌜ r ≡ initialBy s ⌝ }
 {
-    Turn {
+    Progress {
         written: s.written,
         time: s.time,
         latest: s.latest,
@@ -128,12 +128,12 @@ fn first_turn(s: State) -> Turn
         taken: 0,
         samples: 0,
         records: 0,
-        next: Next::Wrote,
+        last: LastStep::SamplesWritten,
     }
 }
 
 // The answer at a stop.
-fn stopped_at(s: State, t: Turn, w: Stop) -> Ran
+fn stopped_at(s: State, t: Progress, w: Stop) -> Ran
     requires { ⌜ 2 * t .samples < 2 ^ 64 ⌝ }
     ensures { λ r. ⌜ r ≡ ranBy s t w ⌝ }
 {
@@ -175,17 +175,17 @@ fn steps(
     requires { ⌜ length (now memory) ≡ 2252 ⌝ }
     ensures { λ r. ⌜ record { ran = r; memory = now (memory .exit); output = now (output .exit); records = now (records .exit) } ≡ callLeft s (now («mode_s» .entry)) (now («mode_ac» .entry)) (now (memory .entry)) (now (draws .entry)) (now (noise .entry)) (now (output .entry)) (now (records .entry)) ⌝ }
 {
-    let mut t = first_turn(s);
+    let mut t = initial_progress(s);
     let mut rest = draws;
     loop {
         t = step(s, t, mode_s, mode_ac, memory, rest, noise, output, records);
-        let next = t.next;
-        match next {
-            Next::Wrote => {}
-            Next::Took => {
+        let last = t.last;
+        match last {
+            LastStep::SamplesWritten => {}
+            LastStep::DrawTaken => {
                 rest = &rest[65..];
             }
-            Next::Halted(w) => {
+            LastStep::StopReached(w) => {
                 return stopped_at(s, t, w);
             }
         }
@@ -227,16 +227,16 @@ pub fn run(
         output.len(),
         draws.len(),
     ) {
-        return refused(s, Refusal::Lent);
+        return refused(s, Refusal::Length);
     }
     let rates = s.rates;
     let all = s.distributions;
     let fault = run_call_checks::check_draws(s.time, s.latest, rates, all, draws);
-    if let Fault::At(k, n) = fault {
+    if let DrawFault::At(k, n) = fault {
         return refused(s, Refusal::Draw(k, n));
     }
-    let loud = run_call_checks::check_noise(noise);
-    if let Loud::At(p) = loud {
+    let noise_fault = run_call_checks::check_noise(noise);
+    if let NoiseFault::At(p) = noise_fault {
         return refused(s, Refusal::Noise(p));
     }
     steps(s, mode_s, mode_ac, memory, draws, noise, output, records)

@@ -11,15 +11,15 @@ use borrow.Author.Tests.{ltb-true, ltb-false, lt-ltb, le-ltb}
 use Rattle.run_theory.specs.Generator.{Generator}
 use Rattle.run_theory.specs.PlainBench as Bench
 use Rattle.run_call_model.proofs.FlatLists.{draws-none, draws-cons}
-use Rattle.message.specs.declared.Field as Field
+use Rattle.message.specs.declared.FieldFault as FieldFault
 use Rattle.settings.specs.declared.Distributions.{Distributions}
 use Rattle.settings.specs.declared.MessagesPerSecond.{MessagesPerSecond}
 use Rattle.draw.specs.Draw.{drawAt}
 use Rattle.draw.specs.Config.{timeAfter}
 use Rattle.draw.specs.Fault.{drawFault, faultAt, faultFrom, firstFault}
-use Rattle.draw.specs.declared.Fault as Fault
-use Rattle.run_generator.specs.Real.{faultOf}
-use Rattle.run_call_checks.specs.ChecksModel.{jumpOf, faultRead, asked}
+use Rattle.draw.specs.declared.DrawFault as DrawFault
+use Rattle.run_generator.specs.Instance.{faultOf}
+use Rattle.run_call_checks.specs.ChecksModel.{jumpOf, faultRead, checkGenerator}
 
 module _ (time latest : Float) (draws : List ℕ) where
   pub few-bytes : length draws < 65 → false ≡ jumpOf time latest draws
@@ -32,26 +32,26 @@ module _ (time latest : Float) (draws : List ℕ) where
 
 module _ (rates : MessagesPerSecond) (all : Distributions) where
   abbrev G : Generator
-  G = asked rates all
+  G = checkGenerator rates all
 
-  pub fault-same : (n k : ℕ) (bytes : List ℕ) → faultRead (faultFrom rates all n k bytes) ≡ Bench.firstFault (asked rates all) k (Bench.cut (asked rates all) n bytes)
+  pub fault-same : (n k : ℕ) (bytes : List ℕ) → faultRead (faultFrom rates all n k bytes) ≡ Bench.firstFault (checkGenerator rates all) k (Bench.cut (checkGenerator rates all) n bytes)
   unfolding faultFrom faultRead
   fault-same zero k bytes = refl
   fault-same (suc n) k bytes =
       by (drawFault rates all (drawAt bytes))
-      ∙ ap (λ (o : Option Bench.Refusal). Bench.orElse (asked rates all) (Bench.atDraw (asked rates all) k (faultOf (drawFault rates all (drawAt bytes)))) o) (fault-same n (suc k) (drop 65 bytes))
+      ∙ ap (λ (o : Option Bench.Refusal). Bench.orElse (checkGenerator rates all) (Bench.atDraw (checkGenerator rates all) k (faultOf (drawFault rates all (drawAt bytes)))) o) (fault-same n (suc k) (drop 65 bytes))
     where
-      by : (f : Field.Field) → faultRead (faultAt k f (faultFrom rates all n (suc k) (drop 65 bytes)))
-          ≡ Bench.orElse (asked rates all) (Bench.atDraw (asked rates all) k (faultOf f)) (faultRead (faultFrom rates all n (suc k) (drop 65 bytes)))
-      by Field.the-variants.Fine = unfold faultAt faultOf in refl
-      by (Field.the-variants.Wrong field) = unfold faultAt faultOf faultRead in refl
+      by : (f : FieldFault.FieldFault) → faultRead (faultAt k f (faultFrom rates all n (suc k) (drop 65 bytes)))
+          ≡ Bench.orElse (checkGenerator rates all) (Bench.atDraw (checkGenerator rates all) k (faultOf f)) (faultRead (faultFrom rates all n (suc k) (drop 65 bytes)))
+      by FieldFault.the-variants.NoFault = unfold faultAt faultOf in refl
+      by (FieldFault.the-variants.Field field) = unfold faultAt faultOf faultRead in refl
 
   module _ (time latest : Float) (draws : List ℕ) where
     abbrev refusal : Option Bench.Refusal
-    refusal = Bench.drawRefusal (asked rates all) time (some latest) (Bench.drawsOf (asked rates all) draws)
+    refusal = Bench.drawRefusal (checkGenerator rates all) time (some latest) (Bench.drawsOf (checkGenerator rates all) draws)
 
     abbrev all-faults : Option Bench.Refusal
-    all-faults = Bench.firstFault (asked rates all) 0 (Bench.drawsOf (asked rates all) draws)
+    all-faults = Bench.firstFault (checkGenerator rates all) 0 (Bench.drawsOf (checkGenerator rates all) draws)
 
     by-jump : (b : Bool) → 65 ≤ length draws → lt (timeAfter time (drawAt draws)) latest ≡ b → refusal ≡ cond b (some (Bench.wrongDraw 0 0)) all-faults
     unfolding timeAfter
@@ -60,7 +60,7 @@ module _ (rates : MessagesPerSecond) (all : Distributions) where
         ∙ ap (λ (x : Bool). cond x (some (Bench.wrongDraw 0 0)) (Bench.firstFault G 0 (G .drawAt draws ∷ Bench.drawsOf G (drop 65 draws)))) e
         ∙ ap (λ (l : List (G .Draw)). cond b (some (Bench.wrongDraw 0 0)) (Bench.firstFault G 0 l)) (sym (draws-cons G draws (lit< tt) h))
 
-    pub jump-refused : jumpOf time latest draws ≡ true → faultRead (Fault.the-variants.At 0 0) ≡ refusal
+    pub jump-refused : jumpOf time latest draws ≡ true → faultRead (DrawFault.the-variants.At 0 0) ≡ refusal
     unfolding jumpOf faultRead
     jump-refused e = go (ltb (length draws) 65) refl e
       where
@@ -74,6 +74,6 @@ module _ (rates : MessagesPerSecond) (all : Distributions) where
       where
         go : (x : Bool) → ltb (length draws) 65 ≡ x → cond x false (lt (timeAfter time (drawAt draws)) latest) ≡ false → all-faults ≡ refusal
         go true p q =
-            let none-lent = draws-none G draws (ltb-true (length draws) 65 p) in
-            ap (Bench.firstFault G 0) none-lent ∙ sym (ap (Bench.drawRefusal G time (some latest)) none-lent)
+            let none-buffers = draws-none G draws (ltb-true (length draws) 65 p) in
+            ap (Bench.firstFault G 0) none-buffers ∙ sym (ap (Bench.drawRefusal G time (some latest)) none-buffers)
         go false p q = sym (by-jump false (ltb-false (length draws) 65 p) q)

@@ -8,27 +8,27 @@ use Rattle.run_call_checks.specs.Checks.{wrongMemory}
 use Rattle.run_call_checks.specs.ChecksModel.{wrongBuffers}
 
 module _ (memory modeS modeAC output draws : ℕ) where
-  abbrev Wrong : Bool
-  Wrong = wrongMemory memory modeS modeAC || wrongBuffers output draws
+  abbrev Field : Bool
+  Field = wrongMemory memory modeS modeAC || wrongBuffers output draws
 
-  pub wrong-memory : (memory ≡ 2252 → ⊥) → true ≡ Wrong
+  pub wrong-memory : (memory ≡ 2252 → ⊥) → true ≡ Field
   wrong-memory h = sym (rw (ne-eqb memory 2252 h))
 
-  pub wrong-mode-s : memory ≡ 2252 → (modeS ≡ 1792 → ⊥) → true ≡ Wrong
+  pub wrong-mode-s : memory ≡ 2252 → (modeS ≡ 1792 → ⊥) → true ≡ Field
   wrong-mode-s m h = sym (rw (eq-eqb memory 2252 m, ne-eqb modeS 1792 h))
 
   module _ (m : memory ≡ 2252) (s : modeS ≡ 1792) where
-    pub wrong-mode-ac : (modeAC ≡ 1792 → ⊥) → true ≡ Wrong
+    pub wrong-mode-ac : (modeAC ≡ 1792 → ⊥) → true ≡ Field
     wrong-mode-ac h = sym (rw (eq-eqb memory 2252 m, eq-eqb modeS 1792 s, ne-eqb modeAC 1792 h))
 
     module _ (a : modeAC ≡ 1792) where
-      pub no-output : output ≡ 0 → true ≡ Wrong
+      pub no-output : output ≡ 0 → true ≡ Field
       no-output h = sym (rw (eq-eqb memory 2252 m, eq-eqb modeS 1792 s, eq-eqb modeAC 1792 a, eq-eqb output 0 h))
 
-      pub odd-output : (output ≡ 0 → ⊥) → (output % 2 ≡ 0 → ⊥) → true ≡ Wrong
+      pub odd-output : (output ≡ 0 → ⊥) → (output % 2 ≡ 0 → ⊥) → true ≡ Field
       odd-output o h = sym (rw (eq-eqb memory 2252 m, eq-eqb modeS 1792 s, eq-eqb modeAC 1792 a, ne-eqb output 0 o, ne-eqb (output % 2) 0 h))
 
-      pub by-draws : (output ≡ 0 → ⊥) → output % 2 ≡ 0 → not (eqb (draws % 65) 0) ≡ Wrong
+      pub by-draws : (output ≡ 0 → ⊥) → output % 2 ≡ 0 → not (eqb (draws % 65) 0) ≡ Field
       by-draws o h = sym (rw (eq-eqb memory 2252 m, eq-eqb modeS 1792 s, eq-eqb modeAC 1792 a, ne-eqb output 0 o, eq-eqb (output % 2) 0 h))
 
 -- memory that is not refused has its length

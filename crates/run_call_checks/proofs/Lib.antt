@@ -1,3 +1,3 @@
-pub mod Quiet
+pub mod NoiseInRange
 pub mod Lengths
 pub mod Draws

@@ -13,8 +13,8 @@ use Rattle.settings.specs.declared.Distributions.{Distributions}
 use Rattle.settings.specs.declared.MessagesPerSecond.{MessagesPerSecond}
 use Rattle.draw.specs.Draw.{drawAt}
 use Rattle.draw.specs.Config.{timeAfter}
-use Rattle.draw.specs.declared.Fault as Fault
-use Rattle.run_generator.specs.Real.{real}
+use Rattle.draw.specs.declared.DrawFault as DrawFault
+use Rattle.run_generator.specs.Instance.{instanceOf}
 
 -- and of a run call's own: output empty or of odd length, or draw bytes no multiple of 65
 abbrev pub wrongBuffers : ℕ → ℕ → Bool
@@ -25,10 +25,10 @@ unfoldable pub jumpOf : Float → Float → List ℕ → Bool
 jumpOf time latest draws = cond (ltb (length draws) 65) false (lt (timeAfter time (drawAt draws)) latest)
 
 -- the first fault of draws, as the plain bench refuses it
-unfoldable pub faultRead : Fault.Fault → Option Bench.Refusal
-faultRead Fault.the-variants.Clean = none
-faultRead (Fault.the-variants.At k field) = some (Bench.wrongDraw k field)
+unfoldable pub faultRead : DrawFault.DrawFault → Option Bench.Refusal
+faultRead DrawFault.the-variants.None = none
+faultRead (DrawFault.the-variants.At k field) = some (Bench.wrongDraw k field)
 
 -- the generator of rates and distributions: the check of draws turns on nothing else
-abbrev pub asked : MessagesPerSecond → Distributions → Generator
-asked rates all = real (record { rates = rates; distributions = all; delays = record { «mode_s» = nought; «mode_ac» = nought }; modeS = []; modeAC = [] }) 0
+abbrev pub checkGenerator : MessagesPerSecond → Distributions → Generator
+checkGenerator rates all = instanceOf (record { rates = rates; distributions = all; delays = record { «mode_s» = nought; «mode_ac» = nought }; modeS = []; modeAC = [] }) 0

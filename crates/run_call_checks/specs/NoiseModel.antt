@@ -5,15 +5,15 @@ use mathlib.Core.List.{List, [], _∷_}
 use mathlib.Core.Option.{Option, none, some}
 use lib.Ieee.{Float}
 use Rattle.run_theory.specs.PlainBench as Bench
-use Rattle.run_generator.specs.Real.{loud}
-use Rattle.run_call_checks.specs.declared.Loud as Loud
+use Rattle.run_generator.specs.Instance.{outOfRange}
+use Rattle.run_call_checks.specs.declared.NoiseFault as NoiseFault
 
 -- the first noise value at fault, from place k on
-unfoldable pub loudFrom : ℕ → List Float → Option Bench.Refusal
-loudFrom k [] = none
-loudFrom k (v ∷ vs) = cond (loud v) (some (Bench.wrongNoise k)) (loudFrom (suc k) vs)
+unfoldable pub outOfRangeFrom : ℕ → List Float → Option Bench.Refusal
+outOfRangeFrom k [] = none
+outOfRangeFrom k (v ∷ vs) = cond (outOfRange v) (some (Bench.wrongNoise k)) (outOfRangeFrom (suc k) vs)
 
 -- the code's answer, as the plain bench refuses it
-unfoldable pub loudRead : Loud.Loud → Option Bench.Refusal
-loudRead Loud.the-variants.Quiet = none
-loudRead (Loud.the-variants.At place) = some (Bench.wrongNoise place)
+unfoldable pub noiseFaultRead : NoiseFault.NoiseFault → Option Bench.Refusal
+noiseFaultRead NoiseFault.the-variants.None = none
+noiseFaultRead (NoiseFault.the-variants.At index) = some (Bench.wrongNoise index)

@@ -4,10 +4,10 @@ ghost use mathlib.Core.Bool.{_||_, false, cond};
 ghost use mathlib.Core.Option.{some, none};
 ghost use Rattle.run_theory.specs.PlainBench.{drawRefusal, drawsOf};
 ghost use Rattle.run_call_checks.specs.Checks.{wrongMemory};
-ghost use Rattle.run_call_checks.specs.ChecksModel.{wrongBuffers, jumpOf, faultRead, asked};
-ghost use Rattle.run_generator.specs.Real.{loud};
-ghost use Rattle.run_call_checks.specs.NoiseModel.{loudFrom, loudRead};
-use draw::Fault;
+ghost use Rattle.run_call_checks.specs.ChecksModel.{wrongBuffers, jumpOf, faultRead, checkGenerator};
+ghost use Rattle.run_generator.specs.Instance.{outOfRange};
+ghost use Rattle.run_call_checks.specs.NoiseModel.{outOfRangeFrom, noiseFaultRead};
+use draw::DrawFault;
 use settings::Distributions;
 use settings::MessagesPerSecond;
 
@@ -56,66 +56,66 @@ pub fn check_draws(
     rates: MessagesPerSecond,
     all: Distributions,
     draws: &[u8],
-) -> Fault
-    ensures { λ r. ⌜ faultRead r ≡ drawRefusal (asked rates all) time (some latest) (drawsOf (asked rates all) (now (draws .entry))) ⌝ }
+) -> DrawFault
+    ensures { λ r. ⌜ faultRead r ≡ drawRefusal (checkGenerator rates all) time (some latest) (drawsOf (checkGenerator rates all) (now (draws .entry))) ⌝ }
 {
     if jumps_back(time, latest, draws) {
-        return Fault::At(0, 0);
+        return DrawFault::At(0, 0);
     }
     draw_fields::first_fault(draws, rates, all)
 }
 
 // The place of the first noise value at fault, or none.
-pub enum Loud {
-    Quiet,
+pub enum NoiseFault {
+    None,
     At(u64),
 }
 
 // The size that noise may have.
-const LOUDEST: f32 = 64.0;
+const NOISE_LIMIT: f32 = 64.0;
 
 // The first noise value at fault.
-fn first_loud(noise: &[f32]) -> Loud
-    ensures { λ r. ⌜ loudRead r ≡ loudFrom 0 (now (noise .entry)) ⌝ }
+fn first_out_of_range(noise: &[f32]) -> NoiseFault
+    ensures { λ r. ⌜ noiseFaultRead r ≡ outOfRangeFrom 0 (now (noise .entry)) ⌝ }
 {
     let mut k: usize = 0;
     while k < noise.len() {
-        if !float_range::within_f32(noise[k], LOUDEST) {
-            return Loud::At(k as u64);
+        if !float_range::within_f32(noise[k], NOISE_LIMIT) {
+            return NoiseFault::At(k as u64);
         }
         k = k + 1;
     }
-    Loud::Quiet
+    NoiseFault::None
 }
 
-fn still_quiet(quiet: bool, x: f32) -> bool
-    ensures { λ r. ⌜ r ≡ cond (loud x) false quiet ⌝ }
+fn still_in_range(in_range: bool, x: f32) -> bool
+    ensures { λ r. ⌜ r ≡ cond (outOfRange x) false in_range ⌝ }
 {
-    if float_range::within_f32(x, LOUDEST) {
-        return quiet;
+    if float_range::within_f32(x, NOISE_LIMIT) {
+        return in_range;
     }
     false
 }
 
 // No noise value is at fault. Without an early exit the compiler can test several at once.
-fn all_quiet(noise: &[f32]) -> bool
-    ensures { λ r. ⌜ cond r (loudFrom 0 (now (noise .entry))) none ≡ none ⌝ }
+fn all_in_range(noise: &[f32]) -> bool
+    ensures { λ r. ⌜ cond r (outOfRangeFrom 0 (now (noise .entry))) none ≡ none ⌝ }
 {
-    let mut quiet = true;
+    let mut in_range = true;
     let mut k: usize = 0;
     while k < noise.len() {
-        quiet = still_quiet(quiet, noise[k]);
+        in_range = still_in_range(in_range, noise[k]);
         k = k + 1;
     }
-    quiet
+    in_range
 }
 
 // Refusal 8.
-pub fn check_noise(noise: &[f32]) -> Loud
-    ensures { λ r. ⌜ loudRead r ≡ loudFrom 0 (now (noise .entry)) ⌝ }
+pub fn check_noise(noise: &[f32]) -> NoiseFault
+    ensures { λ r. ⌜ noiseFaultRead r ≡ outOfRangeFrom 0 (now (noise .entry)) ⌝ }
 {
-    if all_quiet(noise) {
-        return Loud::Quiet;
+    if all_in_range(noise) {
+        return NoiseFault::None;
     }
-    first_loud(noise)
+    first_out_of_range(noise)
 }

@@ -10,7 +10,7 @@ use lib.Seq.{drop-at, take-at, take-all, take-nil, take-append-add}
 use borrow.Author.Tests.{le-leb}
 use Rattle.run_theory.specs.Generator.{Generator, Sample, NoisePair}
 use Rattle.run_theory.specs.PlainRun.{Reply, timeOf, ended, replies, samplesFrom, plainSamples, plainRecords}
-use Rattle.run_theory.specs.PlainBench.{Stop, done, outputFull, wantsNoise, wantsDraws, recordsFull, Refusal, pairs, flatten, join, over, Call, Result, drawsOf, refusalOf, Lent, lentOf, Bench, Benched, bench0, benchSteps, fuel, counts, Given, resultOf, benchCall, benchResults, benchAfter}
+use Rattle.run_theory.specs.PlainBench.{Stop, done, outputFull, wantsNoise, wantsDraws, recordsFull, Refusal, pairs, flatten, join, over, Call, Result, drawsOf, refusalOf, Remaining, remainingOf, Bench, Benched, bench0, benchSteps, fuel, counts, Given, resultOf, benchCall, benchResults, benchAfter}
 use Rattle.run_theory.specs.Laws.{Laws, Accepted}
 use Rattle.run_theory.specs.Demand3.{Prefix, bench, plainOutput, plainLines}
 use Rattle.run_call_model.specs.Machine.{State, Ran, opened, machineSteps, machineCall, machineResults, machineAfter, runs}
@@ -66,11 +66,11 @@ module _ (G : Generator) (L : Laws G) (o : G .Value) where
     stays : Finished b → p .1 ≡ b
 
   -- a finished bench stops at step 1
-  steps-stay : (f : ℕ) (b : Bench G) (l : Lent G) → Finished b → benchSteps G (suc f) b l .bench ≡ b
+  steps-stay : (f : ℕ) (b : Bench G) (l : Remaining G) → Finished b → benchSteps G (suc f) b l .bench ≡ b
   steps-stay f b l h = rw (h .0, le-leb total (length (b .used)) (h .1))
 
   call-kept : (b : Bench G) (z : State G o) (c : Call G) (x : Option Refusal) → Reached G L b → Matches G L o b z
-      → (x ≡ none → Accepted G (timeOf G t0 (b .taken)) (b .mark) (lentOf G c .draws)) → CallKept b c (benchCall G b c x) (machineCall G o z c x)
+      → (x ≡ none → Accepted G (timeOf G t0 (b .taken)) (b .mark) (remainingOf G c .draws)) → CallKept b c (benchCall G b c x) (machineCall G o z c x)
   call-kept b z c (some q) g h acc = record {
     given = refl;
     reached = g;
@@ -102,11 +102,11 @@ module _ (G : Generator) (L : Laws G) (o : G .Value) where
         ∙ sym (join-append (plainRecords G (b .taken)) (rz .records))
         ∙ ap (λ (xs : List (List Byte)). join xs) (k .records);
     taken =
-        ap (λ (r : Lent G). b .taken ++ take (length (l .draws) - length (r .draws)) (l .draws)) (k .rest)
+        ap (λ (r : Remaining G). b .taken ++ take (length (l .draws) - length (r .draws)) (l .draws)) (k .rest)
         ∙ ap (λ (xs : List Draw). b .taken ++ xs) (first-of (m .tk) (rb .rest .draws) (l .draws) (m .draws))
         ∙ sym (m .taken);
     used =
-        ap (λ (r : Lent G). flatten (b .used) ++ take (2 * (length (l .noise) - length (r .noise))) (c .noise)) (k .rest)
+        ap (λ (r : Remaining G). flatten (b .used) ++ take (2 * (length (l .noise) - length (r .noise))) (c .noise)) (k .rest)
         ∙ ap (λ (i : ℕ). flatten (b .used) ++ take (2 * i) (c .noise)) {x = length (l .noise) - length (rb .rest .noise)} {y = length (m .us)} (omega (arith, ap length (m .noise), length-append (m .us) (rb .rest .noise)))
         ∙ ap (λ (xs : List Value). flatten (b .used) ++ xs) (take-pairs (m .us) (rb .rest .noise) (c .noise) (m .noise))
         ∙ sym (flatten-append (b .used) (m .us))
@@ -115,8 +115,8 @@ module _ (G : Generator) (L : Laws G) (o : G .Value) where
     stays = λ e. steps-stay (length (l .draws) + l .room) b l e;
   }
     where
-      l : Lent G
-      l = lentOf G c
+      l : Remaining G
+      l = remainingOf G c
 
       rb : Benched G
       rb = benchSteps G (fuel G l) b l

@@ -9,7 +9,7 @@ use lib.ListN.{set, getD, replicate, length, take, drop, length-append, length-d
 use lib.Seq.{length-take-le, drop-drop, drop-cons, set-at, getD-append-add, getD-drop, take-at, drop-at}
 use Rattle.run_theory.specs.Generator.{Generator, Pair}
 use Rattle.run_theory.specs.PlainBench.{pairs, flatten, join, over, cut, drawsOf}
-use Rattle.run_call_model.specs.Buffers.{laid}
+use Rattle.run_call_model.specs.Buffers.{overwritten}
 
 module _ {X : Type 0} where
   pub length-flatten : (l : List (Pair X)) → length (flatten l) ≡ 2 * length l
@@ -88,14 +88,14 @@ module _ {X : Type 0} where
 
 -- ---- a buffer with xs written at a place
 module _ {X : Type 0} where
-  pub length-laid : (at : ℕ) (xs buffer : List X) → at + length xs ≤ length buffer → length (laid at xs buffer) ≡ length buffer
-  length-laid at xs buffer h =
+  pub length-overwritten : (at : ℕ) (xs buffer : List X) → at + length xs ≤ length buffer → length (overwritten at xs buffer) ≡ length buffer
+  length-overwritten at xs buffer h =
       length-append (take at buffer) (xs ++ drop (at + length xs) buffer)
       ∙ omega (arith, length-take-le at buffer (omega arith), length-append xs (drop (at + length xs) buffer), length-drop (at + length xs) buffer)
 
   -- one part after another is both at once
-  pub laid-laid : (at n : ℕ) (xs ys buffer : List X) → length xs ≡ n → at + n ≤ length buffer → laid (at + n) ys (laid at xs buffer) ≡ laid at (xs ++ ys) buffer
-  laid-laid at n xs ys buffer e h =
+  pub overwritten-overwritten : (at n : ℕ) (xs ys buffer : List X) → length xs ≡ n → at + n ≤ length buffer → overwritten (at + n) ys (overwritten at xs buffer) ≡ overwritten at (xs ++ ys) buffer
+  overwritten-overwritten at n xs ys buffer e h =
       (λ i. front i ++ (ys ++ back i))
       ∙ append-assoc (take at buffer) xs (ys ++ drop (at + length (xs ++ ys)) buffer)
       ∙ ap (λ (l : List X). take at buffer ++ l) (sym (append-assoc xs ys (drop (at + length (xs ++ ys)) buffer)))
@@ -103,15 +103,15 @@ module _ {X : Type 0} where
       len : length (take at buffer ++ xs) ≡ at + n
       len = length-append (take at buffer) xs ∙ omega (arith, length-take-le at buffer (omega arith))
 
-      whole : laid at xs buffer ≡ (take at buffer ++ xs) ++ drop (at + length xs) buffer
+      whole : overwritten at xs buffer ≡ (take at buffer ++ xs) ++ drop (at + length xs) buffer
       whole = sym (append-assoc (take at buffer) xs (drop (at + length xs) buffer))
 
-      front : take (at + n) (laid at xs buffer) ≡ take at buffer ++ xs
+      front : take (at + n) (overwritten at xs buffer) ≡ take at buffer ++ xs
       front = ap (λ (l : List X). take (at + n) l) whole ∙ take-at (take at buffer ++ xs) (drop (at + length xs) buffer) (at + n) len
 
-      back : drop (at + n + length ys) (laid at xs buffer) ≡ drop (at + length (xs ++ ys)) buffer
+      back : drop (at + n + length ys) (overwritten at xs buffer) ≡ drop (at + length (xs ++ ys)) buffer
       back =
-          sym (drop-drop (length ys) (at + n) (laid at xs buffer))
+          sym (drop-drop (length ys) (at + n) (overwritten at xs buffer))
           ∙ ap (λ (l : List X). drop (length ys) l) (ap (λ (l : List X). drop (at + n) l) whole ∙ drop-at (take at buffer ++ xs) (drop (at + length xs) buffer) (at + n) len)
           ∙ drop-drop (length ys) (at + length xs) buffer
           ∙ ap (λ (k : ℕ). drop k buffer) {x = at + length xs + length ys} {y = at + length (xs ++ ys)} (omega (arith, length-append xs ys))
@@ -139,8 +139,8 @@ module _ {X : Type 0} where
   pairs-none (x ∷ y ∷ xs) h = absurd (omega arith)
 
   -- one more after a part
-  pub laid-snoc : (at n : ℕ) (xs buffer : List X) (v : X) → length xs ≡ n → at + n < length buffer → set (laid at xs buffer) (at + n) v ≡ laid at (xs ++ (v ∷ [])) buffer
-  laid-snoc at n xs buffer v e h =
+  pub overwritten-snoc : (at n : ℕ) (xs buffer : List X) (v : X) → length xs ≡ n → at + n < length buffer → set (overwritten at xs buffer) (at + n) v ≡ overwritten at (xs ++ (v ∷ [])) buffer
+  overwritten-snoc at n xs buffer v e h =
       ap (λ (l : List X). set l (at + n) v) (sym (append-assoc (take at buffer) xs (drop (at + length xs) buffer)) ∙ ap (λ (l : List X). (take at buffer ++ xs) ++ l) (ap (λ (k : ℕ). drop (at + k) buffer) e ∙ drop-cons buffer (at + n) v h))
       ∙ set-at (take at buffer ++ xs) (getD buffer (at + n) v) (drop (suc (at + n)) buffer) v (at + n) (length-append (take at buffer) xs ∙ omega (arith, length-take-le at buffer (omega arith)))
       ∙ append-assoc (take at buffer) xs (v ∷ drop (suc (at + n)) buffer)
@@ -148,8 +148,8 @@ module _ {X : Type 0} where
       ∙ ap (λ (k : ℕ). take at buffer ++ ((xs ++ (v ∷ [])) ++ drop k buffer)) {x = suc (at + n)} {y = at + length (xs ++ (v ∷ []))} (omega (arith, length-append xs (v ∷ [])))
 
   -- what is beyond a part is as it was
-  pub laid-beyond : (at n k : ℕ) (xs buffer : List X) (d : X) → length xs ≡ n → at + n ≤ length buffer → getD (laid at xs buffer) (at + n + k) d ≡ getD buffer (at + n + k) d
-  laid-beyond at n k xs buffer d e h =
+  pub overwritten-beyond : (at n k : ℕ) (xs buffer : List X) (d : X) → length xs ≡ n → at + n ≤ length buffer → getD (overwritten at xs buffer) (at + n + k) d ≡ getD buffer (at + n + k) d
+  overwritten-beyond at n k xs buffer d e h =
       ap (λ (l : List X). getD l (at + n + k) d) (sym (append-assoc (take at buffer) xs (drop (at + length xs) buffer)) ∙ ap (λ (i : ℕ). (take at buffer ++ xs) ++ drop (at + i) buffer) e)
       ∙ ap (λ (i : ℕ). getD ((take at buffer ++ xs) ++ drop (at + n) buffer) (i + k) d) (sym (length-append (take at buffer) xs ∙ omega (arith, length-take-le at buffer (omega arith))))
       ∙ getD-append-add (take at buffer ++ xs) (drop (at + n) buffer) k d

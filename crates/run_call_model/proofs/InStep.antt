@@ -10,8 +10,8 @@ use native.Mathlib.Omega.{arith}
 use lib.ListN.{length}
 use Rattle.run_theory.specs.Generator.{Generator, Sample, NoisePair, silence, noisy}
 use Rattle.run_theory.specs.PlainRun.{Kind, ignored, ends, reply, timeOf, ended, replyOf, replies, addNth, hit, sumAt, plainSamples, plainRecords}
-use Rattle.run_theory.specs.PlainBench.{done, Lent, Step, halt, drain, due, taking, latest, Bench, Benched, bench0, benchStep, benchOn, benchSteps}
-use Rattle.run_call_model.specs.Machine.{window, rd, wr, put, later, State, Ran, opened, stateStep, wrote, sample, took, withSample, noted, machineOn, machineSteps}
+use Rattle.run_theory.specs.PlainBench.{done, Remaining, Step, halt, drain, due, taking, latest, Bench, Benched, bench0, benchStep, benchOn, benchSteps}
+use Rattle.run_call_model.specs.Machine.{window, rd, wr, put, later, State, Ran, opened, stateStep, stateAfterSample, sample, stateAfterDraw, withSample, noted, machineOn, machineSteps}
 use Rattle.run_theory.specs.Laws.{Laws}
 use Rattle.run_theory.proofs.PlainFacts.{length-snoc, hit-before, hit-at}
 use Rattle.run_call_model.proofs.Ring.{Fit, fit-blank, rd-blank, fit-wr, fit-put, rd-back, rd-here, put-ahead, put-at}
@@ -51,8 +51,8 @@ module _ (G : Generator) (L : Laws G) (o : G .Value) where
   sample-is : (b : Bench G) (z : State G o) (v : NoisePair G) → Matches b z → sample G o z v ≡ noisy G (sumAt G (replies G t0 (b .taken)) (length (b .used))) v
   sample-is b z v h = ap (λ (a : Sample G). noisy G a v) (ap (λ (n : ℕ). rd G o (z .memory) (n % w)) (h .written) ∙ h .holds (length (b .used)) (omega arith) (omega (arith, pos)))
 
-  matches-wrote : (b : Bench G) (z : State G o) (v : NoisePair G) (m : Time) (m′ : Option Time) → Reached G L b → Matches b z → StandsFor G L m′ m → Matches (record { taken = b .taken; used = b .used ++ (v ∷ []); mark = m′ }) (wrote G o z m)
-  matches-wrote b z v m m′ g h e = record {
+  matches-samples-written : (b : Bench G) (z : State G o) (v : NoisePair G) (m : Time) (m′ : Option Time) → Reached G L b → Matches b z → StandsFor G L m′ m → Matches (record { taken = b .taken; used = b .used ++ (v ∷ []); mark = m′ }) (stateAfterSample G o z m)
+  matches-samples-written b z v m m′ g h e = record {
     written = ap suc (h .written) ∙ sym (length-snoc (b .used) v);
     time = h .time;
     over = h .over;
@@ -72,10 +72,10 @@ module _ (G : Generator) (L : Laws G) (o : G .Value) where
           ∙ sym (g .behind n q)
       on n le lt (no q) = rd-back G o pos (z .memory) u n (silence G) (omega arith) (omega arith) ∙ h .holds n (omega arith) (omega arith)
 
-  matches-took : (b : Bench G) (z : State G o) (l l′ : Lent G) (d : Draw) (k : Kind) → Reached G L b → Left G L b l → Matches b z
+  matches-draw-taken : (b : Bench G) (z : State G o) (l l′ : Remaining G) (d : Draw) (k : Kind) → Reached G L b → Left G L b l → Matches b z
       → Takes G (ended G t0 (b .taken)) (length (b .used)) (timeOf G t0 (b .taken)) l d k l′
-      → Matches (record { taken = b .taken ++ (d ∷ []); used = b .used; mark = b .mark }) (took G o z d k)
-  matches-took b z l l′ d ignored g a h s = record {
+      → Matches (record { taken = b .taken ++ (d ∷ []); used = b .used; mark = b .mark }) (stateAfterDraw G o z d k)
+  matches-draw-taken b z l l′ d ignored g a h s = record {
     written = h .written;
     time = ap (λ (t : Time). after t d) (h .time) ∙ sym (take-time G L b l l′ d ignored g a s);
     over = h .over ∙ s .going ∙ sym (take-ended G L b l l′ d ignored g a s);
@@ -83,7 +83,7 @@ module _ (G : Generator) (L : Laws G) (o : G .Value) where
     fit = h .fit;
     holds = λ n le lt. h .holds n le lt ∙ sym (take-sum G L b l l′ d ignored g a s n);
   }
-  matches-took b z l l′ d ends g a h s = record {
+  matches-draw-taken b z l l′ d ends g a h s = record {
     written = h .written;
     time = ap (λ (t : Time). after t d) (h .time) ∙ sym (take-time G L b l l′ d ends g a s);
     over = sym (take-ended G L b l l′ d ends g a s);
@@ -91,7 +91,7 @@ module _ (G : Generator) (L : Laws G) (o : G .Value) where
     fit = h .fit;
     holds = λ n le lt. h .holds n le lt ∙ sym (take-sum G L b l l′ d ends g a s n);
   }
-  matches-took b z l l′ d (reply x) g a h s = record {
+  matches-draw-taken b z l l′ d (reply x) g a h s = record {
     written = h .written;
     time = ap (λ (t : Time). after t d) (h .time) ∙ sym (take-time G L b l l′ d (reply x) g a s);
     over = h .over ∙ s .going ∙ sym (take-ended G L b l l′ d (reply x) g a s);
@@ -126,13 +126,13 @@ module _ (G : Generator) (L : Laws G) (o : G .Value) where
     pub finished : rb .stop ≡ done → (ended G t0 (rb .bench .taken) ≡ true) × (total ≤ length (rb .bench .used))
 
   -- one step on both, and the rest by the hypothesis
-  module _ (goB : Bench G → Lent G → Benched G) (goZ : State G o → Lent G → Ran G o)
-      (ih : (b : Bench G) (z : State G o) (l : Lent G) → Reached G L b → Matches b z → Left G L b l → Kept b (goB b l) (goZ z l))
-      (b : Bench G) (z : State G o) (l : Lent G) (g : Reached G L b) (h : Matches b z) (a : Left G L b l) where
-    wrote-kept : (v : NoisePair G) (m : Option Time) (l′ : Lent G) (r : Ran G o) → length (b .used) < total
+  module _ (goB : Bench G → Remaining G → Benched G) (goZ : State G o → Remaining G → Ran G o)
+      (ih : (b : Bench G) (z : State G o) (l : Remaining G) → Reached G L b → Matches b z → Left G L b l → Kept b (goB b l) (goZ z l))
+      (b : Bench G) (z : State G o) (l : Remaining G) (g : Reached G L b) (h : Matches b z) (a : Left G L b l) where
+    samples-written-kept : (v : NoisePair G) (m : Option Time) (l′ : Remaining G) (r : Ran G o) → length (b .used) < total
         → Kept (record { taken = b .taken; used = b .used ++ (v ∷ []); mark = m }) (goB (record { taken = b .taken; used = b .used ++ (v ∷ []); mark = m }) l′) r
         → Kept b (goB (record { taken = b .taken; used = b .used ++ (v ∷ []); mark = m }) l′) (withSample G o (sample G o z v) r)
-    wrote-kept v m l′ r lt k = record {
+    samples-written-kept v m l′ r lt k = record {
       rest = k .rest;
       stop = k .stop;
       reached = k .reached;
@@ -146,7 +146,7 @@ module _ (G : Generator) (L : Laws G) (o : G .Value) where
       finished = k .finished;
     }
 
-    taken-kept : (d : Draw) (k : Kind) (l′ : Lent G) (r : Ran G o)
+    taken-kept : (d : Draw) (k : Kind) (l′ : Remaining G) (r : Ran G o)
         → Takes G (ended G t0 (b .taken)) (length (b .used)) (timeOf G t0 (b .taken)) l d k l′
         → Kept (record { taken = b .taken ++ (d ∷ []); used = b .used; mark = b .mark }) (goB (record { taken = b .taken ++ (d ∷ []); used = b .used; mark = b .mark }) l′) r
         → Kept b (goB (record { taken = b .taken ++ (d ∷ []); used = b .used; mark = b .mark }) l′) (noted G o (after (timeOf G t0 (b .taken)) d) d k r)
@@ -181,7 +181,7 @@ module _ (G : Generator) (L : Laws G) (o : G .Value) where
       finished = k .finished;
     }
 
-    due-mark : (t : Time) (v : NoisePair G) (l′ : Lent G) → Dues G (ended G t0 (b .taken)) (length (b .used)) (timeOf G t0 (b .taken)) l t v l′ → StandsFor G L (latest G (b .mark) t) (later G (z .mark) t)
+    due-mark : (t : Time) (v : NoisePair G) (l′ : Remaining G) → Dues G (ended G t0 (b .taken)) (length (b .used)) (timeOf G t0 (b .taken)) l t v l′ → StandsFor G L (latest G (b .mark) t) (later G (z .mark) t)
     due-mark t v l′ f =
         let left = due-left G L b l l′ t v a f in
         rw (f .time)
@@ -192,23 +192,23 @@ module _ (G : Generator) (L : Laws G) (o : G .Value) where
     on-kept (halt s) f = record
         { rest = refl; stop = refl; reached = g; matches = h; samples = append-nil (plainSamples G (b .taken) (b .used)); records = append-nil (plainRecords G (b .taken)); finished = λ e. f .at-done e }
     on-kept (drain v l′) f =
-        wrote-kept v (b .mark) l′ (goZ (wrote G o z (z .mark)) l′) (f .short)
-        (ih (record { taken = b .taken; used = b .used ++ (v ∷ []); mark = b .mark }) (wrote G o z (z .mark)) l′
-        (reached-drain G L b l l′ v g f) (matches-wrote b z v (z .mark) (b .mark) g h (h .mark)) (left-drain G L b l l′ v a f))
+        samples-written-kept v (b .mark) l′ (goZ (stateAfterSample G o z (z .mark)) l′) (f .short)
+        (ih (record { taken = b .taken; used = b .used ++ (v ∷ []); mark = b .mark }) (stateAfterSample G o z (z .mark)) l′
+        (reached-drain G L b l l′ v g f) (matches-samples-written b z v (z .mark) (b .mark) g h (h .mark)) (left-drain G L b l l′ v a f))
     on-kept (due t v l′) f =
-        wrote-kept v (latest G (b .mark) t) l′ (goZ (wrote G o z (later G (z .mark) t)) l′) (omega (arith, f .far, reply-fits G (G .start t (f .next)) (f .first) (f .is)))
-        (ih (record { taken = b .taken; used = b .used ++ (v ∷ []); mark = latest G (b .mark) t }) (wrote G o z (later G (z .mark) t)) l′
-        (reached-due G L b l l′ t v g a f) (matches-wrote b z v (later G (z .mark) t) (latest G (b .mark) t) g h (due-mark t v l′ f)) (left-due G L b l l′ t v g a f))
+        samples-written-kept v (latest G (b .mark) t) l′ (goZ (stateAfterSample G o z (later G (z .mark) t)) l′) (omega (arith, f .far, reply-fits G (G .start t (f .next)) (f .first) (f .is)))
+        (ih (record { taken = b .taken; used = b .used ++ (v ∷ []); mark = latest G (b .mark) t }) (stateAfterSample G o z (later G (z .mark) t)) l′
+        (reached-due G L b l l′ t v g a f) (matches-samples-written b z v (later G (z .mark) t) (latest G (b .mark) t) g h (due-mark t v l′ f)) (left-due G L b l l′ t v g a f))
     on-kept (taking d k l′) f =
-        subst (λ (t : Time). Kept b (goB (record { taken = b .taken ++ (d ∷ []); used = b .used; mark = b .mark }) l′) (noted G o (after t d) d k (goZ (took G o z d k) l′))) (sym (h .time))
-        (taken-kept d k l′ (goZ (took G o z d k) l′) f
-        (ih (record { taken = b .taken ++ (d ∷ []); used = b .used; mark = b .mark }) (took G o z d k) l′
-        (reached-take G L b l l′ d k g a f) (matches-took b z l l′ d k g a h f) (left-take G L b l l′ d k g a f)))
+        subst (λ (t : Time). Kept b (goB (record { taken = b .taken ++ (d ∷ []); used = b .used; mark = b .mark }) l′) (noted G o (after t d) d k (goZ (stateAfterDraw G o z d k) l′))) (sym (h .time))
+        (taken-kept d k l′ (goZ (stateAfterDraw G o z d k) l′) f
+        (ih (record { taken = b .taken ++ (d ∷ []); used = b .used; mark = b .mark }) (stateAfterDraw G o z d k) l′
+        (reached-take G L b l l′ d k g a f) (matches-draw-taken b z l l′ d k g a h f) (left-take G L b l l′ d k g a f)))
 
-  steps-agree : (b : Bench G) (z : State G o) (l : Lent G) → Matches b z → stateStep G o z l ≡ benchStep G b l
+  steps-agree : (b : Bench G) (z : State G o) (l : Remaining G) → Matches b z → stateStep G o z l ≡ benchStep G b l
   steps-agree b z l h = rw (h .over, h .written, h .time)
 
-  pub loop-kept : (f : ℕ) (b : Bench G) (z : State G o) (l : Lent G) → Reached G L b → Matches b z → Left G L b l → Kept b (benchSteps G f b l) (machineSteps G o f z l)
+  pub loop-kept : (f : ℕ) (b : Bench G) (z : State G o) (l : Remaining G) → Reached G L b → Matches b z → Left G L b l → Kept b (benchSteps G f b l) (machineSteps G o f z l)
   loop-kept zero b z l g h a = record
       { rest = refl; stop = refl; reached = g; matches = h; samples = append-nil (plainSamples G (b .taken) (b .used)); records = append-nil (plainRecords G (b .taken)); finished = λ e. let q : _≡_ {A = ℕ} 0 1 = cc in absurd (omega arith) }
   loop-kept (suc f) b z l g h a =

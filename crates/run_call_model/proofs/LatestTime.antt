@@ -6,7 +6,7 @@ use mathlib.Core.Path.{_≡_, refl, sym, ap, _∙_}
 use Prim.Native.Nat.{ℕ, zero, suc}
 use native.Mathlib.Omega.{arith}
 use Rattle.run_theory.specs.Generator.{Generator}
-use Rattle.run_theory.specs.PlainBench.{Refusal, wrongLength, wrongDraw, Call, drawsOf, wrongLengths, orElse, atDraw, firstFault, firstLoud, jumpsBack, drawRefusal, refusalOf, latest, latestOrFirst}
+use Rattle.run_theory.specs.PlainBench.{Refusal, wrongLength, wrongDraw, Call, drawsOf, wrongLengths, orElse, atDraw, firstFault, firstOutOfRange, jumpsBack, drawRefusal, refusalOf, latest, latestOrFirst}
 use Rattle.run_theory.specs.Laws.{Laws}
 use Rattle.run_call_model.specs.Machine.{later}
 
@@ -37,7 +37,7 @@ module _ (G : Generator) (L : Laws G) where
   pub refusal-alike : (t : Time) (p : Option Time) (m : Time) (c : Call G) → L .Good t → StandsFor p m → refusalOf G t (some m) c ≡ refusalOf G t p c
   refusal-alike t p m c g h =
       ap (λ (x : Time). refusalOf G t (some x) c) h
-      ∙ ap (λ (x : Option Refusal). cond (wrongLengths G c) (some wrongLength) (orElse G x (firstLoud G 0 (c .noise)))) (draws (drawsOf G (c .draws)))
+      ∙ ap (λ (x : Option Refusal). cond (wrongLengths G c) (some wrongLength) (orElse G x (firstOutOfRange G 0 (c .noise)))) (draws (drawsOf G (c .draws)))
     where
       either : (x y : Bool) (q r : Option Refusal) → r ≡ q → cond x q r ≡ cond y q r
       either true true q r e = refl

@@ -7,7 +7,7 @@ pub mod Counted
 pub mod Demand3
 pub mod Batch
 pub mod Stretch
-pub mod Turns
-pub mod Plans
+pub mod Progress
+pub mod Plan
 pub mod Batched
 pub mod FloatLaws

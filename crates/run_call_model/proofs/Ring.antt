@@ -57,8 +57,8 @@ module _ (G : Generator) (o : G .Value) where
   }
 
   module _ (pos : zero < window G o) where
-    place-lt : (n : ℕ) → n % w < w
-    place-lt n = mod-lt n pos
+    slot-lt : (n : ℕ) → n % w < w
+    slot-lt n = mod-lt n pos
 
     pub fit-put : (m : List Value) (s : ℕ) (xs : List (Sample G)) → Fit m → Fit (put G o m s xs)
     fit-put m s [] h = h
@@ -72,7 +72,7 @@ module _ (G : Generator) (o : G .Value) where
     rd-back m s n a lt near = rd-other m (s % w) (n % w) a (λ e. mod-apart w s n lt near (sym e))
 
     pub rd-here : (m : List Value) (s : ℕ) (a : Sample G) → Fit m → rd G o (wr G o m (s % w) a) (s % w) ≡ a
-    rd-here m s a f = rd-same m (s % w) a f (place-lt s)
+    rd-here m s a f = rd-same m (s % w) a f (slot-lt s)
 
     pub put-ahead : (m : List Value) (s n : ℕ) (xs : List (Sample G)) → n < s → s + length xs ≤ n + w → rd G o (put G o m s xs) (n % w) ≡ rd G o m (n % w)
     put-ahead m s n [] lt near = refl

@@ -13,23 +13,23 @@ use borrow.Author.Tests.{ltb-true, ltb-false}
 use Rattle.run_theory.specs.Generator.{Generator, Sample, NoisePair, silence, add, noisy}
 use Rattle.run_theory.specs.PlainBench.{pairs, flatten}
 use Rattle.run_call_model.specs.Machine.{window, rd, wr, put}
-use Rattle.run_call_model.specs.Buffers.{laid}
+use Rattle.run_call_model.specs.Buffers.{overwritten}
 use Rattle.run_call_model.specs.Batch.{written, cleared, mixed}
-use Rattle.run_call_model.proofs.FlatLists.{laid-snoc, laid-beyond, replicate-snoc, flatten-append, flatten-pairs, pairs-after, length-pairs}
+use Rattle.run_call_model.proofs.FlatLists.{overwritten-snoc, overwritten-beyond, replicate-snoc, flatten-append, flatten-pairs, pairs-after, length-pairs}
 use Rattle.run_call_model.proofs.Ring.{rd-other, length-wr}
 use Rattle.run_call_model.proofs.Batch.{written-append, cleared-add, length-cleared}
 
 -- the place of the next sample, by a comparison
-pub next-place : (w s : ℕ) → s % w < w → suc s % w ≡ cond (ltb (suc (s % w)) w) (suc (s % w)) 0
-next-place w s h = suc-mod s w ∙ go (ltb (suc (s % w)) w) refl
+pub next-slot : (w s : ℕ) → s % w < w → suc s % w ≡ cond (ltb (suc (s % w)) w) (suc (s % w)) 0
+next-slot w s h = suc-mod s w ∙ go (ltb (suc (s % w)) w) refl
   where
     go : (x : Bool) → ltb (suc (s % w)) w ≡ x → suc (s % w) % w ≡ cond x (suc (s % w)) 0
     go true e = mod-eq-of-lt (ltb-true (suc (s % w)) w e)
     go false e = ap (λ (n : ℕ). n % w) {x = suc (s % w)} {y = w} (omega (arith, ltb-false (suc (s % w)) w e)) ∙ mod-self w
 
 -- the sample that is a window less a place further on stands at place 0
-pub place-wraps : (w s : ℕ) → s % w < w → (s + (w - s % w)) % w ≡ 0
-place-wraps w s h = sym (mod-add-mod s w (w - s % w)) ∙ ap (λ (n : ℕ). n % w) {x = s % w + (w - s % w)} {y = w} (omega arith) ∙ mod-self w
+pub slot-wraps : (w s : ℕ) → s % w < w → (s + (w - s % w)) % w ≡ 0
+slot-wraps w s h = sym (mod-add-mod s w (w - s % w)) ∙ ap (λ (n : ℕ). n % w) {x = s % w + (w - s % w)} {y = w} (omega arith) ∙ mod-self w
 
 module _ (G : Generator) (o : G .Value) where
   open Generator G using (Value, nought, plus, scaled)
@@ -45,19 +45,19 @@ module _ (G : Generator) (o : G .Value) where
       (sym (getD-set-other m (2 * q) (2 * q + 1) (plus (getD m (2 * q) o) (x .re)) o (omega arith)))
 
   -- the place after q, by a comparison
-  abbrev pub nextPlace : ℕ → ℕ
-  nextPlace q = cond (ltb (suc q) (window G o)) (suc q) 0
+  abbrev pub nextSlot : ℕ → ℕ
+  nextSlot q = cond (ltb (suc q) (window G o)) (suc q) 0
 
   abbrev pub putFrom : List Value → ℕ → List (Sample G) → List Value
   putFrom m q [] = m
-  putFrom m q (x ∷ xs) = putFrom (bump (bump m (2 * q) (x .re)) (2 * q + 1) (x .im)) (nextPlace q) xs
+  putFrom m q (x ∷ xs) = putFrom (bump (bump m (2 * q) (x .re)) (2 * q + 1) (x .im)) (nextSlot q) xs
 
   pub put-from : (xs : List (Sample G)) (m : List Value) (s : ℕ) → 0 < window G o → put G o m s xs ≡ putFrom m (s % window G o) xs
   put-from [] m s pos = refl
   put-from (x ∷ xs) m s pos =
       ap (λ (y : List Value). put G o y (suc s) xs) (bump-two m (s % window G o) x)
       ∙ put-from xs (bump (bump m (2 * (s % window G o)) (x .re)) (2 * (s % window G o) + 1) (x .im)) (suc s) pos
-      ∙ ap (λ (q : ℕ). putFrom (bump (bump m (2 * (s % window G o)) (x .re)) (2 * (s % window G o) + 1) (x .im)) q xs) (next-place (window G o) s (mod-lt s pos))
+      ∙ ap (λ (q : ℕ). putFrom (bump (bump m (2 * (s % window G o)) (x .re)) (2 * (s % window G o) + 1) (x .im)) q xs) (next-slot (window G o) s (mod-lt s pos))
 
   -- ---- by place
   reads : List Value → ℕ → List (NoisePair G) → List (Sample G)
@@ -72,8 +72,8 @@ module _ (G : Generator) (o : G .Value) where
       ∙ ap (λ (l : List (Sample G)). noisy G (rd G o m q) v ∷ l) (reads-wr vs m p (suc q) a (omega arith))
 
   -- the next place of a stretch
-  step-place : (w p : ℕ) → w % window G o ≡ p → suc p < window G o → suc w % window G o ≡ suc p
-  step-place w p e h = suc-mod w (window G o) ∙ ap (λ (n : ℕ). suc n % window G o) e ∙ mod-eq-of-lt h
+  step-slot : (w p : ℕ) → w % window G o ≡ p → suc p < window G o → suc w % window G o ≡ suc p
+  step-slot w p e h = suc-mod w (window G o) ∙ ap (λ (n : ℕ). suc n % window G o) e ∙ mod-eq-of-lt h
 
   written-reads : (vs : List (NoisePair G)) (m : List Value) (w p : ℕ) → w % window G o ≡ p → p + length vs ≤ window G o → written G o m w vs ≡ reads m p vs
   unfolding reads
@@ -82,7 +82,7 @@ module _ (G : Generator) (o : G .Value) where
   written-reads (v ∷ u ∷ vs) m w p e h =
       ap (λ (n : ℕ). noisy G (rd G o m n) v ∷ written G o (wr G o m n (silence G)) (suc w) (u ∷ vs)) e
       ∙ ap (λ (l : List (Sample G)). noisy G (rd G o m p) v ∷ l)
-      (written-reads (u ∷ vs) (wr G o m p (silence G)) (suc w) (suc p) (step-place w p e (omega arith)) (omega arith) ∙ reads-wr (u ∷ vs) m p (suc p) (silence G) (omega arith))
+      (written-reads (u ∷ vs) (wr G o m p (silence G)) (suc w) (suc p) (step-slot w p e (omega arith)) (omega arith) ∙ reads-wr (u ∷ vs) m p (suc p) (silence G) (omega arith))
 
   reads-flat : (vs : List (NoisePair G)) (m : List Value) (p : ℕ) → 2 * (p + length vs) ≤ length m → flatten (reads m p vs) ≡ mixed G o (drop (2 * p) m) (flatten vs)
   unfolding reads
@@ -148,7 +148,7 @@ module _ (G : Generator) (o : G .Value) where
       m′ = wr G o m p (silence G)
   cleared-blanked (suc (suc n)) m w p e h f =
       ap (λ (i : ℕ). cleared G o (wr G o m i (silence G)) (suc w) (suc n)) e
-      ∙ cleared-blanked (suc n) (wr G o m p (silence G)) (suc w) (suc p) (step-place w p e (omega arith)) (omega arith) (length-wr G o m p (silence G) ∙ f)
+      ∙ cleared-blanked (suc n) (wr G o m p (silence G)) (suc w) (suc p) (step-slot w p e (omega arith)) (omega arith) (length-wr G o m p (silence G) ∙ f)
       ∙ blanked-on m p (suc n) (omega arith)
 
   -- memory after a stretch: its numbers are 0.0, the others as they were
@@ -217,30 +217,30 @@ module _ (G : Generator) (o : G .Value) where
 
   -- after i numbers of a stretch from place p on, output laid from `at` on and memory blanked: the next number goes to output, and its place in memory is blanked
   module _ (m noise output : List Value) (p from at i : ℕ) (in-memory : p + i < length m) (in-noise : from + i < length noise) (in-output : at + i < length output) where
-    pub stretch-output : set (laid at (mixed G o (drop p m) (take i (drop from noise))) output) (at + i) (plus (getD (laid p (replicate i nought) m) (p + i) o) (scaled (getD noise (from + i) o)))
-        ≡ laid at (mixed G o (drop p m) (take (suc i) (drop from noise))) output
+    pub stretch-output : set (overwritten at (mixed G o (drop p m) (take i (drop from noise))) output) (at + i) (plus (getD (overwritten p (replicate i nought) m) (p + i) o) (scaled (getD noise (from + i) o)))
+        ≡ overwritten at (mixed G o (drop p m) (take (suc i) (drop from noise))) output
     stretch-output =
-        laid-snoc at i (mixed G o (drop p m) (take i (drop from noise))) output (plus (getD (laid p (replicate i nought) m) (p + i) o) (scaled (getD noise (from + i) o))) len in-output
-        ∙ ap (λ (l : List Value). laid at l output) (ap (λ (x : Value). mixed G o (drop p m) (take i (drop from noise)) ++ (x ∷ [])) number ∙ mixed-snoc i (drop p m) (drop from noise) (omega (arith, length-drop p m)) (omega (arith, length-drop from noise)))
+        overwritten-snoc at i (mixed G o (drop p m) (take i (drop from noise))) output (plus (getD (overwritten p (replicate i nought) m) (p + i) o) (scaled (getD noise (from + i) o))) len in-output
+        ∙ ap (λ (l : List Value). overwritten at l output) (ap (λ (x : Value). mixed G o (drop p m) (take i (drop from noise)) ++ (x ∷ [])) number ∙ mixed-snoc i (drop p m) (drop from noise) (omega (arith, length-drop p m)) (omega (arith, length-drop from noise)))
       where
         len : length (mixed G o (drop p m) (take i (drop from noise))) ≡ i
         len = length-mixed i (drop p m) (drop from noise) (omega (arith, length-drop p m)) (omega (arith, length-drop from noise))
 
-        read : getD (laid p (replicate i nought) m) (p + i) o ≡ getD m (p + i) o
+        read : getD (overwritten p (replicate i nought) m) (p + i) o ≡ getD m (p + i) o
         read =
-            ap (λ (k : ℕ). getD (laid p (replicate i nought) m) k o) {x = p + i} {y = p + i + 0} (omega arith)
-            ∙ laid-beyond p i 0 (replicate i nought) m o (length-replicate i nought) (omega arith)
+            ap (λ (k : ℕ). getD (overwritten p (replicate i nought) m) k o) {x = p + i} {y = p + i + 0} (omega arith)
+            ∙ overwritten-beyond p i 0 (replicate i nought) m o (length-replicate i nought) (omega arith)
             ∙ ap (λ (k : ℕ). getD m k o) {x = p + i + 0} {y = p + i} (omega arith)
 
-        number : plus (getD (laid p (replicate i nought) m) (p + i) o) (scaled (getD noise (from + i) o)) ≡ plus (getD (drop p m) i o) (scaled (getD (drop from noise) i o))
+        number : plus (getD (overwritten p (replicate i nought) m) (p + i) o) (scaled (getD noise (from + i) o)) ≡ plus (getD (drop p m) i o) (scaled (getD (drop from noise) i o))
         number = (λ j. plus ((read ∙ sym (getD-drop p m i o)) j) (scaled (sym (getD-drop from noise i o) j)))
 
-    pub stretch-memory : set (laid p (replicate i nought) m) (p + i) nought ≡ laid p (replicate (suc i) nought) m
-    stretch-memory = laid-snoc p i (replicate i nought) m nought (length-replicate i nought) in-memory ∙ ap (λ (l : List Value). laid p l m) (replicate-snoc i nought)
+    pub stretch-memory : set (overwritten p (replicate i nought) m) (p + i) nought ≡ overwritten p (replicate (suc i) nought) m
+    stretch-memory = overwritten-snoc p i (replicate i nought) m nought (length-replicate i nought) in-memory ∙ ap (λ (l : List Value). overwritten p l m) (replicate-snoc i nought)
 
   -- memory after a stretch, as laid
-  pub cleared-laid : (k j : ℕ) (m : List Value) (w : ℕ) → (w + k) % window G o + j ≤ window G o → length m ≡ 2 * window G o
-      → cleared G o m w (k + j) ≡ laid (2 * ((w + k) % window G o)) (replicate (2 * j) nought) (cleared G o m w k)
-  cleared-laid k j m w fits f =
+  pub cleared-overwritten : (k j : ℕ) (m : List Value) (w : ℕ) → (w + k) % window G o + j ≤ window G o → length m ≡ 2 * window G o
+      → cleared G o m w (k + j) ≡ overwritten (2 * ((w + k) % window G o)) (replicate (2 * j) nought) (cleared G o m w k)
+  cleared-overwritten k j m w fits f =
       cleared-more k j m w fits f
       ∙ ap (λ (n : ℕ). take (2 * ((w + k) % window G o)) (cleared G o m w k) ++ (replicate (2 * j) nought ++ drop (2 * ((w + k) % window G o) + n) (cleared G o m w k))) (sym (length-replicate (2 * j) nought))

@@ -4,5 +4,5 @@ use Prim.Native.Nat.{ℕ, _+_}
 use lib.ListN.{length, take, drop}
 
 -- a buffer with xs written from a place on: what is before and beyond is unchanged
-abbrev pub laid : {X : Type 0} → ℕ → List X → List X → List X
-laid at xs buffer = take at buffer ++ (xs ++ drop (at + length xs) buffer)
+abbrev pub overwritten : {X : Type 0} → ℕ → List X → List X → List X
+overwritten at xs buffer = take at buffer ++ (xs ++ drop (at + length xs) buffer)

@@ -1,5 +1,5 @@
 pub mod Machine
 pub mod Buffers
 pub mod Batch
-pub mod Turns
-pub mod Plans
+pub mod Progress
+pub mod Plan

@@ -7,7 +7,7 @@ use Prim.Native.Nat.{ℕ, zero, suc, _+_, _*_, _%_}
 use lib.ListN.{length, getD, set, replicate}
 use Rattle.run_theory.specs.Generator.{Generator, Sample, NoisePair, silence, add, noisy}
 use Rattle.run_theory.specs.PlainRun.{Kind, ignored, ends, reply}
-use Rattle.run_theory.specs.PlainBench.{Stop, wantsDraws, Refusal, Call, Result, Lent, lentOf, Step, halt, drain, due, taking, step1, refusalOf, fuel, counts, Given, refusedWith, resultOf}
+use Rattle.run_theory.specs.PlainBench.{Stop, wantsDraws, Refusal, Call, Result, Remaining, remainingOf, Step, halt, drain, due, taking, step1, refusalOf, fuel, counts, Given, refusedWith, resultOf}
 
 module _ (G : Generator) where
   open Generator G using (Time, before)
@@ -48,7 +48,7 @@ module _ (G : Generator) (o : G .Value) where
 
   pub record Ran : Type 0 where
     pub state : State
-    pub rest : Lent G
+    pub rest : Remaining G
     pub stop : Stop
     pub samples : List (Sample G)
     pub records : List (List Byte)
@@ -57,7 +57,7 @@ module _ (G : Generator) (o : G .Value) where
   abbrev pub opened : State
   opened = record { memory = blank; written = 0; time = t0; over = false; mark = t0 }
 
-  abbrev pub stateStep : State → Lent G → Step G
+  abbrev pub stateStep : State → Remaining G → Step G
   stateStep z l = step1 G (z .over) (z .written) (z .time) (l .draws) (l .noise) (l .room) (l .slots)
 
   abbrev pub withSample : Sample G → Ran → Ran
@@ -67,16 +67,16 @@ module _ (G : Generator) (o : G .Value) where
   withRecord a r = record { state = r .state; rest = r .rest; stop = r .stop; samples = r .samples; records = a ∷ r .records }
 
   -- the state after a sample is written, with the latest time m
-  abbrev pub wrote : State → Time → State
-  wrote z m = record { memory = wr (z .memory) (z .written % window) (silence G); written = suc (z .written); time = z .time; over = z .over; mark = m }
+  abbrev pub stateAfterSample : State → Time → State
+  stateAfterSample z m = record { memory = wr (z .memory) (z .written % window) (silence G); written = suc (z .written); time = z .time; over = z .over; mark = m }
 
   abbrev pub sample : State → NoisePair G → Sample G
   sample z v = noisy G (rd (z .memory) (z .written % window)) v
 
-  abbrev pub took : State → Draw → Kind → State
-  took z d ignored = record { memory = z .memory; written = z .written; time = after (z .time) d; over = z .over; mark = z .mark }
-  took z d ends = record { memory = z .memory; written = z .written; time = after (z .time) d; over = true; mark = z .mark }
-  took z d (reply s) = record
+  abbrev pub stateAfterDraw : State → Draw → Kind → State
+  stateAfterDraw z d ignored = record { memory = z .memory; written = z .written; time = after (z .time) d; over = z .over; mark = z .mark }
+  stateAfterDraw z d ends = record { memory = z .memory; written = z .written; time = after (z .time) d; over = true; mark = z .mark }
+  stateAfterDraw z d (reply s) = record
       { memory = put (z .memory) s (adds (after (z .time) d) d s); written = z .written; time = after (z .time) d; over = z .over; mark = z .mark }
 
   abbrev pub noted : Time → Draw → Kind → Ran → Ran
@@ -84,24 +84,24 @@ module _ (G : Generator) (o : G .Value) where
   noted t d ends r = r
   noted t d (reply s) r = withRecord (entry t d s (length (adds t d s))) r
 
-  abbrev pub machineOn : (State → Lent G → Ran) → State → Lent G → Step G → Ran
+  abbrev pub machineOn : (State → Remaining G → Ran) → State → Remaining G → Step G → Ran
   machineOn go z l (halt s) = record { state = z; rest = l; stop = s; samples = []; records = [] }
-  machineOn go z l (drain v l′) = withSample (sample z v) (go (wrote z (z .mark)) l′)
-  machineOn go z l (due t v l′) = withSample (sample z v) (go (wrote z (later G (z .mark) t)) l′)
-  machineOn go z l (taking d k l′) = noted (after (z .time) d) d k (go (took z d k) l′)
+  machineOn go z l (drain v l′) = withSample (sample z v) (go (stateAfterSample z (z .mark)) l′)
+  machineOn go z l (due t v l′) = withSample (sample z v) (go (stateAfterSample z (later G (z .mark) t)) l′)
+  machineOn go z l (taking d k l′) = noted (after (z .time) d) d k (go (stateAfterDraw z d k) l′)
 
-  abbrev pub machineSteps : ℕ → State → Lent G → Ran
+  abbrev pub machineSteps : ℕ → State → Remaining G → Ran
   machineSteps zero z l = record { state = z; rest = l; stop = wantsDraws; samples = []; records = [] }
   machineSteps (suc f) z l = machineOn (λ z′ l′. machineSteps f z′ l′) z l (stateStep z l)
 
-  abbrev pub machineGiven : Lent G → Ran → Given G
+  abbrev pub machineGiven : Remaining G → Ran → Given G
   machineGiven l r = record { answer = counts G l (r .rest) (r .stop); samples = r .samples; records = r .records }
 
   abbrev pub machineCall : State → Call G → Option Refusal → Given G × State
   machineCall z c (some q) = (refusedWith G q, z)
   machineCall z c none =
-      let r = machineSteps (fuel G (lentOf G c)) z (lentOf G c) in
-      (machineGiven (lentOf G c) r, r .state)
+      let r = machineSteps (fuel G (remainingOf G c)) z (remainingOf G c) in
+      (machineGiven (remainingOf G c) r, r .state)
 
   -- a run call
   abbrev pub machineRun : State → Call G → Given G × State

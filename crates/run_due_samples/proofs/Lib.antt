@@ -1,3 +1,3 @@
 pub mod Stretches
-pub mod LentTest
+pub mod BuffersTest
 pub mod AnyDraws

@@ -7,7 +7,7 @@ use lib.ListN.{length, take, drop}
 use lib.Ieee.{Float, nan}
 use Rattle.run_theory.specs.Generator.{Generator}
 use Rattle.run_theory.specs.PlainBench.{pairs, flatten}
-use Rattle.run_call_model.specs.Buffers.{laid}
+use Rattle.run_call_model.specs.Buffers.{overwritten}
 use Rattle.run_call_model.specs.Batch.{written, cleared, mixed}
 use Rattle.constants.specs.Rate.{four, workingMemory}
 use Rattle.run_theory.specs.FloatGenerator.{noDraws, generator}
@@ -33,13 +33,13 @@ unfoldable pub fitsOf : ℕ → ℕ → ℕ → ℕ → ℕ → Bool
 fitsOf memory noise output k n = eqb memory (workingMemory four) && leb (2 * (k + n)) noise && leb (2 * (k + n)) output
 
 -- what is written
-pub record Lent : Type 0 where
+pub record DueBuffers : Type 0 where
   pub memory : List Float
   pub output : List Float
 
 -- n samples that are due, from sample w on, after k samples of the call; where they do not fit, nothing is changed
-unfoldable pub dueOf : List Float → ℕ → ℕ → ℕ → Lent → Lent
+unfoldable pub dueOf : List Float → ℕ → ℕ → ℕ → DueBuffers → DueBuffers
 dueOf noise w k n l =
     cond (fitsOf (length (l .memory)) (length noise) (length (l .output)) k n)
-    (record { memory = clearOf (l .memory) w n; output = laid (2 * k) (samplesOf (l .memory) w (take (2 * n) (drop (2 * k) noise))) (l .output) })
+    (record { memory = clearOf (l .memory) w n; output = overwritten (2 * k) (samplesOf (l .memory) w (take (2 * n) (drop (2 * k) noise))) (l .output) })
     l

@@ -2,9 +2,9 @@
 ghost use mathlib.Core.Path.{_≡_};
 ghost use Prim.Native.Nat.{_+_, _*_, _/_, _%_, _≤_, _<_, min};
 ghost use lib.ListN.{length, drop, take};
-ghost use Rattle.run_call_model.specs.Buffers.{laid};
+ghost use Rattle.run_call_model.specs.Buffers.{overwritten};
 ghost use Rattle.run_theory.specs.Zeros.{zeros};
-ghost use Rattle.run_due_samples.specs.DueModel.{mix, samplesOf, clearOf, fitsOf, Lent, dueOf};
+ghost use Rattle.run_due_samples.specs.DueModel.{mix, samplesOf, clearOf, fitsOf, DueBuffers, dueOf};
 
 // Writes a stretch of the memory with its noise.
 fn mix_stretch(
@@ -17,7 +17,7 @@ fn mix_stretch(
     len: usize,
 )
     requires { ⌜ (p + len ≤ length (now memory)) × (from + len ≤ length (now noise)) × (at + len ≤ length (now output)) ⌝ }
-    ensures { λ _. ⌜ now (output .exit) ≡ laid at (mix (drop p (now (memory .entry))) (take len (drop from (now (noise .entry))))) (now (output .entry)) ⌝ }
+    ensures { λ _. ⌜ now (output .exit) ≡ overwritten at (mix (drop p (now (memory .entry))) (take len (drop from (now (noise .entry))))) (now (output .entry)) ⌝ }
 {
     let mut i: usize = 0;
     while i < len {
@@ -29,7 +29,7 @@ fn mix_stretch(
 // Clears a stretch of the memory.
 fn clear_stretch(memory: &mut [f32], p: usize, len: usize)
     requires { ⌜ p + len ≤ length (now memory) ⌝ }
-    ensures { λ _. ⌜ now (memory .exit) ≡ laid p (zeros len) (now (memory .entry)) ⌝ }
+    ensures { λ _. ⌜ now (memory .exit) ≡ overwritten p (zeros len) (now (memory .entry)) ⌝ }
 {
     let mut i: usize = 0;
     while i < len {
@@ -49,7 +49,7 @@ fn stretch(
     len: usize,
 )
     requires { ⌜ (p + len ≤ length (now memory)) × (from + len ≤ length (now noise)) × (at + len ≤ length (now output)) ⌝ }
-    ensures { λ _. ⌜ (now (output .exit) ≡ laid at (mix (drop p (now (memory .entry))) (take len (drop from (now (noise .entry))))) (now (output .entry))) × (now (memory .exit) ≡ laid p (zeros len) (now (memory .entry))) ⌝ }
+    ensures { λ _. ⌜ (now (output .exit) ≡ overwritten at (mix (drop p (now (memory .entry))) (take len (drop from (now (noise .entry))))) (now (output .entry))) × (now (memory .exit) ≡ overwritten p (zeros len) (now (memory .entry))) ⌝ }
 {
     mix_stretch(memory, noise, output, p, from, at, len);
     clear_stretch(memory, p, len);
@@ -79,7 +79,7 @@ fn write_all(
     values: usize,
 )
     requires { ⌜ (length (now memory) ≡ 2252) × (values % 2 ≡ 0) × (from + values ≤ length (now noise)) × (at + values ≤ length (now output)) ⌝ }
-    ensures { λ _. ⌜ (now (output .exit) ≡ laid at (samplesOf (now (memory .entry)) written (take values (drop from (now (noise .entry))))) (now (output .entry))) × (now (memory .exit) ≡ clearOf (now (memory .entry)) written (values / 2)) ⌝ }
+    ensures { λ _. ⌜ (now (output .exit) ≡ overwritten at (samplesOf (now (memory .entry)) written (take values (drop from (now (noise .entry))))) (now (output .entry))) × (now (memory .exit) ≡ clearOf (now (memory .entry)) written (values / 2)) ⌝ }
 {
     let mut p = 2 * ring(written);
     let mut done: usize = 0;

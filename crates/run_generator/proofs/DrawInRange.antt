@@ -8,8 +8,8 @@ use lib.Dec.{T}
 use lib.Ieee.{Float, binary64, fits}
 use Rattle.distributions.specs.Drawn.{errorOf}
 use Rattle.distributions.specs.declared.ClockError as Clock
-use Rattle.message.specs.declared.Field.{Field}
-use Rattle.message.specs.declared.Field.the-variants.{Fine, Wrong}
+use Rattle.message.specs.declared.FieldFault.{FieldFault}
+use Rattle.message.specs.declared.FieldFault.the-variants.{NoFault, Field}
 use Rattle.message_config.proofs.InRange.{ErrorInRange}
 use Rattle.settings.specs.declared.Distributions.{Distributions}
 use Rattle.settings.specs.declared.MessagesPerSecond.{MessagesPerSecond}
@@ -21,12 +21,12 @@ use Rattle.draw.proofs.InRange.{InRange, gap-in-range}
 use Rattle.draw.proofs.NotNegative.{NotNegative, plus, minus-zero, not-negative}
 use Rattle.draw.proofs.ClockLimit.{drawn-within, filter-within}
 use Rattle.run_theory.proofs.Times.{Gap}
-use Rattle.run_generator.specs.Real.{faultOf}
+use Rattle.run_generator.specs.Instance.{faultOf}
 
-pub fine-of : (x : Field) → faultOf x ≡ none → x ≡ Fine
+pub fine-of : (x : FieldFault) → faultOf x ≡ none → x ≡ NoFault
 unfolding faultOf
-fine-of Fine e = refl
-fine-of (Wrong k) e = let z : _≡_ {A = ℕ} 0 1 = cc in absurd (omega arith)
+fine-of NoFault e = refl
+fine-of (Field k) e = let z : _≡_ {A = ℕ} 0 1 = cc in absurd (omega arith)
 
 -- ---- the gap
 gap-at : (x : Float) → NotNegative x → Gap x

@@ -19,7 +19,7 @@ use Rattle.math.proofs.Constants.{piUnits, pi-val}
 use Rattle.math.proofs.InRange.{lt→le, within-of-tests}
 use Rattle.distributions.specs.declared.CarrierOffset as Offset
 use Rattle.distributions.specs.declared.CarrierPhase as Phase
-use Rattle.distributions.specs.Asked.{upTo, finiteNotNegative, offsetLimit}
+use Rattle.distributions.specs.Accepted.{upTo, finiteNotNegative, offsetLimit}
 use Rattle.distributions.specs.Drawn.{clamped, offsetOf, phaseOf, offsetDrawFits, fromMinusPiBelowPi, phaseDrawFits}
 use Rattle.message_config.proofs.InRange.{offset-val, offsetUnits}
 use Rattle.settings.proofs.InRange.{OffsetInRange, PhaseInRange}
@@ -107,20 +107,20 @@ clamped-within : (sps : ℕ) → sps ≤ 2 ^ 30 → (x max : Float) → T (fits 
 unfolding clamped
 clamped-within sps few x max F h G u = low (lt x (neg max)) refl
   where
-    Fine : Float → Type 0
-    Fine y = T (fits binary64 y) × T (within y (offsetLimit sps))
+    NoFault : Float → Type 0
+    NoFault y = T (fits binary64 y) × T (within y (offsetLimit sps))
 
-    inner : lt x (neg max) ≡ false → lt max x ≡ false → Fine x
+    inner : lt x (neg max) ≡ false → lt max x ≡ false → NoFault x
     inner p q =
         let N = number x F (between-finite x max (u .sign) (u .count) (u .is) h p q) in
         let n-le = between-count (N .sign) (u .sign) (N .count) (u .count) (sym (lt-val x (neg max) (N .sign) (not (u .sign)) (N .count) (u .count) (N .is) (neg-val max (u .sign) (u .count) (u .is))) ∙ p) (sym (lt-val max x (u .sign) (N .sign) (u .count) (N .count) (u .is) (N .is)) ∙ q) in
         (F, val-within x (offsetLimit sps) (N .sign) (N .count) (offsetUnits sps) (N .is) (offset-val sps few) (le-trans n-le (u .under)))
 
-    high : (b : Bool) → lt max x ≡ b → lt x (neg max) ≡ false → Fine (cond b max x)
+    high : (b : Bool) → lt max x ≡ b → lt x (neg max) ≡ false → NoFault (cond b max x)
     high true q p = (G, val-within max (offsetLimit sps) (u .sign) (u .count) (offsetUnits sps) (u .is) (offset-val sps few) (u .under))
     high false q p = inner p q
 
-    low : (b : Bool) → lt x (neg max) ≡ b → Fine (cond b (neg max) (cond (lt max x) max x))
+    low : (b : Bool) → lt x (neg max) ≡ b → NoFault (cond b (neg max) (cond (lt max x) max x))
     low true p = (neg-fits binary64 max G, val-within (neg max) (offsetLimit sps) (not (u .sign)) (u .count) (offsetUnits sps) (neg-val max (u .sign) (u .count) (u .is)) (offset-val sps few) (u .under))
     low false p = high (lt max x) refl p
 

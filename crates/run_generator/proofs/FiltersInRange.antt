@@ -22,7 +22,7 @@ use Rattle.settings.specs.declared.Distributions.{Distributions}
 use Rattle.settings.specs.declared.Checked.the-variants.{Accepted}
 use Rattle.settings.specs.Accepted.{acceptedOf}
 use Rattle.settings.proofs.InRange.{InRange, HeldSettings, accepted-in-range}
-use Rattle.run_generator.specs.Real.{Filters}
+use Rattle.run_generator.specs.Instance.{Filters}
 
 pub record FiltersInRange (f : Filters) : Type 0 where
   pub delays : DelaysInRange four (f .delays)

@@ -5,8 +5,8 @@ pub mod DrawInRange
 pub mod DrawnInRange
 pub mod FiltersInRange
 pub mod MessageInRange
-pub mod RealDrawLaws
-pub mod RealDemand3
+pub mod InstanceDrawLaws
+pub mod InstanceDemand3
 pub mod Values
 pub mod ReplySizes
 pub mod SampleSizes

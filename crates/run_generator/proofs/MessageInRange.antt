@@ -9,12 +9,12 @@ use Rattle.message_config.proofs.InRange.{TimeInRange, MessageInRange}
 use Rattle.message_config.proofs.NeverNan.{DrawNumbers, ReplyNumbers, draw-numbers-at-four, reply-numbers-at-four}
 use Rattle.draw.specs.Config.{configWith, configOf, startAt}
 use Rattle.draw.proofs.InRange.{InRange}
-use Rattle.run_generator.specs.Real.{Filters, HeldDraw}
+use Rattle.run_generator.specs.Instance.{Filters, RepresentableDraw}
 use Rattle.run_generator.proofs.DrawInRange.{message-error}
 use Rattle.run_generator.proofs.DrawnInRange.{drawn-offset, drawn-phase}
 use Rattle.run_generator.proofs.FiltersInRange.{FiltersInRange}
 
-module _ (f : Filters) (R : FiltersInRange f) (t : Float) (A : TimeInRange t) (d : HeldDraw) (r : InRange (f .rates) (f .distributions) (d .draw)) where
+module _ (f : Filters) (R : FiltersInRange f) (t : Float) (A : TimeInRange t) (d : RepresentableDraw) (r : InRange (f .rates) (f .distributions) (d .draw)) where
   pub message-in-range : MessageInRange four (configOf (f .distributions) t (d .draw))
   unfolding configOf configWith
   message-in-range =

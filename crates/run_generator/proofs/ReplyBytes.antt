@@ -4,20 +4,20 @@ use mathlib.Core.Path.{_≡_, ap, _∙_}
 use mathlib.Core.List.{List, [], _∷_}
 use native.Mathlib.Omega.{arith}
 use lib.ListN.{length, drop, replicate, length-append, length-take, length-replicate}
-use Rattle.mode_s.specs.Parity.{parityOf, parityBytes, sealed}
+use Rattle.mode_s.specs.Parity.{parityOf, parityBytes, withParity}
 use Rattle.message.specs.declared.MessageType.{MessageType}
 use Rattle.message.specs.declared.MessageType.the-variants.{ExtendedSquitter, AcquisitionSquitter, ShortAp, AllCallReply, LongAp, MilitaryExtendedSquitter, ModeAc}
 use Rattle.message.specs.declared.Picks.{Picks}
-use Rattle.message.specs.declared.Field.{Field}
-use Rattle.message.specs.declared.Field.the-variants.{Fine, Wrong}
+use Rattle.message.specs.declared.FieldFault.{FieldFault}
+use Rattle.message.specs.declared.FieldFault.the-variants.{NoFault, Field}
 use Rattle.message.specs.Making.{byte0, later, messageBytes, filled, replyOf, fieldFault, madeWhere, made}
 
 later-most : (p : Picks) (n : ℕ) → length (later p n) ≤ n
 unfolding later
 later-most p n = omega (arith, length-take n (drop 1 (p .bytes)))
 
-sealed-length : (m : List ℕ) (o : ℕ) → length (sealed m o) ≡ length m + 3
-unfolding sealed parityBytes
+sealed-length : (m : List ℕ) (o : ℕ) → length (withParity m o) ≡ length m + 3
+unfolding withParity parityBytes
 sealed-length m o = length-append m (parityBytes (parityOf m) o)
 
 most : (t : MessageType) (p : Picks) → length (messageBytes t p) ≤ 14
@@ -38,6 +38,6 @@ pub made-bytes : (t : MessageType) (p : Picks) → length (made t p .reply .byte
 unfolding made
 made-bytes t p = go (fieldFault t p)
   where
-    go : (x : Field) → length (madeWhere x (replyOf t p) .reply .bytes) ≡ 14
-    go Fine = unfold madeWhere replyOf in filled-length (messageBytes t p) (most t p)
-    go (Wrong k) = unfold madeWhere in length-replicate {A = ℕ} 14 0
+    go : (x : FieldFault) → length (madeWhere x (replyOf t p) .reply .bytes) ≡ 14
+    go NoFault = unfold madeWhere replyOf in filled-length (messageBytes t p) (most t p)
+    go (Field k) = unfold madeWhere in length-replicate {A = ℕ} 14 0

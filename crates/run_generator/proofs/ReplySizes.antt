@@ -25,9 +25,9 @@ use Rattle.message_config.specs.declared.MessageConfig.{MessageConfig}
 use Rattle.message_config.specs.Config.{configClockPhase, configClockError, configRate, configPhase}
 use Rattle.pulse_shape.specs.Accepted.{allWithin16}
 use Rattle.filterbank.specs.Apply.{applyFilterbank}
-use Rattle.reply_pulses.specs.ReplyPulses.{placesOf}
+use Rattle.reply_pulses.specs.ReplyPulses.{positionsOf}
 use Rattle.reply_samples.specs.declared.Sample.{Sample}
-use Rattle.reply_samples.specs.Samples.{sampleAt, turned, samplesBy, prototypeOf, replySamples}
+use Rattle.reply_samples.specs.Samples.{sampleAt, rotated, samplesBy, prototypeOf, replySamples}
 use Rattle.reply_samples.proofs.Counts.{ClockInRange}
 use Rattle.run_generator.proofs.Values.{values-sized}
 
@@ -60,11 +60,11 @@ sample-sized amplitude value phase a v w =
     (part-sized amplitude value (sinCos phase .cos) a v (b .1), part-sized amplitude value (sinCos phase .sin) a v (b .0))
 
 -- ---- all of them
-turned-sized : (amplitude rate phase : Float) (vs : List Float) → AtMost (2 ^ 20) amplitude → Within rate piUnits → Within phase piUnits → Each (AtMost 336) vs → Each Sized (turned amplitude rate phase vs)
-unfolding turned
-turned-sized amplitude rate phase [] a r w h = tt
-turned-sized amplitude rate phase (v ∷ vs) a r w h =
-    (sample-sized amplitude v phase a (h .0) w, turned-sized amplitude rate (phaseWrapOnce (add binary64 phase rate)) vs a r (stepped-within phase rate w r) (h .1))
+rotated-sized : (amplitude rate phase : Float) (vs : List Float) → AtMost (2 ^ 20) amplitude → Within rate piUnits → Within phase piUnits → Each (AtMost 336) vs → Each Sized (rotated amplitude rate phase vs)
+unfolding rotated
+rotated-sized amplitude rate phase [] a r w h = tt
+rotated-sized amplitude rate phase (v ∷ vs) a r w h =
+    (sample-sized amplitude v phase a (h .0) w, rotated-sized amplitude rate (phaseWrapOnce (add binary64 phase rate)) vs a r (stepped-within phase rate w r) (h .1))
 
 -- a prototype that a run is opened with
 pub record SmallPrototype (p : List Float) : Type 0 where
@@ -82,5 +82,5 @@ pub reply-sized : (modeS modeAC : List Float) → SmallPrototype modeS → Small
 unfolding replySamples samplesBy
 reply-sized modeS modeAC p q delays amplitude c a clock rate phase =
     let g = own (c .reply .kind) modeS modeAC p q in
-    turned-sized amplitude (configRate four c) (configPhase four delays c) (applyFilterbank four (prototypeOf (c .reply .kind) modeS modeAC) (placesOf (c .reply)) (configClockPhase delays c) (configClockError c)) a rate phase
-    (values-sized (prototypeOf (c .reply .kind) modeS modeAC) (g .whole) (g .small) (placesOf (c .reply)) (configClockPhase delays c) (configClockError c) clock)
+    rotated-sized amplitude (configRate four c) (configPhase four delays c) (applyFilterbank four (prototypeOf (c .reply .kind) modeS modeAC) (positionsOf (c .reply)) (configClockPhase delays c) (configClockError c)) a rate phase
+    (values-sized (prototypeOf (c .reply .kind) modeS modeAC) (g .whole) (g .small) (positionsOf (c .reply)) (configClockPhase delays c) (configClockError c) clock)

@@ -33,11 +33,11 @@ use Rattle.run_theory.proofs.Times.{GoodTime}
 use Rattle.draw.specs.Config.{configOf}
 use Rattle.reply_samples.specs.declared.Sample.{Sample}
 use Rattle.reply_samples.specs.Samples.{replySamples}
-use Rattle.run_generator.specs.Real.{pairOf, loud, Filters, HeldDraw, draws, real}
+use Rattle.run_generator.specs.Instance.{pairOf, outOfRange, Filters, RepresentableDraw, draws, instanceOf}
 use Rattle.run_generator.proofs.FiltersInRange.{FiltersInRange}
 use Rattle.run_generator.proofs.MessageInRange.{message-in-range, draw-finite, reply-finite}
-use Rattle.run_generator.proofs.RealDrawLaws.{time-in-range, fields, reply-at, below-52}
-use Rattle.run_generator.proofs.RealDemand3.{real-laws}
+use Rattle.run_generator.proofs.InstanceDrawLaws.{time-in-range, fields, reply-at, below-52}
+use Rattle.run_generator.proofs.InstanceDemand3.{instance-laws}
 use Rattle.run_generator.proofs.Values.{up-to-sized}
 use Rattle.run_generator.proofs.ReplySizes.{most, Sized, SmallPrototype, reply-sized}
 
@@ -50,9 +50,9 @@ stop-noise : Rounds binary32 (2 ^ 53 + 64) (2 ^ 53)
 unfolding round
 stop-noise = (refl, refl)
 
-quiet-sized : (v : Float) → loud v ≡ false → AtMost 64 v
-unfolding loud within ofBits
-quiet-sized v e = go v (un (within v (ofBits binary32 0x4280_0000)) e)
+in-range-sized : (v : Float) → outOfRange v ≡ false → AtMost 64 v
+unfolding outOfRange within ofBits
+in-range-sized v e = go v (un (within v (ofBits binary32 0x4280_0000)) e)
   where
     un : (b : Bool) → not b ≡ false → T b
     un true e = tt
@@ -82,7 +82,7 @@ module _ (f : Filters) (R : FiltersInRange f) (total : ℕ) (few : total ≤ 2 ^
   mapped [] h = tt
   mapped (z ∷ zs) h = (h .0, mapped zs (h .1))
 
-  adds-sized : (t : Float) (d : HeldDraw) (s : ℕ) → GoodTime t → draws f .fault d ≡ none → kind (real f total) t d ≡ reply s → Each (Both (AtMost most)) (draws f .adds t d s)
+  adds-sized : (t : Float) (d : RepresentableDraw) (s : ℕ) → GoodTime t → draws f .fault d ≡ none → kind (instanceOf f total) t d ≡ reply s → Each (Both (AtMost most)) (draws f .adds t d s)
   unfolding ofBits
   adds-sized t d s g e k =
       let c = configOf (f .distributions) t (d .draw) in
@@ -97,14 +97,14 @@ module _ (f : Filters) (R : FiltersInRange f) (total : ℕ) (few : total ≤ 2 ^
       (rate-within c (draw-finite f R t (time-in-range t g) d r .rate))
       (phase-within (f .delays) c (reply-finite f R t (time-in-range t g) d r s start low .first-phase)))
 
-  kept : KeptBySums (real f total) (real-laws f R total few) (AtMost (2 ^ 53)) (AtMost most)
-  unfolding real-laws laws
+  kept : KeptBySums (instanceOf f total) (instance-laws f R total few) (AtMost (2 ^ 53)) (AtMost most)
+  unfolding instance-laws laws
   kept = record {
     first = lit≤ tt;
     added = λ a x p q. add-at-most binary32 a x (2 ^ 53) most (2 ^ 53) p q stop;
-    noised = λ a v p e. add-at-most binary32 a _ (2 ^ 53) 64 (2 ^ 53) p (mul-at-most binary32 v noiseScale 64 1 64 (quiet-sized v e) (lit≤ tt) (rounds-whole binary32 64 (lit≤ tt))) stop-noise;
+    noised = λ a v p e. add-at-most binary32 a _ (2 ^ 53) 64 (2 ^ 53) p (mul-at-most binary32 v noiseScale 64 1 64 (in-range-sized v e) (lit≤ tt) (rounds-whole binary32 64 (lit≤ tt))) stop-noise;
     adds-have = adds-sized;
   }
 
-  pub samples-sized : (run : List (Call (real f total)) → List (Result (real f total))) → Demand3 (real f total) run → (cs : List (Call (real f total))) → Each (AtMost (2 ^ 53)) (allSamples (real f total) (run cs))
-  samples-sized = every-sample (real f total) (real-laws f R total few) (AtMost (2 ^ 53)) (AtMost most) kept
+  pub samples-sized : (run : List (Call (instanceOf f total)) → List (Result (instanceOf f total))) → Demand3 (instanceOf f total) run → (cs : List (Call (instanceOf f total))) → Each (AtMost (2 ^ 53)) (allSamples (instanceOf f total) (run cs))
+  samples-sized = every-sample (instanceOf f total) (instance-laws f R total few) (AtMost (2 ^ 53)) (AtMost most) kept

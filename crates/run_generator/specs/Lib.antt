@@ -1,1 +1,1 @@
-pub mod Real
+pub mod Instance

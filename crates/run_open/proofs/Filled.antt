@@ -14,12 +14,12 @@ use Rattle.run_open.proofs.Filling.{over-whole}
 use Rattle.run_open_checks.specs.declared.Opened.{Opened}
 use Rattle.run_open_checks.specs.declared.Prepared.{Prepared}
 use Rattle.run_open_checks.specs.declared.Opened.the-variants.{Run, Refused}
-use Rattle.run_open_checks.specs.Opening.{Lent, openedOf, preparedOf, isRun, leftBy}
+use Rattle.run_open_checks.specs.Opening.{OpenBuffers, openedOf, preparedOf, isRun, leftBy}
 use Rattle.run_open_checks.proofs.Decided.{run-fits}
 
 module _ (level : Float) (tapsS tapsAC : List Float) where
   -- an opened run fills what was lent, a refusal leaves it
-  module _ (bytes : List ℕ) (l : Lent) (modeS modeAC memory p q : List Float) (f : p ≡ modeSPrototype four tapsS) (g : q ≡ modeACPrototype four tapsAC) where
+  module _ (bytes : List ℕ) (l : OpenBuffers) (modeS modeAC memory p q : List Float) (f : p ≡ modeSPrototype four tapsS) (g : q ≡ modeACPrototype four tapsAC) where
     pub filled : (b : Bool) (o : Opened) → o ≡ openedOf four level tapsS tapsAC bytes l → b ≡ isRun o
         → modeS ≡ cond b (over p (l .modeS)) (l .modeS) → modeAC ≡ cond b (over q (l .modeAC)) (l .modeAC) → memory ≡ cond b (zeros (length (l .memory))) (l .memory)
         → record { modeS = modeS; modeAC = modeAC; memory = memory } ≡ leftBy four tapsS tapsAC o l
@@ -38,7 +38,7 @@ module _ (level : Float) (tapsS tapsAC : List Float) where
           memory = (z ∙ ap (λ (c : Bool). cond c (zeros (length (l .memory))) (l .memory)) t) i;
         }
 
-  pub opened-left : (bytes : List ℕ) (l : Lent) {P : Prepared} {b : Bool} {modeS modeAC memory : List Float} → P ≡ preparedOf four level tapsS tapsAC bytes (length (l .modeS)) (length (l .modeAC)) (length (l .memory)) → b ≡ isRun (P .opened)
+  pub opened-left : (bytes : List ℕ) (l : OpenBuffers) {P : Prepared} {b : Bool} {modeS modeAC memory : List Float} → P ≡ preparedOf four level tapsS tapsAC bytes (length (l .modeS)) (length (l .modeAC)) (length (l .memory)) → b ≡ isRun (P .opened)
       → modeS ≡ cond b (over (P .«mode_s») (l .modeS)) (l .modeS) → modeAC ≡ cond b (over (P .«mode_ac») (l .modeAC)) (l .modeAC) → memory ≡ cond b (zeros (length (l .memory))) (l .memory)
       → (P .opened ≡ openedOf four level tapsS tapsAC bytes l) × (record { modeS = modeS; modeAC = modeAC; memory = memory } ≡ leftBy four tapsS tapsAC (P .opened) l)
   unfolding preparedOf openedOf

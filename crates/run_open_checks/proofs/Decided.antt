@@ -9,7 +9,7 @@ use lib.Ieee.{Float}
 use borrow.Author.Tests.{eqb-true, eq-eqb}
 use Rattle.constants.specs.Rate.{four}
 use Rattle.pulse_shape.specs.declared.Crossing.{Crossing}
-use Rattle.pulse_shape.specs.declared.Crossing.the-variants.{At, Nowhere}
+use Rattle.pulse_shape.specs.declared.Crossing.the-variants.{At, None}
 use Rattle.pulse_shape.specs.Prototype.{modeSPrototype, modeACPrototype}
 use Rattle.pulse_shape.specs.Accepted.{allWithin16, modeSTapsAccepted, modeACTapsAccepted}
 use Rattle.pulse_shape.specs.GroupDelay.{groupDelay, modeACGroupDelay, crossingAnswer}
@@ -25,15 +25,15 @@ use Rattle.settings.specs.Accepted.{acceptedOf}
 use Rattle.run_open_checks.specs.declared.Opened.{Opened}
 use Rattle.run_open_checks.specs.declared.Opened.the-variants.{Run, Refused}
 use Rattle.run_open_checks.specs.FirstCause.{Fits}
-use Rattle.run_open_checks.specs.Opening.{Lent, firstState, lentFits, modeSDelay, modeACDelay, delaysGiven, delaysThen, delaysOf, tapsOf, settingsThen, openedFor, preparedOf, isRun}
+use Rattle.run_open_checks.specs.Opening.{OpenBuffers, firstState, buffersFit, modeSDelay, modeACDelay, delaysGiven, delaysThen, delaysOf, tapsOf, settingsThen, openedFor, preparedOf, isRun}
 
 -- the lengths, from facts and to facts
-pub fits-if : (settings modeS modeAC memory : ℕ) → Fits settings modeS modeAC memory → true ≡ lentFits four settings modeS modeAC memory
-unfolding lentFits
+pub fits-if : (settings modeS modeAC memory : ℕ) → Fits settings modeS modeAC memory → true ≡ buffersFit four settings modeS modeAC memory
+unfolding buffersFit
 fits-if settings modeS modeAC memory f = sym (rw (eq-eqb settings 119 (f .settings-is), eq-eqb memory 2252 (f .memory-is), eq-eqb modeS 1792 (f .mode-s-is), eq-eqb modeAC 1792 (f .mode-ac-is)))
 
-pub fits-for : (settings modeS modeAC memory : ℕ) → lentFits four settings modeS modeAC memory ≡ true → Fits settings modeS modeAC memory
-unfolding lentFits
+pub fits-for : (settings modeS modeAC memory : ℕ) → buffersFit four settings modeS modeAC memory ≡ true → Fits settings modeS modeAC memory
+unfolding buffersFit
 fits-for settings modeS modeAC memory e = go (eqb settings 119) refl (eqb memory 2252) refl (eqb modeS 1792) refl (eqb modeAC 1792) refl e
   where
     go : (z : Bool) → eqb settings 119 ≡ z → (a : Bool) → eqb memory 2252 ≡ a → (b : Bool) → eqb modeS 1792 ≡ b → (c : Bool) → eqb modeAC 1792 ≡ c → z && a && b && c ≡ true → Fits settings modeS modeAC memory
@@ -43,10 +43,10 @@ fits-for settings modeS modeAC memory e = go (eqb settings 119) refl (eqb memory
     go true o true p false q c r e = absurd (false≢true e)
     go true o true p true q false r e = absurd (false≢true e)
 
-pub fits-not : (settings modeS modeAC memory : ℕ) → (Fits settings modeS modeAC memory → ⊥) → false ≡ lentFits four settings modeS modeAC memory
-fits-not settings modeS modeAC memory no-fit = go (lentFits four settings modeS modeAC memory) refl
+pub fits-not : (settings modeS modeAC memory : ℕ) → (Fits settings modeS modeAC memory → ⊥) → false ≡ buffersFit four settings modeS modeAC memory
+fits-not settings modeS modeAC memory no-fit = go (buffersFit four settings modeS modeAC memory) refl
   where
-    go : (x : Bool) → lentFits four settings modeS modeAC memory ≡ x → false ≡ x
+    go : (x : Bool) → buffersFit four settings modeS modeAC memory ≡ x → false ≡ x
     go true e = absurd (no-fit (fits-for settings modeS modeAC memory e))
     go false e = refl
 
@@ -56,17 +56,17 @@ module _ (sps : ℕ) (level : Float) (prototype : List Float) where
   unfolding modeSDelay
   mode-s-delay-of e = rw e
 
-  pub mode-s-nowhere : allWithin16 prototype ≡ false → modeSDelay sps level prototype ≡ Nowhere
+  pub mode-s-none : allWithin16 prototype ≡ false → modeSDelay sps level prototype ≡ None
   unfolding modeSDelay
-  mode-s-nowhere e = rw e
+  mode-s-none e = rw e
 
   pub mode-ac-delay-of : allWithin16 prototype ≡ true → modeACDelay sps level prototype ≡ modeACGroupDelay sps level prototype
   unfolding modeACDelay
   mode-ac-delay-of e = rw e
 
-  pub mode-ac-nowhere : allWithin16 prototype ≡ false → modeACDelay sps level prototype ≡ Nowhere
+  pub mode-ac-none : allWithin16 prototype ≡ false → modeACDelay sps level prototype ≡ None
   unfolding modeACDelay
-  mode-ac-nowhere e = rw e
+  mode-ac-none e = rw e
 
 -- a run is told from a refusal
 pub a-run : (r : Opened) (s : State) → r ≡ Run s → true ≡ isRun r
@@ -79,11 +79,11 @@ a-refusal r q e = sym (ap isRun e)
 
 -- refusal 6, for either delay; or the first state
 module _ (rates : MessagesPerSecond) (total : ℕ) (all : Distributions) (x y : Crossing) where
-  pub no-mode-s : x ≡ Nowhere → Refused Cause.Prototype ≡ delaysThen rates total all x y
+  pub no-mode-s : x ≡ None → Refused Cause.Prototype ≡ delaysThen rates total all x y
   unfolding delaysThen delaysGiven crossingAnswer
   no-mode-s e = λ i. delaysThen rates total all (sym e i) y
 
-  pub no-mode-ac : (a : Float) → x ≡ At a → y ≡ Nowhere → Refused Cause.Prototype ≡ delaysThen rates total all x y
+  pub no-mode-ac : (a : Float) → x ≡ At a → y ≡ None → Refused Cause.Prototype ≡ delaysThen rates total all x y
   unfolding delaysThen delaysGiven crossingAnswer
   no-mode-ac a e f = λ i. delaysThen rates total all (sym e i) (sym f i)
 
@@ -119,21 +119,21 @@ module _ (level : Float) (tapsS tapsAC : List Float) where
 
   -- refusal 9, then 1 to 4
   module _ (bytes : List ℕ) (modeS modeAC memory : ℕ) where
-    by-lent : (b : Bool) → lentFits four (length bytes) modeS modeAC memory ≡ b
-        → cond b (settingsThen four level tapsS tapsAC (settingsOf bytes .rates) (acceptedOf four (settingsOf bytes))) (Refused Cause.Lent) ≡ openedFor four level tapsS tapsAC bytes modeS modeAC memory
+    by-buffers : (b : Bool) → buffersFit four (length bytes) modeS modeAC memory ≡ b
+        → cond b (settingsThen four level tapsS tapsAC (settingsOf bytes .rates) (acceptedOf four (settingsOf bytes))) (Refused Cause.Length) ≡ openedFor four level tapsS tapsAC bytes modeS modeAC memory
     unfolding openedFor
-    by-lent b e = ap (λ (x : Bool). cond x (settingsThen four level tapsS tapsAC (settingsOf bytes .rates) (acceptedOf four (settingsOf bytes))) (Refused Cause.Lent)) (sym e)
+    by-buffers b e = ap (λ (x : Bool). cond x (settingsThen four level tapsS tapsAC (settingsOf bytes .rates) (acceptedOf four (settingsOf bytes))) (Refused Cause.Length)) (sym e)
 
-    pub lent-refused : lentFits four (length bytes) modeS modeAC memory ≡ false → Refused Cause.Lent ≡ openedFor four level tapsS tapsAC bytes modeS modeAC memory
-    lent-refused = by-lent false
+    pub buffers-refused : buffersFit four (length bytes) modeS modeAC memory ≡ false → Refused Cause.Length ≡ openedFor four level tapsS tapsAC bytes modeS modeAC memory
+    buffers-refused = by-buffers false
 
     -- the settings, and what their check gives
-    module _ (s : Settings) (x : Checked.Checked) (held : s ≡ settingsOf bytes) (checks : x ≡ acceptedOf four s) (fit : lentFits four (length bytes) modeS modeAC memory ≡ true) where
+    module _ (s : Settings) (x : Checked.Checked) (held : s ≡ settingsOf bytes) (checks : x ≡ acceptedOf four s) (fit : buffersFit four (length bytes) modeS modeAC memory ≡ true) where
       by-settings : settingsThen four level tapsS tapsAC (s .rates) x ≡ openedFor four level tapsS tapsAC bytes modeS modeAC memory
       by-settings =
           ap (settingsThen four level tapsS tapsAC (s .rates)) checks
           ∙ ap (λ (z : Settings). settingsThen four level tapsS tapsAC (z .rates) (acceptedOf four z)) held
-          ∙ by-lent true fit
+          ∙ by-buffers true fit
 
       pub settings-refused : (r : Refusal) → x ≡ Checked.the-variants.Refused r → Refused r ≡ openedFor four level tapsS tapsAC bytes modeS modeAC memory
       unfolding settingsThen
@@ -149,11 +149,11 @@ module _ (level : Float) (tapsS tapsAC : List Float) where
     -- a run is opened only where what is lent fits
     pub run-fits : (o : Opened) → o ≡ openedFor four level tapsS tapsAC bytes modeS modeAC memory → isRun o ≡ true → Fits (length bytes) modeS modeAC memory
     unfolding isRun
-    run-fits o e t = fits-for (length bytes) modeS modeAC memory (go (lentFits four (length bytes) modeS modeAC memory) refl)
+    run-fits o e t = fits-for (length bytes) modeS modeAC memory (go (buffersFit four (length bytes) modeS modeAC memory) refl)
       where
-        go : (b : Bool) → lentFits four (length bytes) modeS modeAC memory ≡ b → b ≡ true
+        go : (b : Bool) → buffersFit four (length bytes) modeS modeAC memory ≡ b → b ≡ true
         go true f = refl
-        go false f = ap isRun (lent-refused f ∙ sym e) ∙ t
+        go false f = ap isRun (buffers-refused f ∙ sym e) ∙ t
 
     pub prepared : {o : Opened} {p q : List Float} → o ≡ openedFor four level tapsS tapsAC bytes modeS modeAC memory → p ≡ modeSPrototype four tapsS → q ≡ modeACPrototype four tapsAC
         → record { opened = o; «mode_s» = p; «mode_ac» = q } ≡ preparedOf four level tapsS tapsAC bytes modeS modeAC memory

@@ -11,7 +11,7 @@ use lib.Ieee.{Float, nan}
 use borrow.Author.Tests.{eqb-true, eq-eqb}
 use Rattle.constants.specs.Rate.{four, modeSTaps, modeACTaps}
 use Rattle.pulse_shape.specs.declared.Crossing.{Crossing}
-use Rattle.pulse_shape.specs.declared.Crossing.the-variants.{At, Nowhere}
+use Rattle.pulse_shape.specs.declared.Crossing.the-variants.{At, None}
 use Rattle.pulse_shape.specs.Prototype.{modeSPrototype, modeACPrototype}
 use Rattle.pulse_shape.specs.Accepted.{within16, allWithin16, modeSTapsAccepted, modeACTapsAccepted}
 use Rattle.pulse_shape.specs.GroupDelay.{crosses, delayAt, choose, delayFrom, groupDelay, modeACRatio, over, modeACGroupDelay, crossingAnswer}
@@ -26,9 +26,9 @@ use Rattle.settings.specs.FirstCause as Settings
 use Rattle.settings.proofs.FirstCause as SettingsCause
 use Rattle.run_open_checks.specs.declared.Opened.{Opened}
 use Rattle.run_open_checks.specs.declared.Opened.the-variants.{Run, Refused}
-use Rattle.run_open_checks.specs.Opening.{Lent, firstState, lentFits, modeSDelay, modeACDelay, delaysGiven, delaysThen, delaysOf, tapsOf, settingsThen, openedFor, openedOf}
-use Rattle.run_open_checks.specs.FirstCause.{Fits, AllWithin16, GoodTaps, Crosses, GoodPrototype, LentFits, Passed, BothTaps, BothPrototypes, Answered, refused-9, refused-1-to-4, refused-5, refused-6, accepted}
-use Rattle.run_open_checks.proofs.Decided.{fits-if, fits-for, mode-s-delay-of, mode-ac-delay-of, no-mode-s, no-mode-ac, both-found, mode-s-taps-refused, mode-ac-taps-refused, taps-pass, lent-refused, settings-refused, settings-pass}
+use Rattle.run_open_checks.specs.Opening.{OpenBuffers, firstState, buffersFit, modeSDelay, modeACDelay, delaysGiven, delaysThen, delaysOf, tapsOf, settingsThen, openedFor, openedOf}
+use Rattle.run_open_checks.specs.FirstCause.{Fits, AllWithin16, GoodTaps, Crosses, GoodPrototype, BuffersFit, NoEarlierCause, BothTaps, BothPrototypes, Answered, refused-9, refused-1-to-4, refused-5, refused-6, accepted}
+use Rattle.run_open_checks.proofs.Decided.{fits-if, fits-for, mode-s-delay-of, mode-ac-delay-of, no-mode-s, no-mode-ac, both-found, mode-s-taps-refused, mode-ac-taps-refused, taps-pass, buffers-refused, settings-refused, settings-pass}
 
 -- ---- the tests decide these facts
 abbrev Decides : Bool → Type 0 → Type 0
@@ -43,10 +43,10 @@ fails : {P : Type 0} (b : Bool) → Decides b P → (P → ⊥) → b ≡ false
 fails true h never = absurd (never h)
 fails false h never = refl
 
-lent-decides : (settings modeS modeAC memory : ℕ) → Decides (lentFits four settings modeS modeAC memory) (Fits settings modeS modeAC memory)
-lent-decides settings modeS modeAC memory = go (lentFits four settings modeS modeAC memory) refl
+buffers-decides : (settings modeS modeAC memory : ℕ) → Decides (buffersFit four settings modeS modeAC memory) (Fits settings modeS modeAC memory)
+buffers-decides settings modeS modeAC memory = go (buffersFit four settings modeS modeAC memory) refl
   where
-    go : (b : Bool) → lentFits four settings modeS modeAC memory ≡ b → Decides b (Fits settings modeS modeAC memory)
+    go : (b : Bool) → buffersFit four settings modeS modeAC memory ≡ b → Decides b (Fits settings modeS modeAC memory)
     go true e = fits-for settings modeS modeAC memory e
     go false e = λ f. false≢true (sym e ∙ sym (fits-if settings modeS modeAC memory f))
 
@@ -78,7 +78,7 @@ taps-decide count taps = go (eqb (length taps) count) refl (allWithin16 taps) (a
 -- a delay is found where the level crosses
 abbrev CrossingSays : Float → List Float → Crossing → Type 0
 CrossingSays level l (At d) = Crosses level l
-CrossingSays level l Nowhere = Crosses level l → ⊥
+CrossingSays level l None = Crosses level l → ⊥
 
 crossing-says : (sps : ℕ) (level : Float) (j : ℕ) (l : List Float) → CrossingSays level l (delayFrom sps level j l)
 unfolding delayFrom
@@ -89,7 +89,7 @@ crossing-says sps level j (a ∷ b ∷ l) = go (crosses level a b) refl (delayFr
     go : (t : Bool) → crosses level a b ≡ t → (x : Crossing) → CrossingSays level (b ∷ l) x → CrossingSays level (a ∷ b ∷ l) (choose t (At (delayAt sps level j a b)) x)
     go true e x h = (0, omega arith, e)
     go false e (At d) h = (suc (h .0), omega (arith, h .1), h .2)
-    go false e Nowhere h = not-here
+    go false e None h = not-here
       where
         not-here : Crosses level (a ∷ b ∷ l) → ⊥
         not-here (zero, k, c) = false≢true (sym e ∙ c)
@@ -98,19 +98,19 @@ crossing-says sps level j (a ∷ b ∷ l) = go (crosses level a b) refl (delayFr
 -- a prototype's delay is found where the prototype is good
 abbrev DelaySays : Float → List Float → Crossing → Crossing → Type 0
 DelaySays level p found (At d) = GoodPrototype level p × (found ≡ At d)
-DelaySays level p found Nowhere = GoodPrototype level p → ⊥
+DelaySays level p found None = GoodPrototype level p → ⊥
 
-delay-says : (level : Float) (p : List Float) (found : Crossing) → CrossingSays level p found → DelaySays level p found (cond (allWithin16 p) found Nowhere)
+delay-says : (level : Float) (p : List Float) (found : Crossing) → CrossingSays level p found → DelaySays level p found (cond (allWithin16 p) found None)
 delay-says level p found h = go (allWithin16 p) (all-decides p) found h
   where
-    go : (b : Bool) → Decides b (AllWithin16 p) → (x : Crossing) → CrossingSays level p x → DelaySays level p x (cond b x Nowhere)
+    go : (b : Bool) → Decides b (AllWithin16 p) → (x : Crossing) → CrossingSays level p x → DelaySays level p x (cond b x None)
     go true w (At d) c = (record { within = w; crossing = c }, refl)
-    go true w Nowhere c = λ g. c (g .crossing)
+    go true w None c = λ g. c (g .crossing)
     go false w x c = λ g. w (g .within)
 
 over-says : (level ratio : Float) (p : List Float) (x : Crossing) → CrossingSays level p x → CrossingSays level p (over ratio x)
 over-says level ratio p (At d) c = c
-over-says level ratio p Nowhere c = c
+over-says level ratio p None c = c
 
 mode-s-says : (level : Float) (p : List Float) → DelaySays level p (groupDelay four level p) (modeSDelay four level p)
 unfolding modeSDelay groupDelay
@@ -120,21 +120,21 @@ mode-ac-says : (level : Float) (p : List Float) → DelaySays level p (modeACGro
 unfolding modeACDelay modeACGroupDelay groupDelay
 mode-ac-says level p = delay-says level p _ (over-says level modeACRatio p (delayFrom four level 0 p) (crossing-says four level 0 p))
 
-module _ (level : Float) (tapsS tapsAC : List Float) (bytes : List ℕ) (l : Lent) where
+module _ (level : Float) (tapsS tapsAC : List Float) (bytes : List ℕ) (l : OpenBuffers) where
   abbrev Right : Opened → Type 0
   Right = Answered level tapsS tapsAC bytes l
 
   -- ---- for its cause only
-  by-delays : (n : ℕ) (d : Distributions) → Passed bytes l n d → BothTaps tapsS tapsAC
+  by-delays : (n : ℕ) (d : Distributions) → NoEarlierCause bytes l n d → BothTaps tapsS tapsAC
       → (x : Crossing) → DelaySays level (modeSPrototype four tapsS) (groupDelay four level (modeSPrototype four tapsS)) x
       → (y : Crossing) → DelaySays level (modeACPrototype four tapsAC) (modeACGroupDelay four level (modeACPrototype four tapsAC)) y
       → Right (delaysThen (settingsOf bytes .rates) n d x y)
   unfolding delaysThen delaysGiven crossingAnswer
   by-delays n d P t (At a) f (At b) g = accepted P t (f .0, g .0) (f .1) (g .1)
-  by-delays n d P t (At a) f Nowhere g = refused-6 P t (λ both. g (both .1))
-  by-delays n d P t Nowhere f y g = refused-6 P t (λ both. f (both .0))
+  by-delays n d P t (At a) f None g = refused-6 P t (λ both. g (both .1))
+  by-delays n d P t None f y g = refused-6 P t (λ both. f (both .0))
 
-  by-taps : (n : ℕ) (d : Distributions) → Passed bytes l n d
+  by-taps : (n : ℕ) (d : Distributions) → NoEarlierCause bytes l n d
       → (s : Bool) → Decides s (GoodTaps (modeSTaps four) tapsS) → (ac : Bool) → Decides ac (GoodTaps (modeACTaps four) tapsAC)
       → Right (cond (s && ac) (delaysOf four level tapsS tapsAC (settingsOf bytes .rates) n d) (Refused Cause.Taps))
   unfolding delaysOf
@@ -142,25 +142,25 @@ module _ (level : Float) (tapsS tapsAC : List Float) (bytes : List ℕ) (l : Len
   by-taps n d P true f false g = refused-5 P (λ both. g (both .1))
   by-taps n d P false f ac g = refused-5 P (λ both. f (both .0))
 
-  by-settings : LentFits bytes l → (c : Checked.Checked) → Settings.Answered four (settingsOf bytes) c → Right (settingsThen four level tapsS tapsAC (settingsOf bytes .rates) c)
+  by-settings : BuffersFit bytes l → (c : Checked.Checked) → Settings.Answered four (settingsOf bytes) c → Right (settingsThen four level tapsS tapsAC (settingsOf bytes .rates) c)
   unfolding settingsThen tapsOf modeSTapsAccepted modeACTapsAccepted
   by-settings f (Checked.the-variants.Accepted n d) s = by-taps n d (record { lent = f; settings = s }) (modeSTapsAccepted four tapsS) (taps-decide (modeSTaps four) tapsS) (modeACTapsAccepted four tapsAC) (taps-decide (modeACTaps four) tapsAC)
   by-settings f (Checked.the-variants.Refused q) s = refused-1-to-4 f s
 
   pub answered : Right (openedOf four level tapsS tapsAC bytes l)
   unfolding openedOf openedFor
-  answered = go (lentFits four (length bytes) (length (l .modeS)) (length (l .modeAC)) (length (l .memory))) (lent-decides (length bytes) (length (l .modeS)) (length (l .modeAC)) (length (l .memory)))
+  answered = go (buffersFit four (length bytes) (length (l .modeS)) (length (l .modeAC)) (length (l .memory))) (buffers-decides (length bytes) (length (l .modeS)) (length (l .modeAC)) (length (l .memory)))
     where
-      go : (b : Bool) → Decides b (LentFits bytes l)
-          → Right (cond b (settingsThen four level tapsS tapsAC (settingsOf bytes .rates) (acceptedOf four (settingsOf bytes))) (Refused Cause.Lent))
+      go : (b : Bool) → Decides b (BuffersFit bytes l)
+          → Right (cond b (settingsThen four level tapsS tapsAC (settingsOf bytes .rates) (acceptedOf four (settingsOf bytes))) (Refused Cause.Length))
       go true f = by-settings f (acceptedOf four (settingsOf bytes)) (SettingsCause.answered four (settingsOf bytes))
       go false f = refused-9 f
 
   -- ---- and the first
-  fit : LentFits bytes l → lentFits four (length bytes) (length (l .modeS)) (length (l .modeAC)) (length (l .memory)) ≡ true
-  fit = holds _ (lent-decides (length bytes) (length (l .modeS)) (length (l .modeAC)) (length (l .memory)))
+  fit : BuffersFit bytes l → buffersFit four (length bytes) (length (l .modeS)) (length (l .modeAC)) (length (l .memory)) ≡ true
+  fit = holds _ (buffers-decides (length bytes) (length (l .modeS)) (length (l .modeAC)) (length (l .memory)))
 
-  passes : (n : ℕ) (d : Distributions) → Passed bytes l n d → openedOf four level tapsS tapsAC bytes l ≡ tapsOf four level tapsS tapsAC (settingsOf bytes .rates) n d
+  passes : (n : ℕ) (d : Distributions) → NoEarlierCause bytes l n d → openedOf four level tapsS tapsAC bytes l ≡ tapsOf four level tapsS tapsAC (settingsOf bytes .rates) n d
   unfolding openedOf
   passes n d P = sym (settings-pass level tapsS tapsAC bytes _ _ _ (settingsOf bytes) _ refl refl (fit (P .lent)) n d (SettingsCause.only four (settingsOf bytes) _ (P .settings)))
 
@@ -191,12 +191,12 @@ module _ (level : Float) (tapsS tapsAC : List Float) (bytes : List ℕ) (l : Len
             → (y : Crossing) → modeACDelay four level (modeACPrototype four tapsAC) ≡ y → DelaySays level (modeACPrototype four tapsAC) (modeACGroupDelay four level (modeACPrototype four tapsAC)) y
             → Refused Cause.Prototype ≡ delaysOf four level tapsS tapsAC (settingsOf bytes .rates) n d
         go (At a) e f (At b) h g = absurd (p (f .0, g .0))
-        go (At a) e f Nowhere h g = no-mode-ac _ n d _ _ a e h
-        go Nowhere e f y h g = no-mode-s _ n d _ _ e
+        go (At a) e f None h g = no-mode-ac _ n d _ _ a e h
+        go None e f y h g = no-mode-s _ n d _ _ e
 
   pub only : (c : Opened) → Right c → openedOf four level tapsS tapsAC bytes l ≡ c
   unfolding delaysOf openedOf
-  only c (refused-9 f) = sym (lent-refused level tapsS tapsAC bytes _ _ _ (fails _ (lent-decides (length bytes) (length (l .modeS)) (length (l .modeAC)) (length (l .memory))) f))
+  only c (refused-9 f) = sym (buffers-refused level tapsS tapsAC bytes _ _ _ (fails _ (buffers-decides (length bytes) (length (l .modeS)) (length (l .modeAC)) (length (l .memory))) f))
   only c (refused-1-to-4 {q} f s) = sym (settings-refused level tapsS tapsAC bytes _ _ _ (settingsOf bytes) _ refl refl (fit f) q (SettingsCause.only four (settingsOf bytes) _ s))
   only c (refused-5 {n} {d} P t) = passes n d P ∙ sym (taps-refused n d t)
   only c (refused-6 {n} {d} P t p) = passes n d P ∙ sym (prototype-refused n d p ∙ taps-go-on n d t)
@@ -205,12 +205,12 @@ module _ (level : Float) (tapsS tapsAC : List Float) (bytes : List ℕ) (l : Len
       ∙ sym (both-found _ n d _ _ a b (mode-s-delay-of four level _ (within-16 level _ (p .0)) ∙ f) (mode-ac-delay-of four level _ (within-16 level _ (p .1)) ∙ g) ∙ taps-go-on n d t)
 
   -- a run is opened where no refusal has a cause
-  pub opens : (n : ℕ) (d : Distributions) → Passed bytes l n d → BothTaps tapsS tapsAC → BothPrototypes level tapsS tapsAC → (s : State) × (openedOf four level tapsS tapsAC bytes l ≡ Run s)
+  pub opens : (n : ℕ) (d : Distributions) → NoEarlierCause bytes l n d → BothTaps tapsS tapsAC → BothPrototypes level tapsS tapsAC → (s : State) × (openedOf four level tapsS tapsAC bytes l ≡ Run s)
   opens n d P t p = go (modeSDelay four level (modeSPrototype four tapsS)) (mode-s-says level (modeSPrototype four tapsS)) (modeACDelay four level (modeACPrototype four tapsAC)) (mode-ac-says level (modeACPrototype four tapsAC))
     where
       go : (x : Crossing) → DelaySays level (modeSPrototype four tapsS) (groupDelay four level (modeSPrototype four tapsS)) x
           → (y : Crossing) → DelaySays level (modeACPrototype four tapsAC) (modeACGroupDelay four level (modeACPrototype four tapsAC)) y
           → (s : State) × (openedOf four level tapsS tapsAC bytes l ≡ Run s)
       go (At a) f (At b) g = (_, only _ (accepted P t p (f .1) (g .1)))
-      go (At a) f Nowhere g = absurd (g (p .1))
-      go Nowhere f y g = absurd (f (p .0))
+      go (At a) f None g = absurd (g (p .1))
+      go None f y g = absurd (f (p .0))

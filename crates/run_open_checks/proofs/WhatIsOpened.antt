@@ -23,11 +23,11 @@ use Rattle.settings.specs.Accepted.{acceptedOf}
 use Rattle.settings.proofs.FirstCause as Settings
 use Rattle.settings.proofs.InRange.{read-held}
 use Rattle.run_open_checks.specs.declared.Opened as Opened
-use Rattle.run_open_checks.specs.Opening.{Lent, half, firstState, openedOf, leftBy}
+use Rattle.run_open_checks.specs.Opening.{OpenBuffers, half, firstState, openedOf, leftBy}
 use Rattle.run_open_checks.specs.FirstCause.{Answered, refused-9, refused-1-to-4, refused-5, refused-6, accepted}
 use Rattle.run_open_checks.proofs.FirstCause.{answered, within-16}
 
-module _ (level : Float) (tapsS tapsAC : List Float) (bytes : List ℕ) (l : Lent) where
+module _ (level : Float) (tapsS tapsAC : List Float) (bytes : List ℕ) (l : OpenBuffers) where
   -- what a run's range turns on, and that its state is the first one
   pub record Accepts (state : State) : Type 0 where
     pub total : ℕ
@@ -85,7 +85,7 @@ module _ (level : Float) (tapsS tapsAC : List Float) (bytes : List ℕ) (l : Len
         (Machine.opened (genOf s (modeSPrototype four tapsS) (modeACPrototype four tapsAC)) nan)) (sym (what-is-opened .is)) refl
 
 -- at level 0.5
-pub opened-run-in-range : (tapsS tapsAC : List Float) (bytes : List ℕ) (l : Lent) (state : State) → openedOf four half tapsS tapsAC bytes l ≡ Opened.the-variants.Run state
+pub opened-run-in-range : (tapsS tapsAC : List Float) (bytes : List ℕ) (l : OpenBuffers) (state : State) → openedOf four half tapsS tapsAC bytes l ≡ Opened.the-variants.Run state
     → Range.FiltersInRange (filtersOf state (modeSPrototype four tapsS) (modeACPrototype four tapsAC)) × (state .total ≤ 2 ^ 52)
 unfolding ofBits lt
 opened-run-in-range tapsS tapsAC bytes l state opens = opened-in-range half tapsS tapsAC bytes l state opens (ofBits-fits binary32 0x3f00_0000) tt

@@ -18,7 +18,7 @@ use Rattle.settings.specs.Settings.{settingsLength, settingsOf}
 use Rattle.settings.specs.FirstCause as Settings
 use Rattle.run_open_checks.specs.declared.Opened.{Opened}
 use Rattle.run_open_checks.specs.declared.Opened.the-variants.{Run, Refused}
-use Rattle.run_open_checks.specs.Opening.{Lent, firstState}
+use Rattle.run_open_checks.specs.Opening.{OpenBuffers, firstState}
 
 -- the lengths of what opening is lent
 pub record Fits (settings modeS modeAC memory : ℕ) : Type 0 where
@@ -46,12 +46,12 @@ pub record GoodPrototype (level : Float) (prototype : List Float) : Type 0 where
   pub crossing : Crosses level prototype
 
 -- no cause for 9 (SPECIFICATION 3.1), and the settings have 119 bytes
-abbrev pub LentFits : List ℕ → Lent → Type 0
-LentFits bytes l = Fits (length bytes) (length (l .modeS)) (length (l .modeAC)) (length (l .memory))
+abbrev pub BuffersFit : List ℕ → OpenBuffers → Type 0
+BuffersFit bytes l = Fits (length bytes) (length (l .modeS)) (length (l .modeAC)) (length (l .memory))
 
 -- refusals 9 and 1 to 4 do not apply: the run has n samples and the distributions d
-pub record Passed (bytes : List ℕ) (l : Lent) (n : ℕ) (d : Distributions) : Type 0 where
-  pub lent : LentFits bytes l
+pub record NoEarlierCause (bytes : List ℕ) (l : OpenBuffers) (n : ℕ) (d : Distributions) : Type 0 where
+  pub lent : BuffersFit bytes l
   pub settings : Settings.Answered four (settingsOf bytes) (Checked.the-variants.Accepted n d)
 
 -- of both filters
@@ -62,11 +62,11 @@ abbrev pub BothPrototypes : Float → List Float → List Float → Type 0
 BothPrototypes level tapsS tapsAC = GoodPrototype level (modeSPrototype four tapsS) × GoodPrototype level (modeACPrototype four tapsAC)
 
 -- which answer is right: each refusal for its cause, where no earlier one applies, and a run where none does. The level is 0.5 (SPECIFICATION 1.5).
-pub data Answered (level : Float) (tapsS tapsAC : List Float) (bytes : List ℕ) (l : Lent) : Opened → Type 0 where
-  refused-9 : (LentFits bytes l → ⊥) → Answered level tapsS tapsAC bytes l (Refused Cause.Lent)
-  refused-1-to-4 : {q : Refusal} → LentFits bytes l → Settings.Answered four (settingsOf bytes) (Checked.the-variants.Refused q) → Answered level tapsS tapsAC bytes l (Refused q)
-  refused-5 : {n : ℕ} {d : Distributions} → Passed bytes l n d → (BothTaps tapsS tapsAC → ⊥) → Answered level tapsS tapsAC bytes l (Refused Cause.Taps)
-  refused-6 : {n : ℕ} {d : Distributions} → Passed bytes l n d → BothTaps tapsS tapsAC → (BothPrototypes level tapsS tapsAC → ⊥) → Answered level tapsS tapsAC bytes l (Refused Cause.Prototype)
-  accepted : {n : ℕ} {d : Distributions} {a b : Float} → Passed bytes l n d → BothTaps tapsS tapsAC → BothPrototypes level tapsS tapsAC
+pub data Answered (level : Float) (tapsS tapsAC : List Float) (bytes : List ℕ) (l : OpenBuffers) : Opened → Type 0 where
+  refused-9 : (BuffersFit bytes l → ⊥) → Answered level tapsS tapsAC bytes l (Refused Cause.Length)
+  refused-1-to-4 : {q : Refusal} → BuffersFit bytes l → Settings.Answered four (settingsOf bytes) (Checked.the-variants.Refused q) → Answered level tapsS tapsAC bytes l (Refused q)
+  refused-5 : {n : ℕ} {d : Distributions} → NoEarlierCause bytes l n d → (BothTaps tapsS tapsAC → ⊥) → Answered level tapsS tapsAC bytes l (Refused Cause.Taps)
+  refused-6 : {n : ℕ} {d : Distributions} → NoEarlierCause bytes l n d → BothTaps tapsS tapsAC → (BothPrototypes level tapsS tapsAC → ⊥) → Answered level tapsS tapsAC bytes l (Refused Cause.Prototype)
+  accepted : {n : ℕ} {d : Distributions} {a b : Float} → NoEarlierCause bytes l n d → BothTaps tapsS tapsAC → BothPrototypes level tapsS tapsAC
       → groupDelay four level (modeSPrototype four tapsS) ≡ At a → modeACGroupDelay four level (modeACPrototype four tapsAC) ≡ At b
       → Answered level tapsS tapsAC bytes l (Run (firstState (settingsOf bytes .rates) n d a b))

@@ -24,7 +24,7 @@ use Rattle.run_open_checks.specs.declared.Opened as Opened
 use Rattle.run_open_checks.specs.declared.Prepared.{Prepared}
 
 -- what opening is lent to write: the two prototypes and working memory
-pub record Lent : Type 0 where
+pub record OpenBuffers : Type 0 where
   pub modeS : List Float
   pub modeAC : List Float
   pub memory : List Float
@@ -43,15 +43,15 @@ firstState rates total all modeS modeAC = record {
 }
 
 -- the lengths of the settings, of the two prototypes and of working memory are 119, 1,792, 1,792 and 2,252
-unfoldable pub lentFits : ℕ → ℕ → ℕ → ℕ → ℕ → Bool
-lentFits sps settings modeS modeAC memory = eqb settings settingsLength && eqb memory (workingMemory sps) && eqb modeS (prototypeLength sps) && eqb modeAC (prototypeLength sps)
+unfoldable pub buffersFit : ℕ → ℕ → ℕ → ℕ → ℕ → Bool
+buffersFit sps settings modeS modeAC memory = eqb settings settingsLength && eqb memory (workingMemory sps) && eqb modeS (prototypeLength sps) && eqb modeAC (prototypeLength sps)
 
 -- the delay of a prototype; nowhere where a value is not finite or above 16 in size
 unfoldable pub modeSDelay : ℕ → Float → List Float → Crossing.Crossing
-modeSDelay sps level prototype = cond (allWithin16 prototype) (groupDelay sps level prototype) Crossing.the-variants.Nowhere
+modeSDelay sps level prototype = cond (allWithin16 prototype) (groupDelay sps level prototype) Crossing.the-variants.None
 
 unfoldable pub modeACDelay : ℕ → Float → List Float → Crossing.Crossing
-modeACDelay sps level prototype = cond (allWithin16 prototype) (modeACGroupDelay sps level prototype) Crossing.the-variants.Nowhere
+modeACDelay sps level prototype = cond (allWithin16 prototype) (modeACGroupDelay sps level prototype) Crossing.the-variants.None
 
 -- the run's first state, or the refusal of the first prototype without a delay
 unfoldable pub delaysGiven : MessagesPerSecond → ℕ → Distributions → Answer Float → Answer Float → Opened.Opened
@@ -84,9 +84,9 @@ module _ (sps : ℕ) (level : Float) (tapsS tapsAC : List Float) where
   -- what opening answers, lent prototypes and working memory of these lengths: refusal 9, "working memory not 2,252 f32, a prototype not 1,792 f32", and settings of another length than 119 bytes, before any of them is read (docs/DECISIONS.md); then the others
   unfoldable pub openedFor : List ℕ → ℕ → ℕ → ℕ → Opened.Opened
   openedFor bytes modeS modeAC memory =
-      cond (lentFits sps (length bytes) modeS modeAC memory) (settingsThen (settingsOf bytes .rates) (acceptedOf sps (settingsOf bytes))) (Opened.the-variants.Refused Refusal.the-variants.Lent)
+      cond (buffersFit sps (length bytes) modeS modeAC memory) (settingsThen (settingsOf bytes .rates) (acceptedOf sps (settingsOf bytes))) (Opened.the-variants.Refused Refusal.the-variants.Length)
 
-  unfoldable pub openedOf : List ℕ → Lent → Opened.Opened
+  unfoldable pub openedOf : List ℕ → OpenBuffers → Opened.Opened
   openedOf bytes lent = openedFor bytes (length (lent .modeS)) (length (lent .modeAC)) (length (lent .memory))
 
   -- the answer, with the prototypes that a run is opened with
@@ -100,7 +100,7 @@ isRun (Opened.the-variants.Run state) = true
 isRun (Opened.the-variants.Refused refusal) = false
 
 -- what opening leaves (SPECIFICATION 8.2): a refusal changes no buffer
-unfoldable pub leftBy : ℕ → List Float → List Float → Opened.Opened → Lent → Lent
+unfoldable pub leftBy : ℕ → List Float → List Float → Opened.Opened → OpenBuffers → OpenBuffers
 leftBy sps tapsS tapsAC (Opened.the-variants.Run state) lent =
     record { modeS = modeSPrototype sps tapsS; modeAC = modeACPrototype sps tapsAC; memory = zeros (workingMemory sps) }
 leftBy sps tapsS tapsAC (Opened.the-variants.Refused refusal) lent = lent

@@ -2,7 +2,7 @@
 ghost use mathlib.Core.Path.{_≡_};
 ghost use Rattle.constants.specs.Rate.{four};
 ghost use Rattle.pulse_shape.specs.Prototype.{modeSPrototype, modeACPrototype};
-ghost use Rattle.run_open_checks.specs.Opening.{half, lentFits, modeSDelay, modeACDelay, firstState, delaysThen, tapsOf, openedFor, preparedOf};
+ghost use Rattle.run_open_checks.specs.Opening.{half, buffersFit, modeSDelay, modeACDelay, firstState, delaysThen, tapsOf, openedFor, preparedOf};
 use message_config::Delays;
 use pulse_shape::Crossing;
 use refusals::Refusal;
@@ -24,8 +24,8 @@ pub struct Prepared {
 }
 
 // Whether the settings, the prototypes and working memory have their lengths.
-fn lent_fits(settings: usize, mode_s: usize, mode_ac: usize, memory: usize) -> bool
-    ensures { λ r. ⌜ r ≡ lentFits four settings «mode_s» «mode_ac» memory ⌝ }
+fn buffers_fit(settings: usize, mode_s: usize, mode_ac: usize, memory: usize) -> bool
+    ensures { λ r. ⌜ r ≡ buffersFit four settings «mode_s» «mode_ac» memory ⌝ }
 {
     if settings != 119 {
         return false;
@@ -49,7 +49,7 @@ fn mode_s_delay(level: f32, prototype: &[f32]) -> Crossing
     if pulse_taps_check::all_within_16(prototype) {
         return pulse_group_delay::group_delay(level, prototype);
     }
-    Crossing::Nowhere
+    Crossing::None
 }
 
 // The delay of a Mode A/C prototype; nowhere where a value is not finite or above 16 in size.
@@ -59,7 +59,7 @@ fn mode_ac_delay(level: f32, prototype: &[f32]) -> Crossing
     if pulse_taps_check::all_within_16(prototype) {
         return pulse_group_delay::mode_ac_group_delay(level, prototype);
     }
-    Crossing::Nowhere
+    Crossing::None
 }
 
 // The state before the first run call.
@@ -88,7 +88,7 @@ fn first_state(
 }
 
 // The first state, or refusal 6.
-fn decide(
+fn first_state_or_refusal(
     rates: MessagesPerSecond,
     total: u64,
     all: Distributions,
@@ -129,11 +129,11 @@ fn check_taps(
     }
     let delay_s = mode_s_delay(level, proto_s);
     let delay_ac = mode_ac_delay(level, proto_ac);
-    decide(rates, total, all, delay_s, delay_ac)
+    first_state_or_refusal(rates, total, all, delay_s, delay_ac)
 }
 
 // Refusal 9, then 1 to 6, or the state. The level is that of the prototypes' crossings.
-fn judge(
+fn check_open(
     settings: &[u8],
     level: f32,
     taps_s: &[f32],
@@ -147,8 +147,8 @@ fn judge(
     requires { ⌜ (now «proto_s» ≡ modeSPrototype four (now «taps_s»)) × (now «proto_ac» ≡ modeACPrototype four (now «taps_ac»)) ⌝ }
     ensures { λ r. ⌜ r ≡ openedFor four level (now («taps_s» .entry)) (now («taps_ac» .entry)) (now (settings .entry)) «mode_s» «mode_ac» memory ⌝ }
 {
-    if !lent_fits(settings.len(), mode_s, mode_ac, memory) {
-        return Opened::Refused(Refusal::Lent);
+    if !buffers_fit(settings.len(), mode_s, mode_ac, memory) {
+        return Opened::Refused(Refusal::Length);
     }
     let s = settings::read(settings);
     let rates = s.rates;
@@ -173,7 +173,7 @@ pub fn prepare(
 {
     let proto_s = pulse_shape::mode_s_prototype(taps_s);
     let proto_ac = pulse_shape::mode_ac_prototype(taps_ac);
-    let opened = judge(
+    let opened = check_open(
         settings,
         0.5,
         taps_s,

@@ -8,8 +8,8 @@ use lib.Ieee.{Float}
 use borrow.Author.Tests.{lt-ltb, le-ltb}
 use Rattle.run_theory.specs.Generator.{from, startFrom}
 use Rattle.run_theory.specs.PlainRun.{Kind, kindOf}
-use Rattle.run_call_model.specs.Plans as Theory
-use Rattle.run_call_model.proofs.Plans as Laws
+use Rattle.run_call_model.specs.Plan as Theory
+use Rattle.run_call_model.proofs.Plan as Laws
 use Rattle.message_config.specs.declared.Delays.{Delays}
 use Rattle.message_config.specs.declared.MessageConfig.{MessageConfig}
 use Rattle.message_config.specs.Config.{configStart}
@@ -88,15 +88,15 @@ module _ (total written room noise n : ℕ) (more : written < total) (e : n ≡ 
   drain-many z = drains n (Theory.batch (total - written) room noise) room e z ∙ sym (Laws.ended-more (counted total) written room noise more)
 
 -- the choice
-module _ (written total : ℕ) (delays : Delays) (next : MessageConfig) (rest room noise bytes : ℕ) where
+module _ (written total : ℕ) (delays : Delays) (last : MessageConfig) (rest room noise bytes : ℕ) where
   abbrev at : Bool → ℤ → Theory.Plan Float
-  at b start = Theory.plan (counted total) b written rest (next .time) (kindOf (counted total) (startFrom start)) room noise bytes
+  at b start = Theory.plan (counted total) b written rest (last .time) (kindOf (counted total) (startFrom start)) room noise bytes
 
   abbrev here : Bool → Theory.Plan Float
-  here b = at b (configStart delays next)
+  here b = at b (configStart delays last)
 
   abbrev Chosen : Bool → Theory.Plan Float
-  Chosen ended = chosen ended written total delays next rest room noise bytes
+  Chosen ended = chosen ended written total delays last rest room noise bytes
 
   pub chose-ended : (ended : Bool) → ended ≡ true → Theory.planEnded (counted total) written room noise ≡ Chosen ended
   unfolding chosen
@@ -104,10 +104,10 @@ module _ (written total : ℕ) (delays : Delays) (next : MessageConfig) (rest ro
 
   pub chose-none : (ended : Bool) → ended ≡ false → rest < 65 → planRead (Plan.the-variants.Halt Stop.the-variants.WantsDraws) ≡ Chosen ended
   unfolding chosen planRead stopRead
-  chose-none ended e h = sym (ap here e ∙ Laws.wants-draws (counted total) written rest (next .time) (kindOf (counted total) (startFrom (configStart delays next))) room noise bytes h)
+  chose-none ended e h = sym (ap here e ∙ Laws.wants-draws (counted total) written rest (last .time) (kindOf (counted total) (startFrom (configStart delays last))) room noise bytes h)
 
-  pub chose-draw : (ended : Bool) → ended ≡ false → 65 ≤ rest → (start : ℤ) → start ≡ configStart delays next
-      → Theory.planDraw (counted total) written (next .time) (kindOf (counted total) (startFrom start)) room noise bytes ≡ Chosen ended
+  pub chose-draw : (ended : Bool) → ended ≡ false → 65 ≤ rest → (start : ℤ) → start ≡ configStart delays last
+      → Theory.planDraw (counted total) written (last .time) (kindOf (counted total) (startFrom start)) room noise bytes ≡ Chosen ended
   unfolding chosen
   chose-draw ended e h start q =
-      sym (Laws.has-draw (counted total) written rest (next .time) (kindOf (counted total) (startFrom start)) room noise bytes h) ∙ ap (at false) q ∙ sym (ap here e)
+      sym (Laws.has-draw (counted total) written rest (last .time) (kindOf (counted total) (startFrom start)) room noise bytes h) ∙ ap (at false) q ∙ sym (ap here e)

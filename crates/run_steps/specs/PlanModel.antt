@@ -7,7 +7,7 @@ use Rattle.constants.specs.Rate.{four}
 use Rattle.run_theory.specs.Generator.{Generator, startFrom}
 use Rattle.run_theory.specs.PlainRun.{kindOf}
 use Rattle.run_theory.specs.PlainBench as Bench
-use Rattle.run_call_model.specs.Plans as Theory
+use Rattle.run_call_model.specs.Plan as Theory
 use Rattle.run_theory.specs.FloatGenerator.{noDraws, generator}
 use Rattle.message_config.specs.declared.Delays.{Delays}
 use Rattle.message_config.specs.declared.MessageConfig.{MessageConfig}
@@ -41,5 +41,5 @@ planRead (Plan.the-variants.Add time first) = Theory.addReply time first
 
 -- what comes next, from the message of the next draw, the draw bytes that are left, and the numbers left in output and noise and the bytes left for records
 unfoldable pub chosen : Bool → ℕ → ℕ → Delays → MessageConfig → ℕ → ℕ → ℕ → ℕ → Theory.Plan Float
-chosen ended written total delays next rest room noise bytes =
-    Theory.plan (counted total) ended written rest (next .time) (kindOf (counted total) (startFrom (configStart delays next))) room noise bytes
+chosen ended written total delays last rest room noise bytes =
+    Theory.plan (counted total) ended written rest (last .time) (kindOf (counted total) (startFrom (configStart delays last))) room noise bytes

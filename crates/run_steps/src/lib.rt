@@ -5,10 +5,10 @@ ghost use Prim.Native.Nat.{_-_, _<_, _^_, min};
 ghost use lib.IntN.{pos};
 ghost use Rattle.run_theory.specs.Generator.{startFrom};
 ghost use Rattle.run_theory.specs.PlainRun.{kindOf};
-ghost use Rattle.run_call_model.specs.Plans.{planEnded, planReply, planDraw, stopFor, someOr, dueMany};
+ghost use Rattle.run_call_model.specs.Plan.{planEnded, planReply, planDraw, stopFor, someOr, dueMany};
 ghost use Rattle.run_steps.specs.PlanModel.{counted, stopRead, planRead, isNegative, chosen};
 ghost use lib.Ieee.{lt};
-ghost use Rattle.run_steps.specs.ProgressModel.{wroteBy, tookBy, haltedBy, movedBy};
+ghost use Rattle.run_steps.specs.ProgressModel.{progressAfterSamples, progressAfterDraw, progressAfterStop, progressAfterStep};
 use message_config::Delays;
 use message_config::MessageConfig;
 
@@ -48,7 +48,7 @@ fn capped(due: u64, room: usize) -> usize
 
 // How many of the samples due can be written; none where a stop comes first.
 fn batch(due: u64, room: usize, noise: usize) -> usize
-    ensures { λ r. ⌜ r ≡ Rattle.run_call_model.specs.Plans.batch due room noise ⌝ }
+    ensures { λ r. ⌜ r ≡ Rattle.run_call_model.specs.Plan.batch due room noise ⌝ }
 {
     capped(due, least(room / 2, noise / 2))
 }
@@ -93,7 +93,7 @@ fn due_before(first: u64, written: u64) -> u64
 
 // The samples due by the start of a draw at its time.
 fn due(n: u64, time: f64, room: usize, noise: usize) -> Plan
-    ensures { λ r. ⌜ planRead r ≡ someOr (λ k. dueMany k time) (Rattle.run_call_model.specs.Plans.batch n room noise) room ⌝ }
+    ensures { λ r. ⌜ planRead r ≡ someOr (λ k. dueMany k time) (Rattle.run_call_model.specs.Plan.batch n room noise) room ⌝ }
 {
     let k = batch(n, room, noise);
     if k == 0 {
@@ -132,7 +132,7 @@ fn reply(written: u64, time: f64, first: u64, room: usize, noise: usize, bytes: 
 }
 
 // What comes of a draw with this time and start.
-fn place(
+fn classify(
     written: u64,
     total: u64,
     time: f64,
@@ -159,13 +159,13 @@ pub fn choose(
     written: u64,
     total: u64,
     delays: Delays,
-    next: MessageConfig,
+    last: MessageConfig,
     rest: usize,
     room: usize,
     noise: usize,
     bytes: usize,
 ) -> Plan
-    ensures { λ r. ⌜ planRead r ≡ chosen ended written total delays next rest room noise bytes ⌝ }
+    ensures { λ r. ⌜ planRead r ≡ chosen ended written total delays last rest room noise bytes ⌝ }
 {
     if ended {
         return drain(written, total, room, noise);
@@ -173,12 +173,12 @@ pub fn choose(
     if rest < 65 {
         return Plan::Halt(Stop::WantsDraws);
     }
-    let start = next.first_sample_index(delays);
-    place(written, total, next.time, start, room, noise, bytes)
+    let start = last.first_sample_index(delays);
+    classify(written, total, last.time, start, room, noise, bytes)
 }
 
 // A call so far: what of the state moves, the counts, and how the call came here.
-pub struct Turn {
+pub struct Progress {
     pub written: u64,
     pub time: f64,
     pub latest: f64,
@@ -186,21 +186,21 @@ pub struct Turn {
     pub taken: usize,
     pub samples: usize,
     pub records: usize,
-    pub next: Next,
+    pub last: LastStep,
 }
 
 // Samples were written; a draw was taken; or the call stopped.
-pub enum Next {
-    Wrote,
-    Took,
-    Halted(Stop),
+pub enum LastStep {
+    SamplesWritten,
+    DrawTaken,
+    StopReached(Stop),
 }
 
 // The turn after so many samples, with the latest time after them.
-fn wrote(t: Turn, n: usize, latest: f64) -> Turn
-    ensures { λ r. ⌜ r ≡ wroteBy t n latest ⌝ }
+fn after_samples(t: Progress, n: usize, latest: f64) -> Progress
+    ensures { λ r. ⌜ r ≡ progressAfterSamples t n latest ⌝ }
 {
-    Turn {
+    Progress {
         written: std::num::wrapping_add_u64(t.written, n as u64),
         time: t.time,
         latest: latest,
@@ -208,7 +208,7 @@ fn wrote(t: Turn, n: usize, latest: f64) -> Turn
         taken: t.taken,
         samples: std::num::wrapping_add_usize(t.samples, n),
         records: t.records,
-        next: Next::Wrote,
+        last: LastStep::SamplesWritten,
     }
 }
 
@@ -222,10 +222,10 @@ fn later(a: f64, b: f64) -> f64
 }
 
 // The turn after a draw was taken at its time, with so many records more.
-fn took(t: Turn, time: f64, ended: bool, lines: usize) -> Turn
-    ensures { λ r. ⌜ r ≡ tookBy t time ended lines ⌝ }
+fn after_draw(t: Progress, time: f64, ended: bool, lines: usize) -> Progress
+    ensures { λ r. ⌜ r ≡ progressAfterDraw t time ended lines ⌝ }
 {
-    Turn {
+    Progress {
         written: t.written,
         time: time,
         latest: t.latest,
@@ -233,14 +233,14 @@ fn took(t: Turn, time: f64, ended: bool, lines: usize) -> Turn
         taken: std::num::wrapping_add_usize(t.taken, 1),
         samples: t.samples,
         records: std::num::wrapping_add_usize(t.records, lines),
-        next: Next::Took,
+        last: LastStep::DrawTaken,
     }
 }
 
-fn halted(t: Turn, w: Stop) -> Turn
-    ensures { λ r. ⌜ r ≡ haltedBy t w ⌝ }
+fn after_stop(t: Progress, w: Stop) -> Progress
+    ensures { λ r. ⌜ r ≡ progressAfterStop t w ⌝ }
 {
-    Turn {
+    Progress {
         written: t.written,
         time: t.time,
         latest: t.latest,
@@ -248,20 +248,20 @@ fn halted(t: Turn, w: Stop) -> Turn
         taken: t.taken,
         samples: t.samples,
         records: t.records,
-        next: Next::Halted(w),
+        last: LastStep::StopReached(w),
     }
 }
 
 // The turn after a plan was carried out.
-pub fn moved(t: Turn, p: Plan) -> Turn
-    ensures { λ r. ⌜ r ≡ movedBy t p ⌝ }
+pub fn after_step(t: Progress, p: Plan) -> Progress
+    ensures { λ r. ⌜ r ≡ progressAfterStep t p ⌝ }
 {
     match p {
-        Plan::Halt(w) => halted(t, w),
-        Plan::Drain(n) => wrote(t, n, t.latest),
-        Plan::Due(n, time) => wrote(t, n, later(t.latest, time)),
-        Plan::Skip(time) => took(t, time, t.ended, 0),
-        Plan::End(time) => took(t, time, true, 0),
-        Plan::Add(time, _) => took(t, time, t.ended, 1),
+        Plan::Halt(w) => after_stop(t, w),
+        Plan::Drain(n) => after_samples(t, n, t.latest),
+        Plan::Due(n, time) => after_samples(t, n, later(t.latest, time)),
+        Plan::Skip(time) => after_draw(t, time, t.ended, 0),
+        Plan::End(time) => after_draw(t, time, true, 0),
+        Plan::Add(time, _) => after_draw(t, time, t.ended, 1),
     }
 }

@@ -20,8 +20,8 @@ use Rattle.run_call_model.proofs.FlatLists.{pairs-flatten}
 use Rattle.run_call_model.proofs.InStep.{Matches}
 use Rattle.run_theory.proofs.ListClaim as Theory
 use Rattle.run_call_model.proofs.Demand3.{matched}
-use Rattle.run_generator.specs.Real.{HeldDraw}
-use Rattle.run_generator.proofs.RealDemand3.{real-laws, real-demand3}
+use Rattle.run_generator.specs.Instance.{RepresentableDraw}
+use Rattle.run_generator.proofs.InstanceDemand3.{instance-laws, instance-demand3}
 use Rattle.pulse_shape.specs.Prototype.{modeSPrototype, modeACPrototype}
 use Rattle.pulse_shape.proofs.Whole.{length-prototype}
 use Rattle.run_steps.specs.declared.Stop as Stop
@@ -29,12 +29,12 @@ use Rattle.run_call.specs.declared.State.{State}
 use Rattle.run_call.specs.declared.Counts.{Counts}
 use Rattle.run_call.specs.declared.Answer as Answer
 use Rattle.run_call.specs.StateGenerator.{filtersOf}
-use Rattle.run_call.specs.Buffers.{Left, Lent}
+use Rattle.run_call.specs.Buffers.{Left, CallBuffers}
 use Rattle.run_call.specs.Given.{stopGiven}
 use Rattle.run_call.specs.CallModel.{runLeft}
 use Rattle.run_call.specs.Calls.{callOf, runsLeft}
 use Rattle.run_call.specs.MachineModel.{machineOf, stateOf, ranGiven, leftGiven, runsGiven}
-use Rattle.run_call.proofs.RunsAreTheTheorys.{given-state, runs-are}
+use Rattle.run_call.proofs.RunsAreTheModels.{given-state, runs-are}
 use Rattle.run_open_checks.specs.declared.Opened as Opened
 use Rattle.run_open_checks.specs.Opening as Opening
 use Rattle.run_open_checks.proofs.WhatIsOpened.{opened-run-in-range, opened-first}
@@ -46,7 +46,7 @@ use Rattle.run_theorem.proofs.SameRun.{same-run}
 
 -- first calls do not depend on later ones
 module _ (modeS modeAC : List Float) where
-  first-calls : (n : ℕ) (cs : List Lent) (s : State) (memory : List Float) → take n (runsLeft s modeS modeAC memory cs) ≡ runsLeft s modeS modeAC memory (take n cs)
+  first-calls : (n : ℕ) (cs : List CallBuffers) (s : State) (memory : List Float) → take n (runsLeft s modeS modeAC memory cs) ≡ runsLeft s modeS modeAC memory (take n cs)
   unfolding runsLeft
   first-calls zero cs s memory = refl
   first-calls (suc n) [] s memory = refl
@@ -74,7 +74,7 @@ module _ (r : Run) where
   seen-given (Bench.refused q) z output records = λ i. record { counts = countsOf (Bench.refused q); answer = refused (same-numbers q i); output = output; records = records }
   seen-given (Bench.ran taken samples noise lines stop) z output records = λ i. record { counts = countsOf (Bench.ran taken samples noise lines stop); answer = stopped (same-stops stop i); output = output; records = records }
 
-  seen-all : (cs : List Lent) (z : Machine.State G nan) → map seenLeft (runsGiven s pS pAC z cs) ≡ map (seenResult s pS pAC) (Machine.machineResults G nan z (benchCalls r cs))
+  seen-all : (cs : List CallBuffers) (z : Machine.State G nan) → map seenLeft (runsGiven s pS pAC z cs) ≡ map (seenResult s pS pAC) (Machine.machineResults G nan z (benchCalls r cs))
   unfolding runsGiven
   seen-all [] z = refl
   seen-all (c ∷ cs) z =
@@ -101,7 +101,7 @@ module _ (r : Run) where
   done-given (Bench.ran taken samples noise lines Bench.recordsFull) z e = let n : _≡_ {A = ℕ} 0 1 = cc in absurd (omega arith)
 
   -- what a list of calls wrote, used and took is what its results did
-  record Alike (cs : List Lent) (ls : List Left) (xs : List (Bench.Result G)) : Type 0 where
+  record Alike (cs : List CallBuffers) (ls : List Left) (xs : List (Bench.Result G)) : Type 0 where
     samples : allSamples ls ≡ Theory.allSamples G xs
     records : allRecords ls ≡ Theory.allRecords G xs
     used : allUsed cs ls ≡ Theory.allUsed G (benchCalls r cs) xs
@@ -112,7 +112,7 @@ module _ (r : Run) where
   either true c e = refl
   either false c e = e
 
-  alike-all : (cs : List Lent) (z : Machine.State G nan) → Alike cs (runsGiven s pS pAC z cs) (Machine.machineResults G nan z (benchCalls r cs))
+  alike-all : (cs : List CallBuffers) (z : Machine.State G nan) → Alike cs (runsGiven s pS pAC z cs) (Machine.machineResults G nan z (benchCalls r cs))
   unfolding runsGiven leftGiven
   alike-all [] z = record { samples = refl; records = refl; used = refl; taken = refl; done = λ d. absurd d }
   alike-all (c ∷ cs) z =
@@ -128,14 +128,14 @@ module _ (r : Run) where
         done = λ d. by-done c z (Machine.machineResults G nan (t .1) (benchCalls r cs)) (runsGiven s pS pAC (t .1) cs) (more .done) d;
       }
     where
-      by-done : (c : Lent) (z : Machine.State G nan) (xs : List (Bench.Result G)) (ls : List Left) → (ReachesDone ls → Theory.reachesDone G xs ≡ true) →
+      by-done : (c : CallBuffers) (z : Machine.State G nan) (xs : List (Bench.Result G)) (ls : List Left) → (ReachesDone ls → Theory.reachesDone G xs ≡ true) →
           let t = Machine.machineRun G nan z (callOf s pS pAC c) in
           (ranGiven s pS pAC (t .0 .answer) (t .1) .answer ≡ Answer.the-variants.Stopped Stop.the-variants.Done) ⊎ ReachesDone ls → Theory.doneIn (t .0 .answer) || Theory.reachesDone G xs ≡ true
       by-done c z xs ls ih (inl e) = ap (λ (b : Bool). b || Theory.reachesDone G xs) (done-given (Machine.machineRun G nan z (callOf s pS pAC c) .0 .answer) (Machine.machineRun G nan z (callOf s pS pAC c) .1) e)
       by-done c z xs ls ih (inr d) = either (Theory.doneIn (Machine.machineRun G nan z (callOf s pS pAC c) .0 .answer)) (Theory.reachesDone G xs) (ih d)
 
   -- the last call's state is the one that stands for the machine's
-  state-given : (cs : List Lent) (z : Machine.State G nan) → lastState (stateOf s pS pAC z) (runsGiven s pS pAC z cs) ≡ stateOf s pS pAC (Machine.machineAfter G nan z (benchCalls r cs))
+  state-given : (cs : List CallBuffers) (z : Machine.State G nan) → lastState (stateOf s pS pAC z) (runsGiven s pS pAC z cs) ≡ stateOf s pS pAC (Machine.machineAfter G nan z (benchCalls r cs))
   unfolding runsGiven leftGiven
   state-given [] z = refl
   state-given (c ∷ cs) z =
@@ -143,7 +143,7 @@ module _ (r : Run) where
       ap (λ (x : State). lastState x (runsGiven s pS pAC (t .1) cs)) (given-state s pS pAC (t .0 .answer) (t .1)) ∙ state-given cs (t .1)
 
 -- ---- an opened run
-module _ (tapsS tapsAC : List Float) (settings : List ℕ) (given : Opening.Lent) (s : State) (opens : Opening.openedOf four Opening.half tapsS tapsAC settings given ≡ Opened.the-variants.Run s) where
+module _ (tapsS tapsAC : List Float) (settings : List ℕ) (given : Opening.OpenBuffers) (s : State) (opens : Opening.openedOf four Opening.half tapsS tapsAC settings given ≡ Opened.the-variants.Run s) where
   memory : List Float
   memory = Opening.leftBy four tapsS tapsAC (Opened.the-variants.Run s) given .memory
 
@@ -164,37 +164,37 @@ module _ (tapsS tapsAC : List Float) (settings : List ℕ) (given : Opening.Lent
   shown : Theory.Demand3 (gen run) (Machine.runs (gen run) nan)
   shown =
       let q = opened-run-in-range tapsS tapsAC settings given s opens in
-      real-demand3 (filtersOf s (modeSPrototype four tapsS) (modeACPrototype four tapsAC)) (q .0) (s .total) (q .1) nan
+      instance-demand3 (filtersOf s (modeSPrototype four tapsS) (modeACPrototype four tapsAC)) (q .0) (s .total) (q .1) nan
 
-  calls-are : (cs : List Lent) → calls run cs ≡ runsGiven s (run .buffers .modeS) (run .buffers .modeAC) first cs
+  calls-are : (cs : List CallBuffers) → calls run cs ≡ runsGiven s (run .buffers .modeS) (run .buffers .modeAC) first cs
   unfolding memory
   calls-are cs =
       runs-are s (run .buffers .modeS) (run .buffers .modeAC) (length-prototype four _ tapsS) (length-prototype four _ tapsAC) cs (machineOf s (run .buffers .modeS) (run .buffers .modeAC) memory) memory-length
       ∙ ap (λ (z : Machine.State (gen run) nan). runsGiven s (run .buffers .modeS) (run .buffers .modeAC) z cs) (opened-first Opening.half tapsS tapsAC settings given s opens)
 
-  as-shown : (cs : List Lent) → Alike run cs (calls run cs) (Machine.runs (gen run) nan (benchCalls run cs))
+  as-shown : (cs : List CallBuffers) → Alike run cs (calls run cs) (Machine.runs (gen run) nan (benchCalls run cs))
   as-shown cs = subst (λ (ls : List Left). Alike run cs ls (Machine.runs (gen run) nan (benchCalls run cs))) (sym (calls-are cs)) (alike-all run cs first)
 
-  taken-is : (cs : List Lent) → drawsTaken run cs ≡ bench run cs .taken
+  taken-is : (cs : List CallBuffers) → drawsTaken run cs ≡ bench run cs .taken
   taken-is cs = as-shown cs .taken ∙ sym (shown .taken (benchCalls run cs))
 
-  used-is : (cs : List Lent) → noiseUsed run cs ≡ Bench.flatten (bench run cs .used)
+  used-is : (cs : List CallBuffers) → noiseUsed run cs ≡ Bench.flatten (bench run cs .used)
   used-is cs = as-shown cs .used ∙ sym (shown .used (benchCalls run cs))
 
-  pairs-are : (cs : List Lent) → Bench.pairs (noiseUsed run cs) ≡ bench run cs .used
+  pairs-are : (cs : List CallBuffers) → Bench.pairs (noiseUsed run cs) ≡ bench run cs .used
   pairs-are cs = ap (λ (vs : List Float). Bench.pairs vs) (used-is cs) ∙ pairs-flatten (bench run cs .used)
 
-  samples-are : (cs : List Lent) → samplesWritten run cs ≡ plainOutput (gen run) (drawsTaken run cs) (Bench.pairs (noiseUsed run cs))
+  samples-are : (cs : List CallBuffers) → samplesWritten run cs ≡ plainOutput (gen run) (drawsTaken run cs) (Bench.pairs (noiseUsed run cs))
   samples-are cs = as-shown cs .samples ∙ shown .samples (benchCalls run cs) ∙ (λ i. plainOutput (gen run) (sym (taken-is cs) i) (sym (pairs-are cs) i))
 
-  records-are : (cs : List Lent) → recordsWritten run cs ≡ plainLines (gen run) (drawsTaken run cs)
+  records-are : (cs : List CallBuffers) → recordsWritten run cs ≡ plainLines (gen run) (drawsTaken run cs)
   records-are cs = as-shown cs .records ∙ shown .records (benchCalls run cs) ∙ (λ i. plainLines (gen run) (sym (taken-is cs) i))
 
-  state-is : (cs : List Lent) → lastState s (calls run cs) ≡ stateAfter run (bench run cs)
+  state-is : (cs : List CallBuffers) → lastState s (calls run cs) ≡ stateAfter run (bench run cs)
   unfolding memory
   state-is cs =
       let q = opened-run-in-range tapsS tapsAC settings given s opens in
-      let m = matched (gen run) (real-laws (filtersOf s (modeSPrototype four tapsS) (modeACPrototype four tapsAC)) (q .0) (s .total) (q .1)) nan (benchCalls run cs) in
+      let m = matched (gen run) (instance-laws (filtersOf s (modeSPrototype four tapsS) (modeACPrototype four tapsAC)) (q .0) (s .total) (q .1)) nan (benchCalls run cs) in
       ap (λ (ls : List Left). lastState s ls) (calls-are cs)
       ∙ ap (λ (z : Machine.State (gen run) nan). lastState (stateOf s (run .buffers .modeS) (run .buffers .modeAC) z) (runsGiven s (run .buffers .modeS) (run .buffers .modeAC) first cs)) (opened-first Opening.half tapsS tapsAC settings given s opens)
       ∙ state-given run cs first
@@ -212,21 +212,21 @@ module _ (tapsS tapsAC : List Float) (settings : List ℕ) (given : Opening.Lent
     samples = samples-are;
     records = records-are;
     samples-stay = λ cs ds vs e.
-        subst (λ (p : List Float × List HeldDraw × List Float). Prefix (p .0) (plainOutput (gen run) (p .1 ++ ds) (Bench.pairs (p .2 ++ vs)))) (λ i. (sym (as-shown cs .samples) i, sym (taken-is cs) i, sym (used-is cs) i))
-        (shown .samples-stay (benchCalls run cs) ds vs (subst (λ (l : List HeldDraw). Bench.drawRefusal (gen run) (timeOf (gen run) (gen run .t0) l) (bench run cs .mark) ds ≡ none) (taken-is cs) e));
+        subst (λ (p : List Float × List RepresentableDraw × List Float). Prefix (p .0) (plainOutput (gen run) (p .1 ++ ds) (Bench.pairs (p .2 ++ vs)))) (λ i. (sym (as-shown cs .samples) i, sym (taken-is cs) i, sym (used-is cs) i))
+        (shown .samples-stay (benchCalls run cs) ds vs (subst (λ (l : List RepresentableDraw). Bench.drawRefusal (gen run) (timeOf (gen run) (gen run .t0) l) (bench run cs .mark) ds ≡ none) (taken-is cs) e));
     records-stay = λ cs ds.
-        subst (λ (p : List ℕ × List HeldDraw). Prefix (p .0) (plainLines (gen run) (p .1 ++ ds))) (λ i. (sym (as-shown cs .records) i, sym (taken-is cs) i))
+        subst (λ (p : List ℕ × List RepresentableDraw). Prefix (p .0) (plainLines (gen run) (p .1 ++ ds))) (λ i. (sym (as-shown cs .records) i, sym (taken-is cs) i))
         (shown .records-stay (benchCalls run cs) ds);
     same-run = λ given′ r′ o′. same-run tapsS tapsAC settings given given′ run r′ is-opened o′;
     alike = λ given′ r′ o′.
         subst
-        (λ (x : Run). (cs cs′ : List Lent) → ReachesDone (calls run cs) → ReachesDone (calls x cs′) → drawsTaken run cs ≡ drawsTaken x cs′ → noiseUsed run cs ≡ noiseUsed x cs′ → (samplesWritten run cs ≡ samplesWritten x cs′) × (recordsWritten run cs ≡ recordsWritten x cs′))
+        (λ (x : Run). (cs cs′ : List CallBuffers) → ReachesDone (calls run cs) → ReachesDone (calls x cs′) → drawsTaken run cs ≡ drawsTaken x cs′ → noiseUsed run cs ≡ noiseUsed x cs′ → (samplesWritten run cs ≡ samplesWritten x cs′) × (recordsWritten run cs ≡ recordsWritten x cs′))
         (same-run tapsS tapsAC settings given given′ run r′ is-opened o′)
         (λ cs cs′ d d′ et eu. (samples-are cs ∙ (λ i. plainOutput (gen run) (et i) (Bench.pairs (eu i))) ∙ sym (samples-are cs′), records-are cs ∙ (λ i. plainLines (gen run) (et i)) ∙ sym (records-are cs′)));
     whole = λ cs d.
         let w = shown .whole (benchCalls run cs) (as-shown cs .done d) in
-        (ap (λ (l : List HeldDraw). ended (gen run) (gen run .t0) l) (taken-is cs) ∙ w .0, ap length (as-shown cs .samples) ∙ w .1);
-    reach = λ cs. subst (λ (l : List HeldDraw). Each (Reach (gen run)) (replies (gen run) (gen run .t0) l)) (sym (taken-is cs)) (shown .reach (benchCalls run cs));
+        (ap (λ (l : List RepresentableDraw). ended (gen run) (gen run .t0) l) (taken-is cs) ∙ w .0, ap length (as-shown cs .samples) ∙ w .1);
+    reach = λ cs. subst (λ (l : List RepresentableDraw). Each (Reach (gen run)) (replies (gen run) (gen run .t0) l)) (sym (taken-is cs)) (shown .reach (benchCalls run cs));
     finite = λ cs. subst (Each Finite53) (sym (as-shown cs .samples)) (opened-finite tapsS tapsAC settings given s opens (Machine.runs (gen run) nan) shown (benchCalls run cs));
     state = state-is;
     written = λ cs. ap length (as-shown cs .samples) ∙ shown .written (benchCalls run cs) ∙ ap (λ (x : State). 2 * x .written) (sym (state-is cs));

@@ -35,7 +35,7 @@ finite-53 nan h = absurd h
 finite-53 (inf s) h = absurd h
 finite-53 (fin s m e) h = is-true (within (fin s m e) (fin false 1 (pos 53))) (fin-le false m e false 1 (pos 53) (le-trans (le-of-eq (mul-one (m * up e))) h))
 
-module _ (tapsS tapsAC : List Float) (bytes : List ℕ) (lent : Opening.Lent) (s : State) (opens : Opening.openedOf four Opening.half tapsS tapsAC bytes lent ≡ Opened.the-variants.Run s) where
+module _ (tapsS tapsAC : List Float) (bytes : List ℕ) (lent : Opening.OpenBuffers) (s : State) (opens : Opening.openedOf four Opening.half tapsS tapsAC bytes lent ≡ Opened.the-variants.Run s) where
   abbrev G : Generator
   G = genOf s (modeSPrototype four tapsS) (modeACPrototype four tapsAC)
 

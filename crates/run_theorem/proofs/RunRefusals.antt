@@ -17,13 +17,13 @@ use Rattle.run_call.specs.declared.State.{State}
 use Rattle.run_call.specs.declared.Answer.{Answer}
 use Rattle.run_call.specs.declared.Answer.the-variants.{Refused}
 use Rattle.run_call.specs.StateGenerator.{genOf}
-use Rattle.run_call.specs.Buffers.{Left, Lent}
+use Rattle.run_call.specs.Buffers.{Left, CallBuffers}
 use Rattle.run_call.specs.CallModel.{leftBy, callLeft, refusedBy, runBy, callRefusal, runLeft}
 use Rattle.run_call.specs.Given.{refusalGiven}
 use Rattle.run_call.specs.Calls.{callOf}
 use Rattle.run_theorem.specs.RunRefusals.{CallCause, Answered, refused, stopped}
 
-module _ (s : State) (modeS modeAC memory : List Float) (l : Lent) where
+module _ (s : State) (modeS modeAC memory : List Float) (l : CallBuffers) where
   abbrev G : Generator
   G = genOf s modeS modeAC
 
@@ -46,7 +46,7 @@ module _ (s : State) (modeS modeAC memory : List Float) (l : Lent) where
   cause-in : (q : Bench.Refusal) → memoryWrong ≡ false → Cause G (s .time) (some (s .latest)) call q → CallCause s modeS modeAC memory l q
   cause-in Bench.wrongLength m h = ap (λ (x : Bool). x || Bench.wrongLengths G call) m ∙ h
   cause-in (Bench.wrongDraw k field) m h = (m, h)
-  cause-in (Bench.wrongNoise place) m h = (m, h)
+  cause-in (Bench.wrongNoise index) m h = (m, h)
 
   -- a refusal is given for its cause
   given-for : (q : Bench.Refusal) → given ≡ some q → CallCause s modeS modeAC memory l q
@@ -66,7 +66,7 @@ module _ (s : State) (modeS modeAC memory : List Float) (l : Lent) where
       go true p = refl
       go false p = refused-if G (s .time) (some (s .latest)) call Bench.wrongLength p
   given-if (Bench.wrongDraw k field) h = ap (λ (x : Bool). cond x (some Bench.wrongLength) inside) (h .0) ∙ refused-if G (s .time) (some (s .latest)) call (Bench.wrongDraw k field) (h .1)
-  given-if (Bench.wrongNoise place) h = ap (λ (x : Bool). cond x (some Bench.wrongLength) inside) (h .0) ∙ refused-if G (s .time) (some (s .latest)) call (Bench.wrongNoise place) (h .1)
+  given-if (Bench.wrongNoise index) h = ap (λ (x : Bool). cond x (some Bench.wrongLength) inside) (h .0) ∙ refused-if G (s .time) (some (s .latest)) call (Bench.wrongNoise index) (h .1)
 
   abbrev leftFor : Option Bench.Refusal → Left
   leftFor = runBy s memory (l .output) (l .records) (callLeft s modeS modeAC memory (l .draws) (l .noise) (l .output) (l .records))

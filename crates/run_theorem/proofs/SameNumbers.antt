@@ -9,7 +9,7 @@ pub same-numbers : (q : Bench.Refusal) → numberOf (refusalGiven q) ∷ valuesO
 unfolding refusalGiven numberOf valuesOf
 same-numbers Bench.wrongLength = refl
 same-numbers (Bench.wrongDraw draw field) = refl
-same-numbers (Bench.wrongNoise place) = refl
+same-numbers (Bench.wrongNoise index) = refl
 
 pub same-stops : (s : Bench.Stop) → stopNumber (stopGiven s) ≡ Bench.stopNumber s
 unfolding stopNumber stopGiven

@@ -14,14 +14,14 @@ use Rattle.run_call.specs.declared.Answer as Answer
 use Rattle.run_call.specs.StateGenerator.{genOf}
 use Rattle.run_call.specs.Given.{refusalGiven}
 use Rattle.run_call.specs.Calls.{callOf}
-use Rattle.run_call.specs.Buffers.{Lent}
+use Rattle.run_call.specs.Buffers.{CallBuffers}
 
-module _ (s : State) (modeS modeAC memory : List Float) (l : Lent) where
+module _ (s : State) (modeS modeAC memory : List Float) (l : CallBuffers) where
   -- 9 for memory, prototypes or buffers; 7 and 8 as the plain bench has them, where 9 has no cause
   abbrev pub CallCause : Bench.Refusal → Type 0
   CallCause Bench.wrongLength = (wrongMemory (length memory) (length modeS) (length modeAC) || Bench.wrongLengths (genOf s modeS modeAC) (callOf s modeS modeAC l)) ≡ true
   CallCause (Bench.wrongDraw k field) = (wrongMemory (length memory) (length modeS) (length modeAC) ≡ false) × Cause (genOf s modeS modeAC) (s .time) (some (s .latest)) (callOf s modeS modeAC l) (Bench.wrongDraw k field)
-  CallCause (Bench.wrongNoise place) = (wrongMemory (length memory) (length modeS) (length modeAC) ≡ false) × Cause (genOf s modeS modeAC) (s .time) (some (s .latest)) (callOf s modeS modeAC l) (Bench.wrongNoise place)
+  CallCause (Bench.wrongNoise index) = (wrongMemory (length memory) (length modeS) (length modeAC) ≡ false) × Cause (genOf s modeS modeAC) (s .time) (some (s .latest)) (callOf s modeS modeAC l) (Bench.wrongNoise index)
 
   -- which answer is right: a refusal for its cause, and a stop where none has a cause
   pub data Answered : Answer.Answer → Type 0 where

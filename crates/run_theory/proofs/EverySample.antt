@@ -14,7 +14,7 @@ use Rattle.run_theory.specs.Laws.{Laws, InRange}
 use Rattle.run_theory.specs.Demand3.{bench, plainOutput}
 use Rattle.run_theory.proofs.ListClaim.{drawsTaken, noiseUsed, allSamples, allTaken, allUsed, Demand3}
 use Rattle.run_theory.proofs.Reach.{all-replies}
-use Rattle.run_theory.proofs.Refusals.{not-refused, not-loud}
+use Rattle.run_theory.proofs.Refusals.{not-refused, not-out-of-range}
 
 -- ---- lists
 module _ {X : Type 0} (P : X → Type 0) where
@@ -41,13 +41,13 @@ module _ {X : Type 0} (P : X → Type 0) where
   each-pair (a ∷ l) h = ((h .0, h .1 .0), each-pair l (h .1 .1))
 
 module _ (G : Generator) (L : Laws G) where
-  open Generator G using (Value, Draw, Time, t0, nought, plus, scaled, adds, loud, total)
+  open Generator G using (Value, Draw, Time, t0, nought, plus, scaled, adds, outOfRange, total)
 
   -- P is kept by sums with values that have Q, which is what replies add, and with noise
   pub record KeptBySums (P Q : Value → Type 0) : Type 0 where
     pub first : P nought
     pub added : (a x : Value) → P a → Q x → P (plus a x)
-    pub noised : (a v : Value) → P a → loud v ≡ false → P (plus a (scaled v))
+    pub noised : (a v : Value) → P a → outOfRange v ≡ false → P (plus a (scaled v))
     pub adds-have : (t : Time) (d : Draw) (s : ℕ) → L .Good t → InRange G d → kind G t d ≡ reply s → Each (Both Q) (adds t d s)
 
   -- ---- what is taken and used
@@ -61,18 +61,18 @@ module _ (G : Generator) (L : Laws G) where
       go (some r) e = tt
       go none e = each-take (InRange G) (drawsTaken (benchCall G b c none .0 .answer)) (drawsOf G (c .draws)) (not-refused G (timeOf G t0 (b .taken)) (b .mark) c e .in-range)
 
-  abbrev Quiet : Value → Type 0
-  Quiet v = loud v ≡ false
+  abbrev InRangeNoise : Value → Type 0
+  InRangeNoise v = outOfRange v ≡ false
 
-  used-quiet : (b : Bench G) (cs : List (Call G)) → Each Quiet (allUsed G cs (benchResults G b cs))
-  used-quiet b [] = tt
-  used-quiet b (c ∷ cs) =
-      each-append Quiet (take (noiseUsed (benchRun G b c .0 .answer)) (c .noise)) (allUsed G cs (benchResults G (benchRun G b c .1) cs))
-      (go (refusalOf G (timeOf G t0 (b .taken)) (b .mark) c) refl) (used-quiet (benchRun G b c .1) cs)
+  used-in-range : (b : Bench G) (cs : List (Call G)) → Each InRangeNoise (allUsed G cs (benchResults G b cs))
+  used-in-range b [] = tt
+  used-in-range b (c ∷ cs) =
+      each-append InRangeNoise (take (noiseUsed (benchRun G b c .0 .answer)) (c .noise)) (allUsed G cs (benchResults G (benchRun G b c .1) cs))
+      (go (refusalOf G (timeOf G t0 (b .taken)) (b .mark) c) refl) (used-in-range (benchRun G b c .1) cs)
     where
-      go : (o : Option Refusal) → refusalOf G (timeOf G t0 (b .taken)) (b .mark) c ≡ o → Each Quiet (take (noiseUsed (benchCall G b c o .0 .answer)) (c .noise))
+      go : (o : Option Refusal) → refusalOf G (timeOf G t0 (b .taken)) (b .mark) c ≡ o → Each InRangeNoise (take (noiseUsed (benchCall G b c o .0 .answer)) (c .noise))
       go (some r) e = tt
-      go none e = each-take Quiet (noiseUsed (benchCall G b c none .0 .answer)) (c .noise) (not-loud G (timeOf G t0 (b .taken)) (b .mark) c e)
+      go none e = each-take InRangeNoise (noiseUsed (benchCall G b c none .0 .answer)) (c .noise) (not-out-of-range G (timeOf G t0 (b .taken)) (b .mark) c e)
 
   module _ (P Q : Value → Type 0) (K : KeptBySums P Q) where
     -- ---- the plain run
@@ -95,22 +95,22 @@ module _ (G : Generator) (L : Laws G) where
     sum-kept a [] n p q = p
     sum-kept a (r ∷ rs) n p q = sum-kept (hit G a r n) rs n (hit-kept a r n p (q .0)) (q .1)
 
-    samples-kept : (rs : List (Reply G)) (n : ℕ) (vs : List (NoisePair G)) → Each Valued rs → Each (Both Quiet) vs → Each (Both P) (samplesFrom G rs n vs)
+    samples-kept : (rs : List (Reply G)) (n : ℕ) (vs : List (NoisePair G)) → Each Valued rs → Each (Both InRangeNoise) vs → Each (Both P) (samplesFrom G rs n vs)
     samples-kept rs n [] q v = tt
     samples-kept rs n (w ∷ ws) q v =
         let a = sum-kept (silence G) rs n (K .first, K .first) q in
         ((K .noised _ (w .re) (a .0) (v .0 .0), K .noised _ (w .im) (a .1) (v .0 .1)), samples-kept rs (suc n) ws q (v .1))
 
-    plain-kept : (ds : List Draw) (vs : List (NoisePair G)) → Each (InRange G) ds → Each (Both Quiet) vs → Each P (plainOutput G ds vs)
+    plain-kept : (ds : List Draw) (vs : List (NoisePair G)) → Each (InRange G) ds → Each (Both InRangeNoise) vs → Each P (plainOutput G ds vs)
     plain-kept ds vs d v =
         each-flatten P (samplesFrom G (replies G t0 ds) 0 (take total vs))
         (samples-kept (replies G t0 ds) 0 (take total vs)
         (all-replies G L (Each Valued) tt (λ t d s g h e rs q. (K .adds-have t d s g h e, q)) t0 ds (L .good-first) d)
-        (each-take (Both Quiet) total vs v))
+        (each-take (Both InRangeNoise) total vs v))
 
     -- ---- every list of run calls
     pub every-sample : (run : List (Call G) → List (Result G)) → Demand3 G run → (cs : List (Call G)) → Each P (allSamples G (run cs))
     every-sample run D cs =
         let taken : Each (InRange G) (bench G cs .taken) = subst (Each (InRange G)) (sym (D .taken cs ∙ ap (allTaken G cs) (D .answers cs))) (taken-in-range (bench0 G) cs) in
-        let used : Each Quiet (flatten (bench G cs .used)) = subst (Each Quiet) (sym (D .used cs ∙ ap (allUsed G cs) (D .answers cs))) (used-quiet (bench0 G) cs) in
-        subst (Each P) (sym (D .samples cs)) (plain-kept (bench G cs .taken) (bench G cs .used) taken (each-pair Quiet (bench G cs .used) used))
+        let used : Each InRangeNoise (flatten (bench G cs .used)) = subst (Each InRangeNoise) (sym (D .used cs ∙ ap (allUsed G cs) (D .answers cs))) (used-in-range (bench0 G) cs) in
+        subst (Each P) (sym (D .samples cs)) (plain-kept (bench G cs .taken) (bench G cs .used) taken (each-pair InRangeNoise (bench G cs .used) used))

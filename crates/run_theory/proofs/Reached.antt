@@ -9,7 +9,7 @@ use lib.ListN.{length, length-append}
 use lib.Seq.{take-all}
 use Rattle.run_theory.specs.Generator.{Generator, Sample, NoisePair, silence, noisy}
 use Rattle.run_theory.specs.PlainRun.{Kind, ignored, ends, reply, Reply, kind, timeOf, endsBy, ended, replyOf, push, replies, hit, sumFrom, sumAt, samplesFrom, plainSamples, plainRecords}
-use Rattle.run_theory.specs.PlainBench.{Lent, jumpsBack, latest, Bench, bench0}
+use Rattle.run_theory.specs.PlainBench.{Remaining, jumpsBack, latest, Bench, bench0}
 use Rattle.run_theory.specs.Laws.{Laws, NotAfter, InRange, GapInRange, AllInRange, NoJump, Accepted}
 use Rattle.run_theory.proofs.PlainFacts.{length-snoc, time-append, ended-append, replies-still, replies-append, sum-append, hit-before, hit-behind, samplesFrom-append, samplesFrom-same}
 use Rattle.run_theory.proofs.StepFacts.{Drains, Dues, Takes, reply-fits}
@@ -91,7 +91,7 @@ module _ (G : Generator) (L : Laws G) where
       (samplesFrom-append G (replies G t0 (b .taken)) 0 (b .used) (v ∷ [])
       ∙ ap (λ (n : ℕ). samplesFrom G (replies G t0 (b .taken)) 0 (b .used) ++ samplesFrom G (replies G t0 (b .taken)) n (v ∷ [])) (omega arith))
 
-  pub reached-drain : (b : Bench G) (l l′ : Lent G) (v : NoisePair G) → Reached b → Drains G (ended G t0 (b .taken)) (length (b .used)) l v l′ → Reached (record { taken = b .taken; used = b .used ++ (v ∷ []); mark = b .mark })
+  pub reached-drain : (b : Bench G) (l l′ : Remaining G) (v : NoisePair G) → Reached b → Drains G (ended G t0 (b .taken)) (length (b .used)) l v l′ → Reached (record { taken = b .taken; used = b .used ++ (v ∷ []); mark = b .mark })
   reached-drain b l l′ v h s = record {
     good = h .good;
     good-mark = h .good-mark;
@@ -127,14 +127,14 @@ module _ (G : Generator) (L : Laws G) where
       go false = h
 
   -- what the loop knows of the draws that are left
-  abbrev pub Left : Bench G → Lent G → Type 0
+  abbrev pub Left : Bench G → Remaining G → Type 0
   Left b l = Accepted G (timeOf G t0 (b .taken)) (b .mark) (l .draws)
 
   -- the next draw of a due sample, of those that are left
-  pub due-left : (b : Bench G) (l l′ : Lent G) (t : Time) (v : NoisePair G) → Left b l → (s : Dues G (ended G t0 (b .taken)) (length (b .used)) (timeOf G t0 (b .taken)) l t v l′) → Accepted G (timeOf G t0 (b .taken)) (b .mark) (s .next ∷ s .later)
+  pub due-left : (b : Bench G) (l l′ : Remaining G) (t : Time) (v : NoisePair G) → Left b l → (s : Dues G (ended G t0 (b .taken)) (length (b .used)) (timeOf G t0 (b .taken)) l t v l′) → Accepted G (timeOf G t0 (b .taken)) (b .mark) (s .next ∷ s .later)
   due-left b l l′ t v a s = subst (λ (ds : List Draw). Accepted G (timeOf G t0 (b .taken)) (b .mark) ds) (s .lent) a
 
-  pub reached-due : (b : Bench G) (l l′ : Lent G) (t : Time) (v : NoisePair G) → Reached b → Left b l → Dues G (ended G t0 (b .taken)) (length (b .used)) (timeOf G t0 (b .taken)) l t v l′ → Reached (record { taken = b .taken; used = b .used ++ (v ∷ []); mark = latest G (b .mark) t })
+  pub reached-due : (b : Bench G) (l l′ : Remaining G) (t : Time) (v : NoisePair G) → Reached b → Left b l → Dues G (ended G t0 (b .taken)) (length (b .used)) (timeOf G t0 (b .taken)) l t v l′ → Reached (record { taken = b .taken; used = b .used ++ (v ∷ []); mark = latest G (b .mark) t })
   reached-due b l l′ t v h a s = record {
     good = h .good;
     good-mark = latest-good (b .mark) t (h .good-mark) good-t;
@@ -158,7 +158,7 @@ module _ (G : Generator) (L : Laws G) where
       good-t : L .Good t
       good-t = subst (λ (x : Time). L .Good x) (sym (s .time)) (good-on (timeOf G t0 (b .taken)) (s .next) (h .good) (left .in-range .0))
 
-  pub left-due : (b : Bench G) (l l′ : Lent G) (t : Time) (v : NoisePair G) → Reached b → Left b l → Dues G (ended G t0 (b .taken)) (length (b .used)) (timeOf G t0 (b .taken)) l t v l′ → Left (record { taken = b .taken; used = b .used ++ (v ∷ []); mark = latest G (b .mark) t }) l′
+  pub left-due : (b : Bench G) (l l′ : Remaining G) (t : Time) (v : NoisePair G) → Reached b → Left b l → Dues G (ended G t0 (b .taken)) (length (b .used)) (timeOf G t0 (b .taken)) l t v l′ → Left (record { taken = b .taken; used = b .used ++ (v ∷ []); mark = latest G (b .mark) t }) l′
   left-due b l l′ t v h a s = subst (λ (ds : List Draw). Accepted G (timeOf G t0 (b .taken)) (latest G (b .mark) t) ds) (sym (s .draws ∙ s .lent)) (record { in-range = left .in-range; no-jump = fit })
     where
       left : Accepted G (timeOf G t0 (b .taken)) (b .mark) (s .next ∷ s .later)
@@ -167,14 +167,14 @@ module _ (G : Generator) (L : Laws G) where
       fit : jumpsBack G (latest G (b .mark) t) (after (timeOf G t0 (b .taken)) (s .next)) ≡ false
       fit = rw (s .time) (latest-fits (b .mark) (after (timeOf G t0 (b .taken)) (s .next)) (good-on (timeOf G t0 (b .taken)) (s .next) (h .good) (left .in-range .0)) (left .no-jump))
 
-  pub left-drain : (b : Bench G) (l l′ : Lent G) (v : NoisePair G) → Left b l → Drains G (ended G t0 (b .taken)) (length (b .used)) l v l′ → Left (record { taken = b .taken; used = b .used ++ (v ∷ []); mark = b .mark }) l′
+  pub left-drain : (b : Bench G) (l l′ : Remaining G) (v : NoisePair G) → Left b l → Drains G (ended G t0 (b .taken)) (length (b .used)) l v l′ → Left (record { taken = b .taken; used = b .used ++ (v ∷ []); mark = b .mark }) l′
   left-drain b l l′ v a s = subst (λ (ds : List Draw). Accepted G (timeOf G t0 (b .taken)) (b .mark) ds) (sym (s .draws)) a
 
   all-append : (ds : List Draw) (d : Draw) → AllInRange G ds → InRange G d → AllInRange G (ds ++ (d ∷ []))
   all-append [] d a e = (e, tt)
   all-append (x ∷ ds) d a e = (a .0, all-append ds d (a .1) e)
 
-  module _ (b : Bench G) (l l′ : Lent G) (d : Draw) (k : Kind) (h : Reached b) (a : Left b l)
+  module _ (b : Bench G) (l l′ : Remaining G) (d : Draw) (k : Kind) (h : Reached b) (a : Left b l)
       (s : Takes G (ended G t0 (b .taken)) (length (b .used)) (timeOf G t0 (b .taken)) l d k l′) where
     take-left : Accepted G (timeOf G t0 (b .taken)) (b .mark) (d ∷ l′ .draws)
     take-left = subst (λ (ds : List Draw). Accepted G (timeOf G t0 (b .taken)) (b .mark) ds) (s .draws) a

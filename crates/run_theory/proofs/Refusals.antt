@@ -8,12 +8,12 @@ use Prim.Native.Nat.{ℕ, zero, suc, _+_}
 use native.Mathlib.Omega.{arith}
 use Rattle.run_theory.specs.Each.{Each}
 use Rattle.run_theory.specs.Generator.{Generator}
-use Rattle.run_theory.specs.PlainBench.{Refusal, wrongLength, wrongDraw, wrongNoise, Call, drawsOf, wrongLengths, orElse, atDraw, firstFault, jumpsBack, drawRefusal, firstLoud, refusalOf, lentOf}
+use Rattle.run_theory.specs.PlainBench.{Refusal, wrongLength, wrongDraw, wrongNoise, Call, drawsOf, wrongLengths, orElse, atDraw, firstFault, jumpsBack, drawRefusal, firstOutOfRange, refusalOf, remainingOf}
 use Rattle.run_theory.specs.Laws.{AllInRange, NoJump, Accepted}
-use Rattle.run_theory.specs.Refusals.{FaultAt, LoudAt, JumpAt, Cause}
+use Rattle.run_theory.specs.Refusals.{FaultAt, OutOfRangeAt, JumpAt, Cause}
 
 module _ (G : Generator) where
-  open Generator G using (Value, Draw, Time, after, fault, loud)
+  open Generator G using (Value, Draw, Time, after, fault, outOfRange)
 
   none-of : (p q : Option Refusal) → orElse G p q ≡ none → (p ≡ none) × (q ≡ none)
   none-of none q e = (refl, e)
@@ -58,13 +58,13 @@ module _ (G : Generator) where
       ∙ ap (λ (n : ℕ). some (wrongDraw n f)) {x = suc j + i} {y = j + suc i} (omega arith)
 
   -- ---- every noise value
-  loud-for : (j : ℕ) (vs : List Value) (r : Refusal) → firstLoud G j vs ≡ some r → (i : ℕ) × (r ≡ wrongNoise (j + i)) × LoudAt G i vs
-  loud-for j [] r e = let z : _≡_ {A = ℕ} 0 1 = cc in absurd (omega arith)
-  loud-for j (v ∷ vs) r e = go (loud v) refl e (λ p. loud-for (suc j) vs r p)
+  out-of-range-for : (j : ℕ) (vs : List Value) (r : Refusal) → firstOutOfRange G j vs ≡ some r → (i : ℕ) × (r ≡ wrongNoise (j + i)) × OutOfRangeAt G i vs
+  out-of-range-for j [] r e = let z : _≡_ {A = ℕ} 0 1 = cc in absurd (omega arith)
+  out-of-range-for j (v ∷ vs) r e = go (outOfRange v) refl e (λ p. out-of-range-for (suc j) vs r p)
     where
-      go : (x : Bool) → loud v ≡ x → cond x (some (wrongNoise j)) (firstLoud G (suc j) vs) ≡ some r
-          → (firstLoud G (suc j) vs ≡ some r → (i : ℕ) × (r ≡ wrongNoise (suc j + i)) × LoudAt G i vs)
-          → (i : ℕ) × (r ≡ wrongNoise (j + i)) × LoudAt G i (v ∷ vs)
+      go : (x : Bool) → outOfRange v ≡ x → cond x (some (wrongNoise j)) (firstOutOfRange G (suc j) vs) ≡ some r
+          → (firstOutOfRange G (suc j) vs ≡ some r → (i : ℕ) × (r ≡ wrongNoise (suc j + i)) × OutOfRangeAt G i vs)
+          → (i : ℕ) × (r ≡ wrongNoise (j + i)) × OutOfRangeAt G i (v ∷ vs)
       go true p q ih =
           let same : wrongNoise j ≡ r = cc in
           (0, sym same ∙ ap wrongNoise {x = j} {y = j + 0} (omega arith), p)
@@ -72,20 +72,20 @@ module _ (G : Generator) where
           let a = ih q in
           (suc (a .0), a .1 ∙ ap wrongNoise {x = suc j + a .0} {y = j + suc (a .0)} (omega arith), (p, a .2))
 
-  loud-if : (j i : ℕ) (vs : List Value) → LoudAt G i vs → firstLoud G j vs ≡ some (wrongNoise (j + i))
-  loud-if j i [] h = absurd h
-  loud-if j zero (v ∷ vs) h =
-      ap (λ (x : Bool). cond x (some (wrongNoise j)) (firstLoud G (suc j) vs)) h ∙ ap (λ (n : ℕ). some (wrongNoise n)) {x = j} {y = j + 0} (omega arith)
-  loud-if j (suc i) (v ∷ vs) h =
-      ap (λ (x : Bool). cond x (some (wrongNoise j)) (firstLoud G (suc j) vs)) (h .0)
-      ∙ loud-if (suc j) i vs (h .1)
+  out-of-range-if : (j i : ℕ) (vs : List Value) → OutOfRangeAt G i vs → firstOutOfRange G j vs ≡ some (wrongNoise (j + i))
+  out-of-range-if j i [] h = absurd h
+  out-of-range-if j zero (v ∷ vs) h =
+      ap (λ (x : Bool). cond x (some (wrongNoise j)) (firstOutOfRange G (suc j) vs)) h ∙ ap (λ (n : ℕ). some (wrongNoise n)) {x = j} {y = j + 0} (omega arith)
+  out-of-range-if j (suc i) (v ∷ vs) h =
+      ap (λ (x : Bool). cond x (some (wrongNoise j)) (firstOutOfRange G (suc j) vs)) (h .0)
+      ∙ out-of-range-if (suc j) i vs (h .1)
       ∙ ap (λ (n : ℕ). some (wrongNoise n)) {x = suc j + i} {y = j + suc i} (omega arith)
 
-  all-quiet : (j : ℕ) (vs : List Value) → firstLoud G j vs ≡ none → Each (λ v. loud v ≡ false) vs
-  all-quiet j [] e = tt
-  all-quiet j (v ∷ vs) e = go (loud v) refl e (λ p. all-quiet (suc j) vs p)
+  noise-in-range : (j : ℕ) (vs : List Value) → firstOutOfRange G j vs ≡ none → Each (λ v. outOfRange v ≡ false) vs
+  noise-in-range j [] e = tt
+  noise-in-range j (v ∷ vs) e = go (outOfRange v) refl e (λ p. noise-in-range (suc j) vs p)
     where
-      go : (x : Bool) → loud v ≡ x → cond x (some (wrongNoise j)) (firstLoud G (suc j) vs) ≡ none → (firstLoud G (suc j) vs ≡ none → Each (λ w. loud w ≡ false) vs) → Each (λ w. loud w ≡ false) (v ∷ vs)
+      go : (x : Bool) → outOfRange v ≡ x → cond x (some (wrongNoise j)) (firstOutOfRange G (suc j) vs) ≡ none → (firstOutOfRange G (suc j) vs ≡ none → Each (λ w. outOfRange w ≡ false) vs) → Each (λ w. outOfRange w ≡ false) (v ∷ vs)
       go true p q ih = let z : _≡_ {A = ℕ} 0 1 = cc in absurd (omega arith)
       go false p q ih = (p, ih q)
 
@@ -133,20 +133,20 @@ module _ (G : Generator) where
     abbrev ds : List Draw
     ds = drawsOf G (c .draws)
 
-    after-length : (r : Refusal) → wrongLengths G c ≡ false → (o : Option Refusal) → drawRefusal G t m ds ≡ o → orElse G o (firstLoud G 0 (c .noise)) ≡ some r → Cause G t m c r
+    after-length : (r : Refusal) → wrongLengths G c ≡ false → (o : Option Refusal) → drawRefusal G t m ds ≡ o → orElse G o (firstOutOfRange G 0 (c .noise)) ≡ some r → Cause G t m c r
     after-length r w (some q) e p =
         let same : q ≡ r = cc in
         let a = draw-for t m ds r (e ∙ ap some same) in
         subst (λ (x : Refusal). Cause G t m c x) (sym (a .2)) (w, a .3)
     after-length r w none e p =
-        let a = loud-for 0 (c .noise) r p in
+        let a = out-of-range-for 0 (c .noise) r p in
         subst (λ (x : Refusal). Cause G t m c x) (sym (a .1 ∙ ap wrongNoise {x = 0 + a .0} {y = a .0} (omega arith))) (w, accepted-draws t m ds e, a .2)
 
     -- a refusal's number is given for its cause only
     pub refused-for : (r : Refusal) → refusalOf G t m c ≡ some r → Cause G t m c r
     refused-for r e = go (wrongLengths G c) refl e
       where
-        go : (x : Bool) → wrongLengths G c ≡ x → cond x (some wrongLength) (orElse G (drawRefusal G t m ds) (firstLoud G 0 (c .noise))) ≡ some r → Cause G t m c r
+        go : (x : Bool) → wrongLengths G c ≡ x → cond x (some wrongLength) (orElse G (drawRefusal G t m ds) (firstOutOfRange G 0 (c .noise))) ≡ some r → Cause G t m c r
         go true p q =
             let same : wrongLength ≡ r = cc in
             subst (λ (x : Refusal). Cause G t m c x) same p
@@ -154,28 +154,28 @@ module _ (G : Generator) where
 
     -- and where its cause is the first, it is given
     pub refused-if : (r : Refusal) → Cause G t m c r → refusalOf G t m c ≡ some r
-    refused-if wrongLength h = ap (λ (x : Bool). cond x (some wrongLength) (orElse G (drawRefusal G t m ds) (firstLoud G 0 (c .noise)))) h
+    refused-if wrongLength h = ap (λ (x : Bool). cond x (some wrongLength) (orElse G (drawRefusal G t m ds) (firstOutOfRange G 0 (c .noise)))) h
     refused-if (wrongDraw k f) h =
-        ap (λ (x : Bool). cond x (some wrongLength) (orElse G (drawRefusal G t m ds) (firstLoud G 0 (c .noise)))) (h .0)
-        ∙ ap (λ (o : Option Refusal). orElse G o (firstLoud G 0 (c .noise))) (draw-if t m ds k f (h .1))
+        ap (λ (x : Bool). cond x (some wrongLength) (orElse G (drawRefusal G t m ds) (firstOutOfRange G 0 (c .noise)))) (h .0)
+        ∙ ap (λ (o : Option Refusal). orElse G o (firstOutOfRange G 0 (c .noise))) (draw-if t m ds k f (h .1))
     refused-if (wrongNoise p) h =
-        ap (λ (x : Bool). cond x (some wrongLength) (orElse G (drawRefusal G t m ds) (firstLoud G 0 (c .noise)))) (h .0)
-        ∙ ap (λ (o : Option Refusal). orElse G o (firstLoud G 0 (c .noise))) (accepted-if t m ds (h .1))
-        ∙ loud-if 0 p (c .noise) (h .2)
+        ap (λ (x : Bool). cond x (some wrongLength) (orElse G (drawRefusal G t m ds) (firstOutOfRange G 0 (c .noise)))) (h .0)
+        ∙ ap (λ (o : Option Refusal). orElse G o (firstOutOfRange G 0 (c .noise))) (accepted-if t m ds (h .1))
+        ∙ out-of-range-if 0 p (c .noise) (h .2)
         ∙ ap (λ (n : ℕ). some (wrongNoise n)) {x = 0 + p} {y = p} (omega arith)
 
     -- a call that is not refused has its draws in range, and its first does not jump back
-    pub not-refused : refusalOf G t m c ≡ none → Accepted G t m (lentOf G c .draws)
+    pub not-refused : refusalOf G t m c ≡ none → Accepted G t m (remainingOf G c .draws)
     not-refused e = go (wrongLengths G c) e
       where
-        go : (x : Bool) → cond x (some wrongLength) (orElse G (drawRefusal G t m ds) (firstLoud G 0 (c .noise))) ≡ none → Accepted G t m ds
+        go : (x : Bool) → cond x (some wrongLength) (orElse G (drawRefusal G t m ds) (firstOutOfRange G 0 (c .noise))) ≡ none → Accepted G t m ds
         go true q = let z : _≡_ {A = ℕ} 0 1 = cc in absurd (omega arith)
-        go false q = accepted-draws t m ds (none-of (drawRefusal G t m ds) (firstLoud G 0 (c .noise)) q .0)
+        go false q = accepted-draws t m ds (none-of (drawRefusal G t m ds) (firstOutOfRange G 0 (c .noise)) q .0)
 
     -- and no noise value out of range
-    pub not-loud : refusalOf G t m c ≡ none → Each (λ v. loud v ≡ false) (c .noise)
-    not-loud e = go (wrongLengths G c) e
+    pub not-out-of-range : refusalOf G t m c ≡ none → Each (λ v. outOfRange v ≡ false) (c .noise)
+    not-out-of-range e = go (wrongLengths G c) e
       where
-        go : (x : Bool) → cond x (some wrongLength) (orElse G (drawRefusal G t m ds) (firstLoud G 0 (c .noise))) ≡ none → Each (λ v. loud v ≡ false) (c .noise)
+        go : (x : Bool) → cond x (some wrongLength) (orElse G (drawRefusal G t m ds) (firstOutOfRange G 0 (c .noise))) ≡ none → Each (λ v. outOfRange v ≡ false) (c .noise)
         go true q = let z : _≡_ {A = ℕ} 0 1 = cc in absurd (omega arith)
-        go false q = all-quiet 0 (c .noise) (none-of (drawRefusal G t m ds) (firstLoud G 0 (c .noise)) q .1)
+        go false q = noise-in-range 0 (c .noise) (none-of (drawRefusal G t m ds) (firstOutOfRange G 0 (c .noise)) q .1)

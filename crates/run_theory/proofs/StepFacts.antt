@@ -8,7 +8,7 @@ use lib.Dec.{leb, ltb}
 use borrow.Author.Tests.{leb-true, leb-false, ltb-true, ltb-false}
 use Rattle.run_theory.specs.Generator.{Generator, Start, negative, from, NoisePair}
 use Rattle.run_theory.specs.PlainRun.{Kind, ignored, ends, reply, kindOf, kind}
-use Rattle.run_theory.specs.PlainBench.{Stop, done, Lent, Step, halt, drain, due, taking, write, step5, step4, dueBy, step1}
+use Rattle.run_theory.specs.PlainBench.{Stop, done, Remaining, Step, halt, drain, due, taking, write, step5, step4, dueBy, step1}
 
 module _ (G : Generator) where
   open Generator G using (Draw, Time, after, limit, hold, total)
@@ -22,7 +22,7 @@ module _ (G : Generator) where
   pub record Halts (e : Bool) (w : ℕ) (s : Stop) : Type 0 where
     pub at-done : s ≡ done → (e ≡ true) × (total ≤ w)
 
-  pub record Drains (e : Bool) (w : ℕ) (l : Lent G) (v : NoisePair G) (l′ : Lent G) : Type 0 where
+  pub record Drains (e : Bool) (w : ℕ) (l : Remaining G) (v : NoisePair G) (l′ : Remaining G) : Type 0 where
     pub over : e ≡ true
     pub short : w < total
     pub draws : l′ .draws ≡ l .draws
@@ -30,7 +30,7 @@ module _ (G : Generator) where
     pub room : l .room ≡ suc (l′ .room)
     pub slots : l′ .slots ≡ l .slots
 
-  pub record Dues (e : Bool) (w : ℕ) (t : Time) (l : Lent G) (t′ : Time) (v : NoisePair G) (l′ : Lent G) : Type 0 where
+  pub record Dues (e : Bool) (w : ℕ) (t : Time) (l : Remaining G) (t′ : Time) (v : NoisePair G) (l′ : Remaining G) : Type 0 where
     pub going : e ≡ false
     pub next : Draw
     pub later : List Draw
@@ -44,7 +44,7 @@ module _ (G : Generator) where
     pub is : kind G t′ next ≡ reply first
     pub far : w + hold < first
 
-  pub record Takes (e : Bool) (w : ℕ) (t : Time) (l : Lent G) (d : Draw) (k : Kind) (l′ : Lent G) : Type 0 where
+  pub record Takes (e : Bool) (w : ℕ) (t : Time) (l : Remaining G) (d : Draw) (k : Kind) (l′ : Remaining G) : Type 0 where
     pub going : e ≡ false
     pub draws : l .draws ≡ d ∷ l′ .draws
     pub noise : l′ .noise ≡ l .noise
@@ -53,7 +53,7 @@ module _ (G : Generator) where
     pub is : kind G (after t d) d ≡ k
     pub near : (s : ℕ) → k ≡ reply s → s ≤ w + hold
 
-  abbrev pub Says : Bool → ℕ → Time → Lent G → Step G → Type 0
+  abbrev pub Says : Bool → ℕ → Time → Remaining G → Step G → Type 0
   Says e w t l (halt s) = Halts e w s
   Says e w t l (drain v l′) = Drains e w l v l′
   Says e w t l (due t′ v l′) = Dues e w t l t′ v l′
@@ -82,7 +82,7 @@ module _ (G : Generator) where
   not-done : {s : Stop} {X : Type 0} → s ≡ done → (s ≡ done → _≡_ {A = ℕ} 0 1) → X
   not-done e f = let z : _≡_ {A = ℕ} 0 1 = f e in absurd (omega arith)
 
-  write-says : (e : Bool) (w : ℕ) (t : Time) (ds : List Draw) (vs : List (NoisePair G)) (room slots : ℕ) (f : NoisePair G → Lent G → Step G)
+  write-says : (e : Bool) (w : ℕ) (t : Time) (ds : List Draw) (vs : List (NoisePair G)) (room slots : ℕ) (f : NoisePair G → Remaining G → Step G)
       → ((v : NoisePair G) (vs′ : List (NoisePair G)) (room′ : ℕ) → vs ≡ v ∷ vs′ → room ≡ suc room′ → Says e w t (record { draws = ds; noise = vs; room = room; slots = slots }) (f v (record { draws = ds; noise = vs′; room = room′; slots = slots })))
       → Says e w t (record { draws = ds; noise = vs; room = room; slots = slots }) (write G f ds vs room slots)
   write-says e w t ds vs zero slots f h = record { at-done = λ p. not-done p (λ q. cc) }

@@ -24,12 +24,12 @@ pub record Draws : Type 1 where
   pub adds : Float → Draw → ℕ → List (Pair Float)
   pub entry : Float → Draw → ℕ → ℕ → List ℕ
   pub fault : Draw → Option ℕ
-  pub loud : Float → Bool
+  pub outOfRange : Float → Bool
   pub drawAt : List ℕ → Draw
 
 -- no draws, for what does not turn on them
 abbrev pub noDraws : Draws
-noDraws = record { Draw = ℕ; gap = λ d. nought; start = λ t d. negative; adds = λ t d s. []; entry = λ t d s n. []; fault = λ d. none; loud = λ v. false; drawAt = λ bytes. 0 }
+noDraws = record { Draw = ℕ; gap = λ d. nought; start = λ t d. negative; adds = λ t d s. []; entry = λ t d s n. []; fault = λ d. none; outOfRange = λ v. false; drawAt = λ bytes. 0 }
 
 -- sps samples per pulse, total samples of the run
 abbrev pub generator : Draws → ℕ → ℕ → Generator
@@ -48,7 +48,7 @@ generator S sps total = record {
   adds = S .adds;
   entry = S .entry;
   fault = S .fault;
-  loud = S .loud;
+  outOfRange = S .outOfRange;
   drawBytes = 65;
   recordBytes = 66;
   drawAt = S .drawAt;

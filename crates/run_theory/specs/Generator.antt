@@ -41,7 +41,7 @@ pub record Generator : Type 1 where
   pub entry : Time → Draw → ℕ → ℕ → List Byte
   -- the first field of a draw that is out of range, the gap being field 0; and whether a noise value is not finite or too large
   pub fault : Draw → Option ℕ
-  pub loud : Value → Bool
+  pub outOfRange : Value → Bool
   -- the bytes of a draw (65) and of a record (66), and the draw that stands at the start of bytes
   pub drawBytes : ℕ
   pub recordBytes : ℕ

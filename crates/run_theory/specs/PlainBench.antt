@@ -58,7 +58,7 @@ abbrev pub over : {X : Type 0} → List X → List X → List X
 over xs buffer = xs ++ drop (length xs) buffer
 
 module _ (G : Generator) where
-  open Generator G using (Value, Byte, Draw, Time, t0, after, before, fault, loud, drawBytes, recordBytes, drawAt, hold, total)
+  open Generator G using (Value, Byte, Draw, Time, t0, after, before, fault, outOfRange, drawBytes, recordBytes, drawAt, hold, total)
 
   -- what a run call is lent, beside what opening was lent: draw bytes, noise values, output and record bytes
   pub record Call : Type 0 where
@@ -111,36 +111,36 @@ module _ (G : Generator) where
   drawRefusal t m (d ∷ ds) = cond (jumpsBack m (after t d)) (some (wrongDraw 0 0)) (firstFault 0 (d ∷ ds))
 
   -- Refusal 8: the first place, from place k on, of a noise value not finite or too large.
-  abbrev pub firstLoud : ℕ → List Value → Option Refusal
-  firstLoud k [] = none
-  firstLoud k (v ∷ vs) = cond (loud v) (some (wrongNoise k)) (firstLoud (suc k) vs)
+  abbrev pub firstOutOfRange : ℕ → List Value → Option Refusal
+  firstOutOfRange k [] = none
+  firstOutOfRange k (v ∷ vs) = cond (outOfRange v) (some (wrongNoise k)) (firstOutOfRange (suc k) vs)
 
   -- A run call checks 9, then every lent draw, then every lent noise value. Of the state it reads the time of the draws taken and the latest time.
   abbrev pub refusalOf : Time → Option Time → Call → Option Refusal
   refusalOf t m c =
-      cond (wrongLengths c) (some wrongLength) (orElse (drawRefusal t m (drawsOf (c .draws))) (firstLoud 0 (c .noise)))
+      cond (wrongLengths c) (some wrongLength) (orElse (drawRefusal t m (drawsOf (c .draws))) (firstOutOfRange 0 (c .noise)))
 
   -- ---- the five steps
   -- what is left of what is lent: draws, noise pairs, samples that output can hold, and records that the record bytes can hold
-  pub record Lent : Type 0 where
+  pub record Remaining : Type 0 where
     pub draws : List Draw
     pub noise : List (NoisePair G)
     pub room : ℕ
     pub slots : ℕ
 
-  abbrev pub lentOf : Call → Lent
-  lentOf c = record { draws = drawsOf (c .draws); noise = pairs (c .noise); room = length (c .output) / 2; slots = length (c .records) / recordBytes }
+  abbrev pub remainingOf : Call → Remaining
+  remainingOf c = record { draws = drawsOf (c .draws); noise = pairs (c .noise); room = length (c .output) / 2; slots = length (c .records) / recordBytes }
 
   -- what the steps come to: a stop; a sample written after the end draw; a sample written by the start of the next draw, with that draw's time; a draw taken.
   -- Each but the stop goes with the noise pair or draw that it uses and with what is then left.
   pub data Step : Type 0 where
     halt : Stop → Step
-    drain : NoisePair G → Lent → Step
-    due : Time → NoisePair G → Lent → Step
-    taking : Draw → Kind → Lent → Step
+    drain : NoisePair G → Remaining → Step
+    due : Time → NoisePair G → Remaining → Step
+    taking : Draw → Kind → Remaining → Step
 
   -- Step 2, where one sample is due: none left in output, fewer than 2 noise values left, else write it.
-  abbrev pub write : (NoisePair G → Lent → Step) → List Draw → List (NoisePair G) → ℕ → ℕ → Step
+  abbrev pub write : (NoisePair G → Remaining → Step) → List Draw → List (NoisePair G) → ℕ → ℕ → Step
   write f ds vs zero slots = halt outputFull
   write f ds [] (suc room) slots = halt wantsNoise
   write f ds (v ∷ vs) (suc room) slots = f v (record { draws = ds; noise = vs; room = room; slots = slots })
@@ -197,29 +197,29 @@ module _ (G : Generator) where
   -- what a bench comes to after the steps, what is left of what was lent, and the stop
   pub record Benched : Type 0 where
     pub bench : Bench
-    pub rest : Lent
+    pub rest : Remaining
     pub stop : Stop
 
-  abbrev pub benchStep : Bench → Lent → Step
+  abbrev pub benchStep : Bench → Remaining → Step
   benchStep b l = step1 (ended G t0 (b .taken)) (length (b .used)) (timeOf G t0 (b .taken)) (l .draws) (l .noise) (l .room) (l .slots)
 
   -- A sample after the end draw moves no mark.
-  abbrev pub benchOn : (Bench → Lent → Benched) → Bench → Lent → Step → Benched
+  abbrev pub benchOn : (Bench → Remaining → Benched) → Bench → Remaining → Step → Benched
   benchOn go b l (halt s) = record { bench = b; rest = l; stop = s }
   benchOn go b l (drain v l′) = go (record { taken = b .taken; used = b .used ++ (v ∷ []); mark = b .mark }) l′
   benchOn go b l (due t v l′) = go (record { taken = b .taken; used = b .used ++ (v ∷ []); mark = latest (b .mark) t }) l′
   benchOn go b l (taking d k l′) = go (record { taken = b .taken ++ (d ∷ []); used = b .used; mark = b .mark }) l′
 
   -- The call repeats these steps until one stops it. The number bounds the steps; run_call_model/proofs/EnoughFuel.antt shows that `fuel` is enough.
-  abbrev pub benchSteps : ℕ → Bench → Lent → Benched
+  abbrev pub benchSteps : ℕ → Bench → Remaining → Benched
   benchSteps zero b l = record { bench = b; rest = l; stop = wantsDraws }
   benchSteps (suc f) b l = benchOn (λ b′ l′. benchSteps f b′ l′) b l (benchStep b l)
 
   -- each step but the last takes a draw or fills room
-  abbrev pub fuel : Lent → ℕ
+  abbrev pub fuel : Remaining → ℕ
   fuel l = suc (length (l .draws) + l .room)
 
-  abbrev pub counts : Lent → Lent → Stop → Answer
+  abbrev pub counts : Remaining → Remaining → Stop → Answer
   counts l l′ s = ran (length (l .draws) - length (l′ .draws)) (l .room - l′ .room) (2 * (length (l .noise) - length (l′ .noise))) (l .slots - l′ .slots) s
 
   -- what a call gives: its answer, and the samples and records that it writes
@@ -229,7 +229,7 @@ module _ (G : Generator) where
     pub records : List (List Byte)
 
   -- the plain run's new samples and records
-  abbrev pub benchGiven : Bench → Lent → Benched → Given
+  abbrev pub benchGiven : Bench → Remaining → Benched → Given
   benchGiven b l r = record {
     answer = counts l (r .rest) (r .stop);
     samples = drop (length (plainSamples G (b .taken) (b .used))) (plainSamples G (r .bench .taken) (r .bench .used));
@@ -246,8 +246,8 @@ module _ (G : Generator) where
   abbrev pub benchCall : Bench → Call → Option Refusal → Given × Bench
   benchCall b c (some r) = (refusedWith r, b)
   benchCall b c none =
-      let r = benchSteps (fuel (lentOf c)) b (lentOf c) in
-      (benchGiven b (lentOf c) r, r .bench)
+      let r = benchSteps (fuel (remainingOf c)) b (remainingOf c) in
+      (benchGiven b (remainingOf c) r, r .bench)
 
   -- A refused call returns what the table says and leaves the bench; an unrefused one does the steps on it.
   abbrev pub benchRun : Bench → Call → Given × Bench

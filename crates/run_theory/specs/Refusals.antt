@@ -10,7 +10,7 @@ use Rattle.run_theory.specs.PlainBench.{Refusal, wrongLength, wrongDraw,
 use Rattle.run_theory.specs.Laws.{InRange, NoJump, Accepted}
 
 module _ (G : Generator) where
-  open Generator G using (Value, Draw, Time, after, fault, loud)
+  open Generator G using (Value, Draw, Time, after, fault, outOfRange)
 
   -- f is the first field at fault of draw k, and the draws before it are in range
   abbrev pub FaultAt : ℕ → ℕ → List Draw → Type 0
@@ -19,10 +19,10 @@ module _ (G : Generator) where
   FaultAt (suc k) f (d ∷ ds) = InRange G d × FaultAt k f ds
 
   -- the noise value at place p is the first that is not finite or too large
-  abbrev pub LoudAt : ℕ → List Value → Type 0
-  LoudAt p [] = ⊥
-  LoudAt zero (v ∷ vs) = loud v ≡ true
-  LoudAt (suc p) (v ∷ vs) = (loud v ≡ false) × LoudAt p vs
+  abbrev pub OutOfRangeAt : ℕ → List Value → Type 0
+  OutOfRangeAt p [] = ⊥
+  OutOfRangeAt zero (v ∷ vs) = outOfRange v ≡ true
+  OutOfRangeAt (suc p) (v ∷ vs) = (outOfRange v ≡ false) × OutOfRangeAt p vs
 
   -- the first lent draw jumps back: draw 0, field 0
   abbrev pub JumpAt : Time → Option Time → List Draw → ℕ → ℕ → Type 0
@@ -35,4 +35,4 @@ module _ (G : Generator) where
   Cause t m c (wrongDraw k f) =
       (wrongLengths G c ≡ false)
       × (JumpAt t m (drawsOf G (c .draws)) k f ⊎ (NoJump G t m (drawsOf G (c .draws)) × FaultAt k f (drawsOf G (c .draws))))
-  Cause t m c (wrongNoise p) = (wrongLengths G c ≡ false) × Accepted G t m (drawsOf G (c .draws)) × LoudAt p (c .noise)
+  Cause t m c (wrongNoise p) = (wrongLengths G c ≡ false) × Accepted G t m (drawsOf G (c .draws)) × OutOfRangeAt p (c .noise)

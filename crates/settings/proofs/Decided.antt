@@ -2,7 +2,7 @@
 use Prim.Native.Nat.{ℕ}
 use mathlib.Core.Path.{_≡_, ap, _∙_}
 use mathlib.Core.Bool.{Bool, true, false, cond}
-use Rattle.distributions.specs.Asked.{carrierOffset, carrierPhase, clockError, offsetAnswer, phaseAnswer, clockAnswer}
+use Rattle.distributions.specs.Accepted.{carrierOffset, carrierPhase, clockError, offsetAnswer, phaseAnswer, clockAnswer}
 use Rattle.distributions.specs.declared.CarrierOffset.{CarrierOffset}
 use Rattle.distributions.specs.declared.CarrierPhase.{CarrierPhase}
 use Rattle.distributions.specs.declared.ClockError.{ClockError}
@@ -12,7 +12,7 @@ use Rattle.distributions.specs.declared.ClockAnswer as Clock
 use Rattle.settings_duration.specs.Duration.{samples, refusal, durationOf}
 use Rattle.refusals.specs.declared.Refusal.the-variants as Refusal
 use Rattle.settings.specs.declared.Settings.{Settings}
-use Rattle.settings.specs.declared.BadRate.the-variants.{Nowhere, At}
+use Rattle.settings.specs.declared.BadRate.the-variants.{None, At}
 use Rattle.settings.specs.declared.Checked.the-variants.{Accepted, Refused}
 use Rattle.settings.specs.Settings.{ratesOf}
 use Rattle.settings.specs.Accepted.{firstBadRate, totalOf, totalFits, withClock, withPhase, withOffset, distributionsOf, totalThen, ratesThen, durationThen, acceptedOf}
@@ -31,15 +31,15 @@ module _ (sps n : ℕ) (s : Settings) where
   unfolding ratesThen totalThen
   rate-refused k e = ap (totalThen sps n s) e
 
-  by-total : (b : Bool) → firstBadRate 0 (ratesOf (s .rates)) ≡ Nowhere → totalFits (totalOf (ratesOf (s .rates))) ≡ b
+  by-total : (b : Bool) → firstBadRate 0 (ratesOf (s .rates)) ≡ None → totalFits (totalOf (ratesOf (s .rates))) ≡ b
       → ratesThen sps n s ≡ cond b (distributionsOf sps n s) (Refused Refusal.Total)
   unfolding ratesThen totalThen
   by-total b e t = ap (totalThen sps n s) e ∙ ap (λ (x : Bool). cond x (distributionsOf sps n s) (Refused Refusal.Total)) t
 
-  pub total-refused : firstBadRate 0 (ratesOf (s .rates)) ≡ Nowhere → totalFits (totalOf (ratesOf (s .rates))) ≡ false → ratesThen sps n s ≡ Refused Refusal.Total
+  pub total-refused : firstBadRate 0 (ratesOf (s .rates)) ≡ None → totalFits (totalOf (ratesOf (s .rates))) ≡ false → ratesThen sps n s ≡ Refused Refusal.Total
   total-refused = by-total false
 
-  pub rates-pass : firstBadRate 0 (ratesOf (s .rates)) ≡ Nowhere → totalFits (totalOf (ratesOf (s .rates))) ≡ true → ratesThen sps n s ≡ distributionsOf sps n s
+  pub rates-pass : firstBadRate 0 (ratesOf (s .rates)) ≡ None → totalFits (totalOf (ratesOf (s .rates))) ≡ true → ratesThen sps n s ≡ distributionsOf sps n s
   rates-pass = by-total true
 
   by-offset : (a : Offset.OffsetAnswer) → carrierOffset sps (s .carrier) ≡ a → distributionsOf sps n s ≡ withOffset n (offsetAnswer a) (phaseAnswer (carrierPhase (s .phase))) (clockAnswer (clockError (s .clock)))

@@ -7,7 +7,7 @@ use native.Mathlib.Nat.{zero-add}
 use native.Mathlib.Omega.{arith}
 use lib.Dec.{leb, ltb}
 use borrow.Author.Tests.{ltb-false}
-use Rattle.distributions.specs.Asked.{finiteNotNegative, carrierOffset, carrierPhase, clockError, offsetAnswer, phaseAnswer, clockAnswer}
+use Rattle.distributions.specs.Accepted.{finiteNotNegative, carrierOffset, carrierPhase, clockError, offsetAnswer, phaseAnswer, clockAnswer}
 use Rattle.distributions.specs.declared.CarrierOffset.{CarrierOffset}
 use Rattle.distributions.specs.declared.CarrierPhase.{CarrierPhase}
 use Rattle.distributions.specs.declared.OffsetAnswer as Offset
@@ -18,12 +18,12 @@ use Rattle.refusals.specs.declared.Refusal.the-variants as Refusal
 use Rattle.settings.specs.declared.Settings.{Settings}
 use Rattle.settings.specs.declared.Distributions.{Distributions}
 use Rattle.settings.specs.declared.BadRate.{BadRate}
-use Rattle.settings.specs.declared.BadRate.the-variants.{Nowhere, At}
+use Rattle.settings.specs.declared.BadRate.the-variants.{None, At}
 use Rattle.settings.specs.declared.Checked.{Checked}
 use Rattle.settings.specs.declared.Checked.the-variants.{Accepted, Refused}
 use Rattle.settings.specs.Settings.{ratesOf, rateOf}
 use Rattle.settings.specs.Accepted.{firstBadRate, totalOf, totalFits, withClock, withPhase, withOffset, distributionsOf, totalThen, ratesThen, durationThen, acceptedOf}
-use Rattle.settings.specs.FirstCause.{Lasts, goodRate, GoodRates, goodTotal, Passed, Answered, refused-1, refused-2, refused-3, refused-4-0, refused-4-1, refused-4-2, accepted}
+use Rattle.settings.specs.FirstCause.{Lasts, goodRate, GoodRates, goodTotal, NoEarlierCause, Answered, refused-1, refused-2, refused-3, refused-4-0, refused-4-1, refused-4-2, accepted}
 use Rattle.settings.proofs.Decided.{duration-refused, duration-passes, rate-refused, total-refused, rates-pass, offset-refused, phase-refused, clock-refused, all-accepted}
 use Rattle.settings.proofs.Rates.{Found, found, finds-none, finds}
 
@@ -49,19 +49,19 @@ lasts-for sps a b n = go (leb 1000000000 b) (ltb mostSamples (samplesOf sps a b)
     go false false m t e = let f : n ≡ m = cc in (f, omega (arith, ltb-false mostSamples m t))
 
 module _ (sps : ℕ) (s : Settings) where
-  by-clock : (n : ℕ) (o : CarrierOffset) (p : CarrierPhase) → Passed sps s n → carrierOffset sps (s .carrier) ≡ Offset.the-variants.Accepted o
+  by-clock : (n : ℕ) (o : CarrierOffset) (p : CarrierPhase) → NoEarlierCause sps s n → carrierOffset sps (s .carrier) ≡ Offset.the-variants.Accepted o
       → carrierPhase (s .phase) ≡ Phase.the-variants.Accepted p → (a : Clock.ClockAnswer) → clockError (s .clock) ≡ a → Answered sps s (withClock n o p (clockAnswer a))
   unfolding withClock clockAnswer
   by-clock n o p P f g (Clock.the-variants.Accepted c) e = accepted P f g e
   by-clock n o p P f g Clock.the-variants.Refused e = refused-4-2 P f g e
 
-  by-phase : (n : ℕ) (o : CarrierOffset) → Passed sps s n → carrierOffset sps (s .carrier) ≡ Offset.the-variants.Accepted o
+  by-phase : (n : ℕ) (o : CarrierOffset) → NoEarlierCause sps s n → carrierOffset sps (s .carrier) ≡ Offset.the-variants.Accepted o
       → (a : Phase.PhaseAnswer) → carrierPhase (s .phase) ≡ a → Answered sps s (withPhase n o (phaseAnswer a) (clockAnswer (clockError (s .clock))))
   unfolding withPhase phaseAnswer
   by-phase n o P f (Phase.the-variants.Accepted p) e = by-clock n o p P f e (clockError (s .clock)) refl
   by-phase n o P f Phase.the-variants.Refused e = refused-4-1 P f e
 
-  by-offset : (n : ℕ) → Passed sps s n → (a : Offset.OffsetAnswer) → carrierOffset sps (s .carrier) ≡ a → Answered sps s (withOffset n (offsetAnswer a) (phaseAnswer (carrierPhase (s .phase))) (clockAnswer (clockError (s .clock))))
+  by-offset : (n : ℕ) → NoEarlierCause sps s n → (a : Offset.OffsetAnswer) → carrierOffset sps (s .carrier) ≡ a → Answered sps s (withOffset n (offsetAnswer a) (phaseAnswer (carrierPhase (s .phase))) (clockAnswer (clockError (s .clock))))
   unfolding withOffset offsetAnswer
   by-offset n P (Offset.the-variants.Accepted o) e = by-phase n o P e (carrierPhase (s .phase)) refl
   by-offset n P Offset.the-variants.Refused e = refused-4-0 P e
@@ -73,7 +73,7 @@ module _ (sps : ℕ) (s : Settings) where
 
   by-rates : (n : ℕ) → Lasts sps s n → (b : BadRate) → Found 0 (ratesOf (s .rates)) b → Answered sps s (totalThen sps n s b)
   unfolding totalThen ratesOf rateOf
-  by-rates n l Nowhere g = by-total n l g (goodTotal s) refl
+  by-rates n l None g = by-total n l g (goodTotal s) refl
   by-rates n l (At j) (i, e, h, g, bad) = subst (λ (k : ℕ). Answered sps s (Refused (Refusal.Rate k))) (sym (e ∙ zero-add i)) (refused-2 l h g bad)
 
   by-duration : (a : Answer) → durationOf sps (s .seconds) (s .nanoseconds) ≡ a → Answered sps s (durationThen sps s a)
@@ -86,7 +86,7 @@ module _ (sps : ℕ) (s : Settings) where
   answered = by-duration (durationOf sps (s .seconds) (s .nanoseconds)) refl
 
   -- ---- and the first
-  passes : (n : ℕ) → Passed sps s n → acceptedOf sps s ≡ distributionsOf sps n s
+  passes : (n : ℕ) → NoEarlierCause sps s n → acceptedOf sps s ≡ distributionsOf sps n s
   unfolding ratesOf rateOf
   passes n P = duration-passes sps s n (P .lasts) ∙ rates-pass sps n s (finds-none 0 (ratesOf (s .rates)) (P .rates)) (P .total)
 
@@ -101,8 +101,8 @@ module _ (sps : ℕ) (s : Settings) where
   only c (accepted {n} {d} P f g e) = passes n P ∙ all-accepted sps n s (d .carrier) f (d .phase) g (d .clock) e
 
 -- ---- what acceptance tells
-pub accepted-passes : (sps : ℕ) (s : Settings) (n : ℕ) (d : Distributions) → acceptedOf sps s ≡ Accepted n d → Passed sps s n
+pub accepted-passes : (sps : ℕ) (s : Settings) (n : ℕ) (d : Distributions) → acceptedOf sps s ≡ Accepted n d → NoEarlierCause sps s n
 accepted-passes sps s n d e = go (subst (Answered sps s) e (answered sps s))
   where
-    go : Answered sps s (Accepted n d) → Passed sps s n
+    go : Answered sps s (Accepted n d) → NoEarlierCause sps s n
     go (accepted P f g h) = P

@@ -13,8 +13,8 @@ use Rattle.math.specs.Phase.{phaseWrap}
 use Rattle.float_rounding.proofs.Size.{Within}
 use Rattle.math.proofs.Constants.{piUnits}
 use Rattle.math.proofs.Wrapped.{wrapped}
-use Rattle.distributions.specs.Asked.{upTo, finiteNotNegative, offsetLimit, tenth, byKind, clampedNormal, carrierOffset, carrierPhase, clockError}
-use Rattle.distributions.specs.declared.Asked.{Asked}
+use Rattle.distributions.specs.Accepted.{upTo, finiteNotNegative, offsetLimit, tenth, byKind, clampedNormal, carrierOffset, carrierPhase, clockError}
+use Rattle.distributions.specs.declared.RawDistribution.{RawDistribution}
 use Rattle.distributions.specs.declared.CarrierOffset as Offset
 use Rattle.distributions.specs.declared.CarrierPhase as Phase
 use Rattle.distributions.specs.declared.ClockError as Clock
@@ -25,7 +25,7 @@ use Rattle.settings_duration.specs.Duration.{mostSamples}
 use Rattle.settings.specs.declared.Settings.{Settings}
 use Rattle.settings.specs.declared.Distributions.{Distributions}
 use Rattle.settings.specs.declared.Checked.the-variants.{Accepted, Refused}
-use Rattle.settings.specs.Settings.{askedAt, settingsOf}
+use Rattle.settings.specs.Settings.{rawDistributionAt, settingsOf}
 use Rattle.settings.specs.Accepted.{acceptedOf}
 use Rattle.settings.specs.FirstCause.{Answered, accepted}
 use Rattle.settings.proofs.FirstCause.{answered, lasts-for}
@@ -55,7 +55,7 @@ pub record InRange (sps : ℕ) (d : Distributions) : Type 0 where
   pub clock : ClockInRange (d .clock)
 
 -- the numbers of the distributions asked for are values of `f64`, as those of every Rattle value and of any bytes are
-abbrev pub HeldAsked : Asked → Type 0
+abbrev pub HeldAsked : RawDistribution → Type 0
 HeldAsked a = Held (a .first) × Held (a .second)
 
 pub record HeldSettings (s : Settings) : Type 0 where
@@ -64,7 +64,7 @@ pub record HeldSettings (s : Settings) : Type 0 where
   pub clock : HeldAsked (s .clock)
 
 pub read-held : (s : List ℕ) → HeldSettings (settingsOf s)
-unfolding settingsOf askedAt
+unfolding settingsOf rawDistributionAt
 read-held s = record {
   carrier = (ofBits-fits binary64 _, ofBits-fits binary64 _);
   phase = (ofBits-fits binary64 _, ofBits-fits binary64 _);
@@ -95,7 +95,7 @@ offset-same d o e = cc
 offset-never : (o : Offset.CarrierOffset) → OffsetAnswer.Refused ≡ OffsetAnswer.Accepted o → ⊥
 offset-never o e = let z : _≡_ {A = ℕ} 0 1 = cc in omega arith
 
-pub offset-in-range : (sps : ℕ) (a : Asked) → HeldAsked a → (o : Offset.CarrierOffset) → carrierOffset sps a ≡ OffsetAnswer.Accepted o → OffsetInRange sps o
+pub offset-in-range : (sps : ℕ) (a : RawDistribution) → HeldAsked a → (o : Offset.CarrierOffset) → carrierOffset sps a ≡ OffsetAnswer.Accepted o → OffsetInRange sps o
 unfolding carrierOffset clampedNormal
 offset-in-range sps a H o =
     of-kind OffsetAnswer.Accepted OffsetAnswer.Refused offset-same offset-never (OffsetInRange sps) o (a .kind) _ _
@@ -108,7 +108,7 @@ phase-same d o e = cc
 phase-never : (o : Phase.CarrierPhase) → PhaseAnswer.Refused ≡ PhaseAnswer.Accepted o → ⊥
 phase-never o e = let z : _≡_ {A = ℕ} 0 1 = cc in omega arith
 
-pub phase-in-range : (a : Asked) → HeldAsked a → (p : Phase.CarrierPhase) → carrierPhase a ≡ PhaseAnswer.Accepted p → PhaseInRange p
+pub phase-in-range : (a : RawDistribution) → HeldAsked a → (p : Phase.CarrierPhase) → carrierPhase a ≡ PhaseAnswer.Accepted p → PhaseInRange p
 unfolding carrierPhase
 phase-in-range a H p =
     of-kind PhaseAnswer.Accepted PhaseAnswer.Refused phase-same phase-never PhaseInRange p (a .kind) _ _
@@ -121,7 +121,7 @@ clock-same d o e = cc
 clock-never : (o : Clock.ClockError) → ClockAnswer.Refused ≡ ClockAnswer.Accepted o → ⊥
 clock-never o e = let z : _≡_ {A = ℕ} 0 1 = cc in omega arith
 
-pub clock-in-range : (a : Asked) → HeldAsked a → (c : Clock.ClockError) → clockError a ≡ ClockAnswer.Accepted c → ClockInRange c
+pub clock-in-range : (a : RawDistribution) → HeldAsked a → (c : Clock.ClockError) → clockError a ≡ ClockAnswer.Accepted c → ClockInRange c
 unfolding clockError
 clock-in-range a H c =
     of-kind ClockAnswer.Accepted ClockAnswer.Refused clock-same clock-never ClockInRange c (a .kind) _ _

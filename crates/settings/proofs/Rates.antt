@@ -9,9 +9,9 @@ use native.Mathlib.Omega.{arith}
 use lib.ListN.{length, getD, drop}
 use lib.Seq.{drop-cons}
 use lib.Ieee.{Float, binary64, ofBits}
-use Rattle.distributions.specs.Asked.{finiteNotNegative}
+use Rattle.distributions.specs.Accepted.{finiteNotNegative}
 use Rattle.settings.specs.declared.BadRate.{BadRate}
-use Rattle.settings.specs.declared.BadRate.the-variants.{Nowhere, At}
+use Rattle.settings.specs.declared.BadRate.the-variants.{None, At}
 use Rattle.settings.specs.declared.MessagesPerSecond.{MessagesPerSecond}
 use Rattle.settings.specs.Settings.{ratesOf}
 use Rattle.settings.specs.Accepted.{firstBadRate}
@@ -34,7 +34,7 @@ module _ (rs : List Float) (k : ℕ) (h : k < length rs) where
   stops g =
       ap (firstBadRate k) (drop-cons rs k (ofBits binary64 0) h) ∙ ap (λ (b : Bool). cond b (firstBadRate (suc k) (drop (suc k) rs)) (At k)) g
 
-pub ends : (r : MessagesPerSecond) (k : ℕ) → k ≡ 7 → firstBadRate k (drop k (ratesOf r)) ≡ Nowhere
+pub ends : (r : MessagesPerSecond) (k : ℕ) → k ≡ 7 → firstBadRate k (drop k (ratesOf r)) ≡ None
 unfolding firstBadRate ratesOf
 ends r k e = ap (λ (n : ℕ). firstBadRate n (drop n (ratesOf r))) e
 
@@ -49,7 +49,7 @@ held false e = sym e
 
 -- ---- what is found
 abbrev pub Found : ℕ → List Float → BadRate → Type 0
-Found k rs Nowhere = (i : ℕ) → i < length rs → good rs i ≡ true
+Found k rs None = (i : ℕ) → i < length rs → good rs i ≡ true
 Found k rs (At j) = (i : ℕ) × (j ≡ k + i) × (i < length rs) × ((m : ℕ) → m < i → good rs m ≡ true) × (good rs i ≡ false)
 
 good-all : (r : Float) (rs : List Float) → finiteNotNegative r ≡ true → (n : ℕ) → ((i : ℕ) → i < n → good rs i ≡ true) → (i : ℕ) → i < suc n → good (r ∷ rs) i ≡ true
@@ -57,7 +57,7 @@ good-all r rs g n all zero h = g
 good-all r rs g n all (suc i) h = all i (omega arith)
 
 later : (k : ℕ) (r : Float) (rs : List Float) (b : BadRate) → finiteNotNegative r ≡ true → Found (suc k) rs b → Found k (r ∷ rs) b
-later k r rs Nowhere g all = good-all r rs g (length rs) all
+later k r rs None g all = good-all r rs g (length rs) all
 later k r rs (At j) g (i, e, h, all, bad) = (suc i, e ∙ suc-add k i ∙ sym (add-suc k i), omega arith, good-all r rs g i all, bad)
 
 pub found : (k : ℕ) (rs : List Float) → Found k rs (firstBadRate k rs)
@@ -70,7 +70,7 @@ found k (r ∷ rs) = go (finiteNotNegative r) refl (found (suc k) rs)
     go false g f = (0, sym (add-zero k), omega arith, (λ m h. absurd (omega arith)), g)
 
 -- ---- what finds it
-pub finds-none : (k : ℕ) (rs : List Float) → ((i : ℕ) → i < length rs → good rs i ≡ true) → firstBadRate k rs ≡ Nowhere
+pub finds-none : (k : ℕ) (rs : List Float) → ((i : ℕ) → i < length rs → good rs i ≡ true) → firstBadRate k rs ≡ None
 unfolding firstBadRate
 finds-none k [] all = refl
 finds-none k (r ∷ rs) all =

@@ -7,10 +7,10 @@ use lib.ListN.{length, getD}
 use lib.Ieee.{Float, binary64, ofBits}
 use Rattle.le_read.specs.LeBytes.{leAt}
 use Rattle.le_read_floats.specs.FloatReads.{f64At}
-use Rattle.distributions.specs.declared.Asked.{Asked}
+use Rattle.distributions.specs.declared.RawDistribution.{RawDistribution}
 use Rattle.settings.specs.declared.MessagesPerSecond.{MessagesPerSecond}
 use Rattle.settings.specs.declared.Settings.{Settings}
-use Rattle.settings.specs.Settings.{settingsLength, ratesAt, askedAt, settingsOf}
+use Rattle.settings.specs.Settings.{settingsLength, ratesAt, rawDistributionAt, settingsOf}
 use Rattle.settings.proofs.Inside.{number-there}
 
 -- the float that eight bytes stand for
@@ -43,11 +43,11 @@ rates-there s at h = λ i. record {
   «mode_ac» = float-there s (at + 48) (omega arith) i;
 }
 
-abbrev pub wholeAsked : List ℕ → ℕ → Asked
+abbrev pub wholeAsked : List ℕ → ℕ → RawDistribution
 wholeAsked s at = record { kind = getD s at 0; first = float s (at + 1); second = float s (at + 9) }
 
-asked-there : (s : List ℕ) (at : ℕ) → at + 17 ≤ length s → askedAt s at ≡ wholeAsked s at
-unfolding askedAt
+asked-there : (s : List ℕ) (at : ℕ) → at + 17 ≤ length s → rawDistributionAt s at ≡ wholeAsked s at
+unfolding rawDistributionAt
 asked-there s at h = λ i. record { kind = getD s at 0; first = float-there s (at + 1) (omega arith) i; second = float-there s (at + 9) (omega arith) i }
 
 -- the settings read from 119 bytes or more, with nothing read past their end

@@ -8,7 +8,7 @@ use Rattle.constants.specs.Rate.{four}
 use Rattle.float_narrow.specs.Range.{abs, within}
 use Rattle.math.specs.Phase.{phaseWrap}
 use Rattle.le_read.specs.LeBytes.{bytesOf, leOf, leAt, readAt}
-use Rattle.distributions.specs.Asked.{finiteNotNegative, upTo, offsetLimit, tenth, byKind, clampedNormal, carrierOffset, carrierPhase, clockError, offsetAnswer, phaseAnswer, clockAnswer}
+use Rattle.distributions.specs.Accepted.{finiteNotNegative, upTo, offsetLimit, tenth, byKind, clampedNormal, carrierOffset, carrierPhase, clockError, offsetAnswer, phaseAnswer, clockAnswer}
 use Rattle.distributions.specs.declared.CarrierOffset.the-variants as Offset
 use Rattle.distributions.specs.declared.CarrierPhase.the-variants as Phase
 use Rattle.distributions.specs.declared.ClockError.the-variants as Clock
@@ -16,7 +16,7 @@ use Rattle.settings_duration.specs.Duration.{durationOf}
 use Rattle.refusals.specs.declared.Refusal.the-variants as Refusal
 use Rattle.settings.specs.declared.Checked.{Checked}
 use Rattle.settings.specs.declared.Checked.the-variants.{Accepted, Refused}
-use Rattle.settings.specs.Settings.{ratesAt, askedAt, settingsOf, ratesOf}
+use Rattle.settings.specs.Settings.{ratesAt, rawDistributionAt, settingsOf, ratesOf}
 use Rattle.settings.specs.Accepted.{firstBadRate, sumFrom, totalOf, totalFits, withClock, withPhase, withOffset, distributionsOf, totalThen, ratesThen, durationThen, acceptedOf}
 
 -- a rate of 1.0 and one of -1.0
@@ -68,5 +68,5 @@ pub worked : answers
     ∷ Refused (Refusal.Distribution 1)
     ∷ Refused (Refusal.Distribution 2)
     ∷ [])
-unfolding acceptedOf durationThen durationOf ratesThen totalThen firstBadRate finiteNotNegative totalFits totalOf sumFrom distributionsOf withOffset withPhase withClock offsetAnswer phaseAnswer clockAnswer carrierOffset carrierPhase clockError clampedNormal byKind upTo offsetLimit tenth within abs finite settingsOf ratesAt ratesOf askedAt readAt leAt leOf bytesOf ofBits ofInt add lt le eq
+unfolding acceptedOf durationThen durationOf ratesThen totalThen firstBadRate finiteNotNegative totalFits totalOf sumFrom distributionsOf withOffset withPhase withClock offsetAnswer phaseAnswer clockAnswer carrierOffset carrierPhase clockError clampedNormal byKind upTo offsetLimit tenth within abs finite settingsOf ratesAt ratesOf rawDistributionAt readAt leAt leOf bytesOf ofBits ofInt add lt le eq
 worked = refl

@@ -4,7 +4,7 @@ use mathlib.Core.Bool.{Bool, _&&_, cond}
 use mathlib.Core.List.{List, [], _∷_}
 use lib.Ieee.{Float, binary64, ofBits, add, lt}
 use lib.Ieee.Scale.{finite}
-use Rattle.distributions.specs.Asked.{finiteNotNegative, carrierOffset, carrierPhase, clockError, offsetAnswer, phaseAnswer, clockAnswer}
+use Rattle.distributions.specs.Accepted.{finiteNotNegative, carrierOffset, carrierPhase, clockError, offsetAnswer, phaseAnswer, clockAnswer}
 use Rattle.distributions.specs.declared.CarrierOffset.{CarrierOffset}
 use Rattle.distributions.specs.declared.CarrierPhase.{CarrierPhase}
 use Rattle.distributions.specs.declared.ClockError.{ClockError}
@@ -18,7 +18,7 @@ use Rattle.settings.specs.Settings.{ratesOf}
 
 -- the first rate that is negative or not finite, the rates counted from k
 unfoldable pub firstBadRate : ℕ → List Float → BadRate.BadRate
-firstBadRate k [] = BadRate.the-variants.Nowhere
+firstBadRate k [] = BadRate.the-variants.None
 firstBadRate k (r ∷ rs) = cond (finiteNotNegative r) (firstBadRate (suc k) rs) (BadRate.the-variants.At k)
 
 -- the rates' total, summed in order from the first on, as the Rust does
@@ -52,7 +52,7 @@ distributionsOf sps n s = withOffset n (offsetAnswer (carrierOffset sps (s .carr
 
 -- refusal 2, with the first rate at fault; then 3; then 4
 unfoldable pub totalThen : ℕ → ℕ → Settings → BadRate.BadRate → Checked.Checked
-totalThen sps n s BadRate.the-variants.Nowhere = cond (totalFits (totalOf (ratesOf (s .rates)))) (distributionsOf sps n s) (Checked.the-variants.Refused Refusal.the-variants.Total)
+totalThen sps n s BadRate.the-variants.None = cond (totalFits (totalOf (ratesOf (s .rates)))) (distributionsOf sps n s) (Checked.the-variants.Refused Refusal.the-variants.Total)
 totalThen sps n s (BadRate.the-variants.At k) = Checked.the-variants.Refused (Refusal.the-variants.Rate k)
 
 unfoldable pub ratesThen : ℕ → ℕ → Settings → Checked.Checked

@@ -2,7 +2,7 @@
 use Prim.Native.Nat.{ℕ, _<_}
 use mathlib.Core.Path.{_≡_}
 use mathlib.Core.Bool.{Bool, true, false}
-use Rattle.distributions.specs.Asked.{finiteNotNegative, carrierOffset, carrierPhase, clockError}
+use Rattle.distributions.specs.Accepted.{finiteNotNegative, carrierOffset, carrierPhase, clockError}
 use Rattle.distributions.specs.declared.CarrierOffset.{CarrierOffset}
 use Rattle.distributions.specs.declared.CarrierPhase.{CarrierPhase}
 use Rattle.distributions.specs.declared.OffsetAnswer as Offset
@@ -33,7 +33,7 @@ abbrev pub goodTotal : Settings → Bool
 goodTotal s = totalFits (totalOf (ratesOf (s .rates)))
 
 -- refusals 1, 2 and 3 do not apply: the run has n samples, and its rates and their total are good
-pub record Passed (sps : ℕ) (s : Settings) (n : ℕ) : Type 0 where
+pub record NoEarlierCause (sps : ℕ) (s : Settings) (n : ℕ) : Type 0 where
   pub lasts : Lasts sps s n
   pub rates : GoodRates s 7
   pub total : goodTotal s ≡ true
@@ -43,10 +43,10 @@ pub data Answered (sps : ℕ) (s : Settings) : Checked → Type 0 where
   refused-1 : durationOf sps (s .seconds) (s .nanoseconds) ≡ refusal 1 → Answered sps s (Refused Refusal.Duration)
   refused-2 : {k n : ℕ} → Lasts sps s n → k < 7 → GoodRates s k → goodRate s k ≡ false → Answered sps s (Refused (Refusal.Rate k))
   refused-3 : {n : ℕ} → Lasts sps s n → GoodRates s 7 → goodTotal s ≡ false → Answered sps s (Refused Refusal.Total)
-  refused-4-0 : {n : ℕ} → Passed sps s n → carrierOffset sps (s .carrier) ≡ Offset.the-variants.Refused → Answered sps s (Refused (Refusal.Distribution 0))
-  refused-4-1 : {n : ℕ} {o : CarrierOffset} → Passed sps s n → carrierOffset sps (s .carrier) ≡ Offset.the-variants.Accepted o
+  refused-4-0 : {n : ℕ} → NoEarlierCause sps s n → carrierOffset sps (s .carrier) ≡ Offset.the-variants.Refused → Answered sps s (Refused (Refusal.Distribution 0))
+  refused-4-1 : {n : ℕ} {o : CarrierOffset} → NoEarlierCause sps s n → carrierOffset sps (s .carrier) ≡ Offset.the-variants.Accepted o
       → carrierPhase (s .phase) ≡ Phase.the-variants.Refused → Answered sps s (Refused (Refusal.Distribution 1))
-  refused-4-2 : {n : ℕ} {o : CarrierOffset} {p : CarrierPhase} → Passed sps s n → carrierOffset sps (s .carrier) ≡ Offset.the-variants.Accepted o
+  refused-4-2 : {n : ℕ} {o : CarrierOffset} {p : CarrierPhase} → NoEarlierCause sps s n → carrierOffset sps (s .carrier) ≡ Offset.the-variants.Accepted o
       → carrierPhase (s .phase) ≡ Phase.the-variants.Accepted p → clockError (s .clock) ≡ Clock.the-variants.Refused → Answered sps s (Refused (Refusal.Distribution 2))
-  accepted : {n : ℕ} {d : Distributions} → Passed sps s n → carrierOffset sps (s .carrier) ≡ Offset.the-variants.Accepted (d .carrier)
+  accepted : {n : ℕ} {d : Distributions} → NoEarlierCause sps s n → carrierOffset sps (s .carrier) ≡ Offset.the-variants.Accepted (d .carrier)
       → carrierPhase (s .phase) ≡ Phase.the-variants.Accepted (d .phase) → clockError (s .clock) ≡ Clock.the-variants.Accepted (d .clock) → Answered sps s (Accepted n d)

@@ -5,7 +5,7 @@ use lib.ListN.{getD}
 use lib.Ieee.{Float, binary64, ofBits}
 use Rattle.le_read.specs.LeBytes.{numberAt}
 use Rattle.le_read_floats.specs.FloatReads.{f64At}
-use Rattle.distributions.specs.declared.Asked.{Asked}
+use Rattle.distributions.specs.declared.RawDistribution.{RawDistribution}
 use Rattle.settings.specs.declared.MessagesPerSecond.{MessagesPerSecond}
 use Rattle.settings.specs.declared.Settings.{Settings}
 
@@ -24,8 +24,8 @@ ratesAt s at = record {
   «mode_ac» = f64At s (at + 48);
 }
 
-unfoldable pub askedAt : List ℕ → ℕ → Asked
-askedAt s at = record { kind = getD s at 0; first = f64At s (at + 1); second = f64At s (at + 9) }
+unfoldable pub rawDistributionAt : List ℕ → ℕ → RawDistribution
+rawDistributionAt s at = record { kind = getD s at 0; first = f64At s (at + 1); second = f64At s (at + 9) }
 
 -- the settings at the start of bytes, of which there are 119 or more (fewer are refused before they are read)
 unfoldable pub settingsOf : List ℕ → Settings
@@ -33,9 +33,9 @@ settingsOf s = record {
   seconds = numberAt 8 s 0;
   nanoseconds = numberAt 4 s 8;
   rates = ratesAt s 12;
-  carrier = askedAt s 68;
-  phase = askedAt s 85;
-  clock = askedAt s 102;
+  carrier = rawDistributionAt s 68;
+  phase = rawDistributionAt s 85;
+  clock = rawDistributionAt s 102;
 }
 
 -- the rates in the order of the types

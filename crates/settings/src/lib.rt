@@ -1,16 +1,16 @@
 // A run's settings: their 119 bytes, the rate of a type, and refusals 1 to 4. Each function is equal to a definition of specs/ on every input.
 ghost use mathlib.Core.Path.{_≡_};
 ghost use Prim.Native.Nat.{_≤_};
-ghost use Rattle.settings.specs.Settings.{settingsLength, ratesAt, askedAt, settingsOf, rateOf, ratesOf};
+ghost use Rattle.settings.specs.Settings.{settingsLength, ratesAt, rawDistributionAt, settingsOf, rateOf, ratesOf};
 ghost use Rattle.constants.specs.Rate.{four};
 ghost use Rattle.settings.specs.Accepted.{firstBadRate, totalOf, totalFits, distributionsOf, ratesThen, acceptedOf};
-use distributions::Asked;
 use distributions::CarrierOffset;
 use distributions::CarrierPhase;
 use distributions::ClockAnswer;
 use distributions::ClockError;
 use distributions::OffsetAnswer;
 use distributions::PhaseAnswer;
+use distributions::RawDistribution;
 use refusals::Refusal;
 use settings_duration::InSamples;
 
@@ -29,9 +29,9 @@ pub struct Settings {
     pub seconds: u64,
     pub nanoseconds: u32,
     pub rates: MessagesPerSecond,
-    pub carrier: Asked,
-    pub phase: Asked,
-    pub clock: Asked,
+    pub carrier: RawDistribution,
+    pub phase: RawDistribution,
+    pub clock: RawDistribution,
 }
 
 pub struct Distributions {
@@ -42,7 +42,7 @@ pub struct Distributions {
 
 // The first rate that is negative or not finite, or that there is none.
 pub enum BadRate {
-    Nowhere,
+    None,
     At(u64),
 }
 
@@ -67,11 +67,11 @@ fn rates_at(s: &[u8], at: usize) -> MessagesPerSecond
     }
 }
 
-fn asked_at(s: &[u8], at: usize) -> Asked
+fn raw_distribution_at(s: &[u8], at: usize) -> RawDistribution
     requires { ⌜ at ≤ settingsLength ⌝ }
-    ensures { λ r. ⌜ r ≡ askedAt (now (s .entry)) at ⌝ }
+    ensures { λ r. ⌜ r ≡ rawDistributionAt (now (s .entry)) at ⌝ }
 {
-    Asked {
+    RawDistribution {
         kind: le_at::byte_at(s, at),
         first: le_floats::f64_at(s, at + 1),
         second: le_floats::f64_at(s, at + 9),
@@ -83,9 +83,9 @@ pub fn read(s: &[u8]) -> Settings
     ensures { λ r. ⌜ r ≡ settingsOf (now (s .entry)) ⌝ }
 {
     let rates = rates_at(s, 12);
-    let carrier = asked_at(s, 68);
-    let phase = asked_at(s, 85);
-    let clock = asked_at(s, 102);
+    let carrier = raw_distribution_at(s, 68);
+    let phase = raw_distribution_at(s, 85);
+    let clock = raw_distribution_at(s, 102);
     Settings {
         seconds: le_at::u64_at(s, 0),
         nanoseconds: le_at::u32_at(s, 8),
@@ -134,7 +134,7 @@ fn first_bad_rate(rates: MessagesPerSecond) -> BadRate
         }
         k = k + 1;
     }
-    BadRate::Nowhere
+    BadRate::None
 }
 
 fn total_of(r: MessagesPerSecond) -> f64

@@ -7,10 +7,10 @@ use native.Mathlib.Numerals.{add-one}
 use lib.ListN.{length, getD, take, drop, set, length-append, length-drop}
 use lib.Seq.{drop-drop, drop-cons, set-at, take-suc, length-take-le}
 use lib.Ieee.{Float, binary32, ofBits, toBits}
-use Rattle.le_read.specs.LeBytes.{leAt, numberAt, bytesOf, laid, put}
+use Rattle.le_read.specs.LeBytes.{leAt, numberAt, bytesOf, overwritten, put}
 use Rattle.le_read.proofs.Halves.{length-bytes}
 use Rattle.settings.proofs.Inside.{number-there}
-use Rattle.reply_record.proofs.Laid.{next-put}
+use Rattle.reply_record.proofs.Overwritten.{next-put}
 use Rattle.tape_floats.specs.Floats.{floatsOf, floatBytes}
 
 pub length-floats : (n : ℕ) (b : List ℕ) → length (floatsOf n b) ≡ n
@@ -54,12 +54,12 @@ unfolding floatBytes
 bytes-of-both [] ys = refl
 bytes-of-both (x ∷ xs) ys = ap (λ (l : List ℕ). bytesOf 4 (toBits binary32 x) ++ l) (bytes-of-both xs ys) ∙ sym (append-assoc (bytesOf 4 (toBits binary32 x)) (floatBytes xs) (floatBytes ys))
 
-pub write-next : (v : List Float) (s d e : List ℕ) (k : ℕ) (z : Float) {at : ℕ} → at ≡ 4 * k → k < length v → 4 * k + 4 ≤ length s → d ≡ laid s 0 (floatBytes (take k v)) → e ≡ put 4 d at (toBits binary32 (getD v k z)) → e ≡ laid s 0 (floatBytes (take (k + 1) v))
+pub write-next : (v : List Float) (s d e : List ℕ) (k : ℕ) (z : Float) {at : ℕ} → at ≡ 4 * k → k < length v → 4 * k + 4 ≤ length s → d ≡ overwritten s 0 (floatBytes (take k v)) → e ≡ put 4 d at (toBits binary32 (getD v k z)) → e ≡ overwritten s 0 (floatBytes (take (k + 1) v))
 unfolding floatBytes
 write-next v s d e k z {at} r h g p q =
     let l : length (floatBytes (take k v)) ≡ 4 * k = length-float-bytes (take k v) ∙ ap (λ (n : ℕ). 4 * n) (length-take-le k v (omega arith)) in
     next-put s 0 (4 * k) (floatBytes (take k v)) 4 (toBits binary32 (getD v k z)) d e l (omega arith) p (q ∙ ap (λ (n : ℕ). put 4 d n (toBits binary32 (getD v k z))) {x = at} {y = 0 + 4 * k} (omega arith))
-    ∙ ap (laid s 0)
+    ∙ ap (overwritten s 0)
     (ap (λ (m : List ℕ). floatBytes (take k v) ++ m) (sym (append-nil (bytesOf 4 (toBits binary32 (getD v k z)))))
     ∙ sym (bytes-of-both (take k v) (getD v k z ∷ []))
     ∙ ap floatBytes (sym (ap (λ (n : ℕ). take n v) (add-one k) ∙ take-suc v k z h)))

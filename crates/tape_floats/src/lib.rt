@@ -3,7 +3,7 @@ ghost use mathlib.Core.Path.{_≡_};
 ghost use mathlib.Core.List.{_++_};
 ghost use Prim.Native.Nat.{_/_, min};
 ghost use lib.ListN.{length, take, drop};
-ghost use Rattle.le_read.specs.LeBytes.{laid};
+ghost use Rattle.le_read.specs.LeBytes.{overwritten};
 ghost use Rattle.tape_floats.specs.Floats.{floatsOf, floatBytes};
 use constants::least;
 
@@ -22,7 +22,7 @@ pub fn floats(bytes: &[u8], out: &mut [f32]) -> usize
 
 // The bytes of as many values as there is room for; the number of values.
 pub fn float_bytes(values: &[f32], out: &mut [u8]) -> usize
-    ensures { λ r. ⌜ (r ≡ min (length (now (values .entry))) (length (now (out .entry)) / 4)) × (now (out .exit) ≡ laid (now (out .entry)) 0 (floatBytes (take r (now (values .entry))))) ⌝ }
+    ensures { λ r. ⌜ (r ≡ min (length (now (values .entry))) (length (now (out .entry)) / 4)) × (now (out .exit) ≡ overwritten (now (out .entry)) 0 (floatBytes (take r (now (values .entry))))) ⌝ }
 {
     let n = least(values.len(), out.len() / 4);
     let mut k: usize = 0;

@@ -16,9 +16,9 @@ use Rattle.settings.specs.Settings.{settingsOf}
 use Rattle.settings.specs.Accepted.{acceptedOf}
 use Rattle.settings.specs.declared.Checked as Checked
 use Rattle.draw.specs.Fault.{firstFault}
-use Rattle.draw.specs.declared.Fault as Fault
+use Rattle.draw.specs.declared.DrawFault as DrawFault
 use Rattle.run_call.specs.declared.State.{State}
-use Rattle.run_open_checks.specs.Opening.{half, Lent, openedOf, leftBy}
+use Rattle.run_open_checks.specs.Opening.{half, OpenBuffers, openedOf, leftBy}
 use Rattle.run_open_checks.specs.declared.Opened as Opened
 use Rattle.tape_floats.specs.Floats.{floatsOf}
 use Rattle.tape_sections.specs.declared.Counted as Counted
@@ -105,10 +105,10 @@ module _ (tape : List ℕ) (m : ℕ) (low : 12135 ≤ m) (high : leAt 4 tape 121
     unfolding noiseThen
     noise-same = read-first tape m (Beginning.the-variants.Run s n) tapeFault (12135 + 65 * n) (omega arith)
 
-    fault-same : (f : Fault.Fault) → faultThen four (take m tape) s n f ≡ faultThen four tape s n f
+    fault-same : (f : DrawFault.DrawFault) → faultThen four (take m tape) s n f ≡ faultThen four tape s n f
     unfolding faultThen
-    fault-same Fault.the-variants.Clean = noise-same
-    fault-same (Fault.the-variants.At k field) = refl
+    fault-same DrawFault.the-variants.None = noise-same
+    fault-same (DrawFault.the-variants.At k field) = refl
 
   draws-same : (s : State) (q : Counted.Counted) → q ≡ sectionAt tape 12131 0 400 65 → drawsThen four (take m tape) s q ≡ drawsThen four tape s q
   unfolding drawsThen
@@ -152,14 +152,14 @@ module _ (tape : List ℕ) (m : ℕ) (low : 12135 ≤ m) (high : leAt 4 tape 121
   unfolding earlyOf
   early-same = ap (settingsThen four (take m tape)) (section-first tape m 0 1 1 119 (omega arith) (λ g. omega arith)) ∙ first-same (sectionAt tape 0 1 1 119)
 
-  module _ (lent : Lent) where
+  module _ (lent : OpenBuffers) where
     from-same : openedFrom four (take m tape) lent ≡ openedFrom four tape lent
     unfolding openedFrom tapsS tapsAC
     from-same = λ i. openedOf four half (take 1486 (taps-same i)) (drop 1486 (taps-same i)) (settings-same i) lent
 
     then-same : (e : Early.Early) → earlyThen four (take m tape) lent e ≡ earlyThen four tape lent e
     unfolding earlyThen
-    then-same Early.the-variants.Passed = ap (openedThen four (take m tape)) from-same ∙ opened-same (openedFrom four tape lent)
+    then-same Early.the-variants.Accepted = ap (openedThen four (take m tape)) from-same ∙ opened-same (openedFrom four tape lent)
     then-same (Early.the-variants.Refused number) = refl
 
     beginning-same : beginningOf four (take m tape) lent ≡ beginningOf four tape lent
@@ -191,7 +191,7 @@ length-of tape h g =
     (sym (section-of tape 12131 0 400 0 n {b = true} h (sym (number-there 4 tape 12131 h)) (sym (between n 0 400 0 (length tape - 12135) (omega arith) g ∙ le-leb (0 * n) (length tape - 12135) (omega arith))) refl))
 
 -- what a tape begins with is what its bytes before the noise begin with
-pub head-of-prefix : (tape : List ℕ) (lent : Lent) → headOf four (take (headLength four tape) tape) lent ≡ headOf four tape lent
+pub head-of-prefix : (tape : List ℕ) (lent : OpenBuffers) → headOf four (take (headLength four tape) tape) lent ≡ headOf four tape lent
 unfolding headLength
 head-of-prefix tape lent = go (leb 12135 (length tape)) refl
   where

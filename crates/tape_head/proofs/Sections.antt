@@ -18,12 +18,12 @@ use Rattle.settings.specs.Accepted.{acceptedOf}
 use Rattle.settings.specs.declared.Checked as Checked
 use Rattle.settings.specs.declared.Distributions.{Distributions}
 use Rattle.draw.specs.Fault.{firstFault}
-use Rattle.draw.specs.declared.Fault as Fault
+use Rattle.draw.specs.declared.DrawFault as DrawFault
 use Rattle.run_call.specs.declared.State.{State}
 use Rattle.pulse_shape.specs.Prototype.{modeSPrototype, modeACPrototype}
 use Rattle.run_theory.specs.Zeros.{zeros}
 use Rattle.run_open.specs.FillModel.{over}
-use Rattle.run_open_checks.specs.Opening.{half, Lent, openedOf, preparedOf, isRun, leftBy}
+use Rattle.run_open_checks.specs.Opening.{half, OpenBuffers, openedOf, preparedOf, isRun, leftBy}
 use Rattle.run_open_checks.specs.declared.Prepared.{Prepared}
 use Rattle.run_open.proofs.Filled.{filled}
 use Rattle.run_open_checks.specs.declared.Opened as Opened
@@ -45,13 +45,13 @@ settings-part tape = refl
 module _ (tape : List ℕ) (s : State) (n : ℕ) where
   abbrev pub noise : U32.ReadU32 → Beginning.Beginning
   noise (U32.the-variants.Value m) = Beginning.the-variants.Run s n m
-  noise U32.the-variants.Past = tapeFault
+  noise U32.the-variants.OutOfBounds = tapeFault
 
   pub noise-read : {q : U32.ReadU32} {at : ℕ} → q ≡ readU32 tape at → at ≡ 12135 + 65 * n → noise q ≡ noiseThen four tape s n
   unfolding noiseThen
-  noise-read e h = ap noise (e ∙ ap (readU32 tape) h) ∙ read-then noise 4 U32.the-variants.Value U32.the-variants.Past tape (12135 + 65 * n)
+  noise-read e h = ap noise (e ∙ ap (readU32 tape) h) ∙ read-then noise 4 U32.the-variants.Value U32.the-variants.OutOfBounds tape (12135 + 65 * n)
 
-  pub draws-faulty : {f : Fault.Fault} {r : Beginning.Beginning} (m : ℕ) → f ≡ firstFault (s .rates) (s .distributions) (take m (drop 12135 tape)) → m ≡ 65 * n → r ≡ faultThen four tape s n f
+  pub draws-faulty : {f : DrawFault.DrawFault} {r : Beginning.Beginning} (m : ℕ) → f ≡ firstFault (s .rates) (s .distributions) (take m (drop 12135 tape)) → m ≡ 65 * n → r ≡ faultThen four tape s n f
       → r ≡ drawsThen four tape s (Counted.the-variants.Of n)
   unfolding drawsThen
   draws-faulty m e h p = p ∙ ap (faultThen four tape s n) (e ∙ ap (λ (k : ℕ). firstFault (s .rates) (s .distributions) (take k (drop 12135 tape))) h)
@@ -89,7 +89,7 @@ prepared-from tape x y z p q s e = e ∙ (λ i. preparedOf four half (p i) (q i)
 
 -- ---- what stands before the taps' values
 module _ (tape : List ℕ) where
-  pub taps-passed : {q : Counted.Counted} {n : ℕ} → q ≡ sectionAt tape 123 3001 3001 4 → q ≡ Counted.the-variants.Of n → Early.the-variants.Passed ≡ tapsThen (sectionAt tape 123 3001 3001 4)
+  pub taps-passed : {q : Counted.Counted} {n : ℕ} → q ≡ sectionAt tape 123 3001 3001 4 → q ≡ Counted.the-variants.Of n → Early.the-variants.Accepted ≡ tapsThen (sectionAt tape 123 3001 3001 4)
   unfolding tapsThen
   taps-passed e f = sym (ap tapsThen (sym e ∙ f))
 
@@ -117,7 +117,7 @@ module _ (tape : List ℕ) where
 
   -- where nothing is refused, the taps lie on the tape
   Long : Early.Early → Type 0
-  Long Early.the-variants.Passed = 12131 ≤ length tape
+  Long Early.the-variants.Accepted = 12131 ≤ length tape
   Long (Early.the-variants.Refused number) = Unit {0}
 
   taps-long : (q : Counted.Counted) → q ≡ sectionAt tape 123 3001 3001 4 → Long (tapsThen q)
@@ -135,7 +135,7 @@ module _ (tape : List ℕ) where
   settings-long (Counted.the-variants.Of n) = checked-long (acceptedOf four (settingsOf (settingsBytes four tape)))
   settings-long Counted.the-variants.Wrong = tt
 
-  pub passed-long : {e : Early.Early} → e ≡ earlyOf four tape → e ≡ Early.the-variants.Passed → 12131 ≤ length tape
+  pub passed-long : {e : Early.Early} → e ≡ earlyOf four tape → e ≡ Early.the-variants.Accepted → 12131 ≤ length tape
   unfolding earlyOf Long
   passed-long e f = subst Long (sym e ∙ f) (settings-long (sectionAt tape 0 1 1 119))
 
@@ -148,7 +148,7 @@ pub a-refusal : {b : Beginning.Beginning} {k : ℕ} → b ≡ Beginning.the-vari
 unfolding begins
 a-refusal e = sym (ap begins e)
 
-module _ (tape : List ℕ) (lent : Lent) where
+module _ (tape : List ℕ) (lent : OpenBuffers) where
   begun : Beginning.Beginning → Begun
   begun b = record { head = b; left = leftThen four tape lent b }
 
@@ -175,7 +175,7 @@ module _ (tape : List ℕ) (lent : Lent) where
           memory = (z ∙ ap (λ (c : Bool). cond c (zeros (length (lent .memory))) (lent .memory)) t) i;
         }
 
-  pub head-given : {e : Early.Early} {P : Prepared} {b : Beginning.Beginning} {w : Bool} {modeS modeAC memory : List Float} → e ≡ earlyOf four tape → e ≡ Early.the-variants.Passed
+  pub head-given : {e : Early.Early} {P : Prepared} {b : Beginning.Beginning} {w : Bool} {modeS modeAC memory : List Float} → e ≡ earlyOf four tape → e ≡ Early.the-variants.Accepted
       → P ≡ preparedOf four half (tapsS four tape) (tapsAC four tape) (settingsBytes four tape) (length (lent .modeS)) (length (lent .modeAC)) (length (lent .memory)) → b ≡ openedThen four tape (P .opened) → w ≡ begins b
       → modeS ≡ cond w (over (P .«mode_s») (lent .modeS)) (lent .modeS) → modeAC ≡ cond w (over (P .«mode_ac») (lent .modeAC)) (lent .modeAC) → memory ≡ cond w (zeros (length (lent .memory))) (lent .memory)
       → record { head = b; left = record { modeS = modeS; modeAC = modeAC; memory = memory } } ≡ headOf four tape lent

@@ -9,9 +9,9 @@ use borrow.Author.Tests.{leb-true}
 use Rattle.constants.specs.Rate.{four}
 use Rattle.le_read.specs.LeBytes.{leAt, readAt, inside}
 use Rattle.draw.specs.Fault.{firstFault}
-use Rattle.draw.specs.declared.Fault as Fault
+use Rattle.draw.specs.declared.DrawFault as DrawFault
 use Rattle.run_call.specs.declared.State.{State}
-use Rattle.run_open_checks.specs.Opening.{Lent}
+use Rattle.run_open_checks.specs.Opening.{OpenBuffers}
 use Rattle.run_open_checks.specs.declared.Opened as Opened
 use Rattle.tape_sections.specs.declared.Counted as Counted
 use Rattle.tape_sections.specs.Sections.{sectionAt}
@@ -34,10 +34,10 @@ module _ (tape : List ℕ) where
         go true e = (h, omega (arith, leb-true (12135 + 65 * n + 4) (length tape) e))
         go false e = tt
 
-    fault-within : (f : Fault.Fault) → Within (faultThen four tape s n f)
+    fault-within : (f : DrawFault.DrawFault) → Within (faultThen four tape s n f)
     unfolding faultThen Within
-    fault-within Fault.the-variants.Clean = noise-within
-    fault-within (Fault.the-variants.At k field) = tt
+    fault-within DrawFault.the-variants.None = noise-within
+    fault-within (DrawFault.the-variants.At k field) = tt
 
   draws-within : (s : State) (q : Counted.Counted) → q ≡ sectionAt tape 12131 0 400 65 → Within (drawsThen four tape s q)
   unfolding drawsThen Within
@@ -49,10 +49,10 @@ module _ (tape : List ℕ) where
   opened-within (Opened.the-variants.Run s) = draws-within s (sectionAt tape 12131 0 400 65) refl
   opened-within (Opened.the-variants.Refused refusal) = tt
 
-  module _ (lent : Lent) where
+  module _ (lent : OpenBuffers) where
     early-within : (e : Early.Early) → Within (earlyThen four tape lent e)
     unfolding earlyThen Within
-    early-within Early.the-variants.Passed = opened-within (openedFrom four tape lent)
+    early-within Early.the-variants.Accepted = opened-within (openedFrom four tape lent)
     early-within (Early.the-variants.Refused number) = tt
 
     pub head-within : (s : State) (n count : ℕ) → headOf four tape lent .head ≡ Beginning.the-variants.Run s n count → (n ≤ 400) × (12139 + 65 * n ≤ length tape)

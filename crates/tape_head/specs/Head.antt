@@ -11,13 +11,13 @@ use Rattle.settings.specs.Settings.{settingsLength, settingsOf}
 use Rattle.settings.specs.Accepted.{acceptedOf}
 use Rattle.settings.specs.declared.Checked as Checked
 use Rattle.draw.specs.Fault.{firstFault}
-use Rattle.draw.specs.declared.Fault as Fault
+use Rattle.draw.specs.declared.DrawFault as DrawFault
 use Rattle.run_call.specs.declared.State.{State}
-use Rattle.run_open_checks.specs.Opening.{half, Lent, openedOf, leftBy}
+use Rattle.run_open_checks.specs.Opening.{half, OpenBuffers, openedOf, leftBy}
 use Rattle.run_open_checks.specs.declared.Opened as Opened
 use Rattle.tape_floats.specs.Floats.{floatsOf}
 use Rattle.tape_sections.specs.declared.Counted as Counted
-use Rattle.tape_sections.specs.Sections.{mostDraws, tapsPlace, tapsCount, drawsPlace, noisePlace, sectionAt}
+use Rattle.tape_sections.specs.Sections.{mostDraws, tapsOffset, tapsCount, drawsOffset, noiseOffset, sectionAt}
 use Rattle.tape_head.specs.declared.Early as Early
 use Rattle.tape_head.specs.declared.Beginning as Beginning
 
@@ -28,26 +28,26 @@ tapeFault = Beginning.the-variants.Refused 11
 module _ (sps : ℕ) (tape : List ℕ) where
   -- the noise's count, behind n draws
   unfoldable pub noiseThen : State → ℕ → Beginning.Beginning
-  noiseThen s n = readAt 4 (Beginning.the-variants.Run s n) tapeFault tape (noisePlace sps n)
+  noiseThen s n = readAt 4 (Beginning.the-variants.Run s n) tapeFault tape (noiseOffset sps n)
 
   -- refusal 7, then the noise
-  unfoldable pub faultThen : State → ℕ → Fault.Fault → Beginning.Beginning
-  faultThen s n Fault.the-variants.Clean = noiseThen s n
-  faultThen s n (Fault.the-variants.At k field) = Beginning.the-variants.Refused 7
+  unfoldable pub faultThen : State → ℕ → DrawFault.DrawFault → Beginning.Beginning
+  faultThen s n DrawFault.the-variants.None = noiseThen s n
+  faultThen s n (DrawFault.the-variants.At k field) = Beginning.the-variants.Refused 7
 
   -- the draws, 65 bytes each (SPECIFICATION 4.4)
   unfoldable pub drawsThen : State → Counted.Counted → Beginning.Beginning
-  drawsThen s (Counted.the-variants.Of n) = faultThen s n (firstFault (s .rates) (s .distributions) (take (65 * n) (drop (drawsPlace sps + 4) tape)))
+  drawsThen s (Counted.the-variants.Of n) = faultThen s n (firstFault (s .rates) (s .distributions) (take (65 * n) (drop (drawsOffset sps + 4) tape)))
   drawsThen s Counted.the-variants.Wrong = tapeFault
 
   -- refusals 5 and 6, then the draws
   unfoldable pub openedThen : Opened.Opened → Beginning.Beginning
-  openedThen (Opened.the-variants.Run s) = drawsThen s (sectionAt tape (drawsPlace sps) 0 mostDraws 65)
+  openedThen (Opened.the-variants.Run s) = drawsThen s (sectionAt tape (drawsOffset sps) 0 mostDraws 65)
   openedThen (Opened.the-variants.Refused refusal) = Beginning.the-variants.Refused (numberOf refusal)
 
   -- the taps (SPECIFICATION 4.6): Mode S, then Mode A/C
   unfoldable pub taps : List Float
-  taps = floatsOf (tapsCount sps) (drop (tapsPlace + 4) tape)
+  taps = floatsOf (tapsCount sps) (drop (tapsOffset + 4) tape)
 
   unfoldable pub tapsS : List Float
   tapsS = take (modeSTaps sps) taps
@@ -59,18 +59,18 @@ module _ (sps : ℕ) (tape : List ℕ) where
   settingsBytes = take settingsLength (drop 4 tape)
 
   -- opening, lent the taps of a tape
-  unfoldable pub openedFrom : Lent → Opened.Opened
+  unfoldable pub openedFrom : OpenBuffers → Opened.Opened
   openedFrom lent = openedOf sps half tapsS tapsAC settingsBytes lent
 
 -- the taps' count and length
 unfoldable pub tapsThen : Counted.Counted → Early.Early
-tapsThen (Counted.the-variants.Of n) = Early.the-variants.Passed
+tapsThen (Counted.the-variants.Of n) = Early.the-variants.Accepted
 tapsThen Counted.the-variants.Wrong = Early.the-variants.Refused 11
 
 -- what stands before the taps' values: refusals 1 to 4, then the taps' count and length
 module _ (sps : ℕ) (tape : List ℕ) where
   unfoldable pub checkedThen : Checked.Checked → Early.Early
-  checkedThen (Checked.the-variants.Accepted samples all) = tapsThen (sectionAt tape tapsPlace (tapsCount sps) (tapsCount sps) 4)
+  checkedThen (Checked.the-variants.Accepted samples all) = tapsThen (sectionAt tape tapsOffset (tapsCount sps) (tapsCount sps) 4)
   checkedThen (Checked.the-variants.Refused refusal) = Early.the-variants.Refused (numberOf refusal)
 
   unfoldable pub settingsThen : Counted.Counted → Early.Early
@@ -88,15 +88,15 @@ begins (Beginning.the-variants.Refused number) = false
 -- a tape's beginning, and what is left in what opening is lent
 pub record Begun : Type 0 where
   pub head : Beginning.Beginning
-  pub left : Lent
+  pub left : OpenBuffers
 
-module _ (sps : ℕ) (tape : List ℕ) (lent : Lent) where
+module _ (sps : ℕ) (tape : List ℕ) (lent : OpenBuffers) where
   unfoldable pub earlyThen : Early.Early → Beginning.Beginning
-  earlyThen Early.the-variants.Passed = openedThen sps tape (openedFrom sps tape lent)
+  earlyThen Early.the-variants.Accepted = openedThen sps tape (openedFrom sps tape lent)
   earlyThen (Early.the-variants.Refused number) = Beginning.the-variants.Refused number
 
   -- a run leaves what opening does; a refusal leaves every buffer as it was (SPECIFICATION 3.3)
-  unfoldable pub leftThen : Beginning.Beginning → Lent
+  unfoldable pub leftThen : Beginning.Beginning → OpenBuffers
   leftThen (Beginning.the-variants.Run s n count) = leftBy sps (tapsS sps tape) (tapsAC sps tape) (Opened.the-variants.Run s) lent
   leftThen (Beginning.the-variants.Refused number) = lent
 

@@ -6,7 +6,7 @@ ghost use Rattle.constants.specs.Rate.{four};
 ghost use Rattle.run_open_checks.specs.Opening.{half, preparedOf};
 ghost use Rattle.tape_sections.specs.Sections.{sectionAt};
 ghost use Rattle.tape_head.specs.Head.{noiseThen, drawsThen, openedThen, taps, tapsS, tapsAC, settingsBytes, tapsThen, earlyOf, begins, headOf};
-use draw::Fault;
+use draw::DrawFault;
 use le_read::ReadU32;
 use run_call::State;
 use run_open_checks::Opened;
@@ -17,7 +17,7 @@ pub use tape_sections::head_length;
 
 // That nothing before the taps' values is refused, or the refusal's number.
 pub enum Early {
-    Passed,
+    Accepted,
     Refused(u64),
 }
 
@@ -34,7 +34,7 @@ fn noise_count(state: State, n: u64, tape: &[u8]) -> Beginning
 {
     match le_read::le_u32(tape, 12135 + 65 * n as usize) {
         ReadU32::Value(count) => Beginning::Run(state, n, count as u64),
-        ReadU32::Past => Beginning::Refused(11),
+        ReadU32::OutOfBounds => Beginning::Refused(11),
     }
 }
 
@@ -47,8 +47,8 @@ fn check_draws(state: State, n: u64, tape: &[u8]) -> Beginning
     let all = state.distributions;
     let end = 12135 + 65 * n as usize;
     match draw_fields::first_fault(&tape[12135..end], rates, all) {
-        Fault::Clean => noise_count(state, n, tape),
-        Fault::At(_, _) => Beginning::Refused(7),
+        DrawFault::None => noise_count(state, n, tape),
+        DrawFault::At(_, _) => Beginning::Refused(7),
     }
 }
 
@@ -103,7 +103,7 @@ fn taps_section(tape: &[u8]) -> Early
     ensures { λ r. ⌜ r ≡ tapsThen (sectionAt (now (tape .entry)) 123 3001 3001 4) ⌝ }
 {
     match tape_sections::section(tape, 123, 3001, 3001, 4) {
-        Counted::Of(_) => Early::Passed,
+        Counted::Of(_) => Early::Accepted,
         Counted::Wrong => Early::Refused(11),
     }
 }

@@ -13,17 +13,17 @@ abbrev pub mostDraws : ℕ
 mostDraws = 400
 
 -- where the counts stand: that of the settings at 0, 119 bytes behind it that of the taps, and so on
-abbrev pub tapsPlace : ℕ
-tapsPlace = 4 + 119
+abbrev pub tapsOffset : ℕ
+tapsOffset = 4 + 119
 
 abbrev pub tapsCount : ℕ → ℕ
 tapsCount sps = modeSTaps sps + modeACTaps sps
 
-abbrev pub drawsPlace : ℕ → ℕ
-drawsPlace sps = tapsPlace + 4 + 4 * tapsCount sps
+abbrev pub drawsOffset : ℕ → ℕ
+drawsOffset sps = tapsOffset + 4 + 4 * tapsCount sps
 
-abbrev pub noisePlace : ℕ → ℕ → ℕ
-noisePlace sps n = drawsPlace sps + 4 + 65 * n
+abbrev pub noiseOffset : ℕ → ℕ → ℕ
+noiseOffset sps n = drawsOffset sps + 4 + 65 * n
 
 -- a count n at a place, and so many values of a size behind it
 unfoldable pub countThen : List ℕ → ℕ → ℕ → ℕ → ℕ → ℕ → Counted.Counted
@@ -35,8 +35,8 @@ sectionAt tape at least most size = readAt 4 (countThen tape at least most size)
 
 -- how many bytes of a tape stand before its noise, as the first 12,135 say
 unfoldable pub lengthThen : ℕ → Counted.Counted → ℕ
-lengthThen sps (Counted.the-variants.Of n) = drawsPlace sps + 8 + 65 * n
-lengthThen sps Counted.the-variants.Wrong = drawsPlace sps + 4
+lengthThen sps (Counted.the-variants.Of n) = drawsOffset sps + 8 + 65 * n
+lengthThen sps Counted.the-variants.Wrong = drawsOffset sps + 4
 
 unfoldable pub headLength : ℕ → List ℕ → ℕ
-headLength sps tape = lengthThen sps (sectionAt tape (drawsPlace sps) 0 mostDraws 0)
+headLength sps tape = lengthThen sps (sectionAt tape (drawsOffset sps) 0 mostDraws 0)

@@ -11,19 +11,19 @@ use lib.Seq.{take-all, take-take, drop-drop, length-take-le}
 use borrow.Author.Tests.{eq-eqb, ne-eqb, leb-true, leb-false}
 use Rattle.io.specs.Counts.{Counts}
 use Rattle.io.specs.Digits.{digits, Fewest}
-use Rattle.le_read.specs.LeBytes.{leAt, numberAt, laid}
+use Rattle.le_read.specs.LeBytes.{leAt, numberAt, overwritten}
 use Rattle.settings.proofs.Inside.{number-there}
-use Rattle.reply_record.proofs.Laid.{none-laid}
+use Rattle.reply_record.proofs.Overwritten.{none-overwritten}
 use Rattle.tape_text.specs.Text.{decimal, number, hex, hexLine, messageOf, lineOf, linesOf, header, samplesWord, refusedWord, runText, refusedText, Put}
 use Rattle.tape_text.proofs.Puts.{then-put, put-length, length-hex}
 use Rattle.tape_text.proofs.Decimal.{length-digits, decimal-fewest, few-digits}
 
 -- one byte behind
-byte-put : {xs s d e : List ℕ} {at a b : ℕ} (x : ℕ) → at + length xs ≤ length s → Put xs s at d a → e ≡ laid d a (x ∷ []) → b ≡ a + 1 → Put (xs ++ (x ∷ [])) s at e b
+byte-put : {xs s d e : List ℕ} {at a b : ℕ} (x : ℕ) → at + length xs ≤ length s → Put xs s at d a → e ≡ overwritten d a (x ∷ []) → b ≡ a + 1 → Put (xs ++ (x ∷ [])) s at e b
 byte-put x h p q r = then-put h p (record { held = q; ends = r })
 
 -- the digits that `io::decimal` found, and a byte behind them
-pub number-put : (n after k : ℕ) (ds : List ℕ) {s d e : List ℕ} {at a b : ℕ} → n < 2 ^ 64 → Fewest 10 1 n k → ds ≡ digits 10 k n → at + 21 ≤ length s → Put ds s at d a → e ≡ laid d a (after ∷ []) → b ≡ a + 1
+pub number-put : (n after k : ℕ) (ds : List ℕ) {s d e : List ℕ} {at a b : ℕ} → n < 2 ^ 64 → Fewest 10 1 n k → ds ≡ digits 10 k n → at + 21 ≤ length s → Put ds s at d a → e ≡ overwritten d a (after ∷ []) → b ≡ a + 1
     → Put (number n after) s at e b × (b ≤ at + 21)
 unfolding number
 number-put n after k ds {s} {d} {e} {at} {a} {b} h f q r p t z =
@@ -32,7 +32,7 @@ number-put n after k ds {s} {d} {e} {at} {a} {b} h f q r p t z =
     let l : length (decimal n) ≤ 20 = omega (arith, ap length (decimal-fewest k n f), length-digits k n, few-digits n k h f) in
     (byte-put after (omega arith) p′ t z, omega (arith, p′ .ends))
 
-pub hex-line-put : (b : List ℕ) (n : ℕ) {s d e : List ℕ} {at r : ℕ} → n ≤ length b → at + 2 * n < length s → d ≡ laid s at (hex (take n b)) → e ≡ laid d (at + 2 * n) (10 ∷ []) → r ≡ at + 2 * n + 1 → Put (hexLine (take n b)) s at e r
+pub hex-line-put : (b : List ℕ) (n : ℕ) {s d e : List ℕ} {at r : ℕ} → n ≤ length b → at + 2 * n < length s → d ≡ overwritten s at (hex (take n b)) → e ≡ overwritten d (at + 2 * n) (10 ∷ []) → r ≡ at + 2 * n + 1 → Put (hexLine (take n b)) s at e r
 unfolding hexLine
 hex-line-put b n {s} {d} {e} {at} {r} h g p q z =
     let l : length (hex (take n b)) ≡ 2 * n = length-hex (take n b) ∙ ap (λ (k : ℕ). 2 * k) (length-take-le n b h) in
@@ -105,7 +105,7 @@ pub record Going (records : List ℕ) (n : ℕ) (s : List ℕ) (at : ℕ) (out r
 module _ (records : List ℕ) (n : ℕ) (s : List ℕ) (at : ℕ) where
   pub first : 66 * n ≤ length records → Going records n s at s records at 0
   unfolding linesOf
-  first h = record { count = omega arith; same = refl; left = refl; room = omega arith; text = record { held = none-laid s at; ends = omega arith }; bound = omega arith }
+  first h = record { count = omega arith; same = refl; left = refl; room = omega arith; text = record { held = none-overwritten s at; ends = omega arith }; bound = omega arith }
 
   pub next-line : (out rest : List ℕ) (end k : ℕ) {out′ : List ℕ} {end′ : ℕ} → k < n → at + 92 * n ≤ length s → Going records n s at out rest end k → Put (lineOf rest) out end out′ end′ × (end′ ≤ end + 92)
       → Going records n s at out′ (take (length rest - 66) (drop 66 rest)) end′ (k + 1)
@@ -136,7 +136,7 @@ module _ (records : List ℕ) (n : ℕ) (s : List ℕ) (at : ℕ) where
 
 -- text put at the start of a buffer
 abbrev pub Whole : List ℕ → List ℕ → List ℕ → ℕ → Type 0
-Whole text s d r = ((r ≡ length text) × (d ≡ laid s 0 text)) × Counts r d
+Whole text s d r = ((r ≡ length text) × (d ≡ overwritten s 0 text)) × Counts r d
 
 whole : {text s d : List ℕ} {r : ℕ} → length text ≤ length s → Put text s 0 d r → Whole text s d r
 whole {text} {s} {d} {r} h p =

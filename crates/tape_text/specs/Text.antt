@@ -5,7 +5,7 @@ use mathlib.Core.Path.{_≡_}
 use mathlib.Core.List.{List, [], _∷_, _++_}
 use lib.Dec.{eqb, ltb}
 use lib.ListN.{length, getD, take, drop}
-use Rattle.le_read.specs.LeBytes.{leAt, laid}
+use Rattle.le_read.specs.LeBytes.{leAt, overwritten}
 
 -- a number in decimal, with k digits at most
 unfoldable pub digitsOf : ℕ → ℕ → List ℕ
@@ -67,5 +67,5 @@ refusedText n = refusedWord ++ number n 10
 
 -- text put at a place of a buffer: what the buffer holds after it, and where the text ends
 pub record Put (text before : List ℕ) (at : ℕ) (after : List ℕ) (end : ℕ) : Type 0 where
-  pub held : after ≡ laid before at text
+  pub held : after ≡ overwritten before at text
   pub ends : end ≡ at + length text

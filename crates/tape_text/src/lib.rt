@@ -4,7 +4,7 @@ ghost use Prim.Native.Nat.{_+_, _*_, _/_, _≤_, _<_};
 ghost use lib.ListN.{length, getD, take};
 ghost use mathlib.Core.List.{_∷_, []};
 ghost use Rattle.io.specs.Counts.{Counts};
-ghost use Rattle.le_read.specs.LeBytes.{laid};
+ghost use Rattle.le_read.specs.LeBytes.{overwritten};
 ghost use Rattle.tape_text.specs.Text.{number, hexDigit, hex, hexLine, messageOf, lineOf, linesOf, runText, refusedText, Put};
 use constants::least;
 use le_read::wide;
@@ -47,7 +47,7 @@ fn put_number(n: u64, after: u8, out: &mut [u8], at: usize) -> usize
 // A byte in hexadecimal, put at a place.
 fn put_hex_byte(b: u8, out: &mut [u8], at: usize)
     requires { ⌜ at + 2 ≤ length (now out) ⌝ }
-    ensures { λ _. ⌜ now (out .exit) ≡ laid (now (out .entry)) at (hex (b ∷ [])) ⌝ }
+    ensures { λ _. ⌜ now (out .exit) ≡ overwritten (now (out .entry)) at (hex (b ∷ [])) ⌝ }
 {
     let high = hex_digit(b / 16);
     let low = hex_digit(b % 16);
@@ -58,7 +58,7 @@ fn put_hex_byte(b: u8, out: &mut [u8], at: usize)
 // The first n bytes of a list in hexadecimal, put at a place.
 fn put_hex(bytes: &[u8], n: usize, out: &mut [u8], at: usize)
     requires { ⌜ (n ≤ length (now bytes)) × (at + 2 * n ≤ length (now out)) ⌝ }
-    ensures { λ _. ⌜ now (out .exit) ≡ laid (now (out .entry)) at (hex (take n (now (bytes .entry)))) ⌝ }
+    ensures { λ _. ⌜ now (out .exit) ≡ overwritten (now (out .entry)) at (hex (take n (now (bytes .entry)))) ⌝ }
 {
     let mut k: usize = 0;
     while k < n {
@@ -119,7 +119,7 @@ fn put_lines(records: &[u8], n: usize, out: &mut [u8], at: usize) -> usize
 
 // What is printed of a run with its records, so many of them; its length.
 pub fn run_text(records: &[u8], count: usize, samples: u64, out: &mut [u8; 40960]) -> usize
-    ensures { λ r. ⌜ (r ≡ length (runText (now (records .entry)) count samples)) × (now (out .exit) ≡ laid (now (out .entry)) 0 (runText (now (records .entry)) count samples)) ⌝ }
+    ensures { λ r. ⌜ (r ≡ length (runText (now (records .entry)) count samples)) × (now (out .exit) ≡ overwritten (now (out .entry)) 0 (runText (now (records .entry)) count samples)) ⌝ }
     ensures { λ r. ⌜ Counts r (now (out .exit)) ⌝ }
 {
     let n = least(count, least(records.len() / 66, 400));
@@ -131,7 +131,7 @@ pub fn run_text(records: &[u8], count: usize, samples: u64, out: &mut [u8; 40960
 
 // What is printed of a refusal with its number; its length.
 pub fn refused_text(refusal: u64, out: &mut [u8; 40960]) -> usize
-    ensures { λ r. ⌜ (r ≡ length (refusedText refusal)) × (now (out .exit) ≡ laid (now (out .entry)) 0 (refusedText refusal)) ⌝ }
+    ensures { λ r. ⌜ (r ≡ length (refusedText refusal)) × (now (out .exit) ≡ overwritten (now (out .entry)) 0 (refusedText refusal)) ⌝ }
     ensures { λ r. ⌜ Counts r (now (out .exit)) ⌝ }
 {
     let a = put_bytes(b"refused ", out, 0);

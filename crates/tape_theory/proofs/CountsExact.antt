@@ -10,10 +10,10 @@ use lib.ListN.{length, drop, length-drop}
 use lib.Ieee.{Float, nan}
 use Rattle.run_theory.specs.Generator.{Generator}
 use Rattle.run_theory.specs.PlainRun.{Kind, ignored, ends, reply}
-use Rattle.run_theory.specs.PlainBench.{Lent, Step, halt, drain, due, taking, drawsOf}
+use Rattle.run_theory.specs.PlainBench.{Remaining, Step, halt, drain, due, taking, drawsOf}
 use Rattle.run_theory.specs.PlainBench as Bench
 use Rattle.run_call_model.specs.Machine as Machine
-use Rattle.run_call_model.specs.Turns as Theory
+use Rattle.run_call_model.specs.Progress as Theory
 use Rattle.run_theory.proofs.StepFacts.{Says, step-says}
 use Rattle.run_call_model.proofs.FlatLists.{length-draws}
 use Rattle.run_call.specs.declared.State.{State}
@@ -30,7 +30,7 @@ use Rattle.tape_theory.specs.Fed.{Held, begun, Chunk, lend, keep, fedAll
 module _ (G : Generator) (o : G .Value) where
   open Generator G using (Draw, Time, after)
 
-  Fewer : Lent G → Machine.Ran G o → Type 0
+  Fewer : Remaining G → Machine.Ran G o → Type 0
   Fewer l r = length (r .records) + length (r .rest .draws) ≤ length (l .draws)
 
   noted-fewer : (t : Time) (d : Draw) (k : Kind) (r : Machine.Ran G o)
@@ -39,16 +39,16 @@ module _ (G : Generator) (o : G .Value) where
   noted-fewer t d ends r = omega arith
   noted-fewer t d (reply s) r = omega arith
 
-  on-fewer : (go : Machine.State G o → Lent G → Machine.Ran G o) → ((z : Machine.State G o) (l : Lent G) → Fewer l (go z l)) → (z : Machine.State G o) (l : Lent G) (c : Step G) → Says G (z .over) (z .written) (z .time) l c
+  on-fewer : (go : Machine.State G o → Remaining G → Machine.Ran G o) → ((z : Machine.State G o) (l : Remaining G) → Fewer l (go z l)) → (z : Machine.State G o) (l : Remaining G) (c : Step G) → Says G (z .over) (z .written) (z .time) l c
       → Fewer l (Machine.machineOn G o go z l c)
   unfolding Fewer
   on-fewer go ih z l (halt s) f = omega arith
-  on-fewer go ih z l (drain v l′) f = omega (arith, ih (Machine.wrote G o z (z .mark)) l′, ap length (f .draws))
-  on-fewer go ih z l (due t v l′) f = omega (arith, ih (Machine.wrote G o z (Machine.later G (z .mark) t)) l′, ap length (f .draws))
+  on-fewer go ih z l (drain v l′) f = omega (arith, ih (Machine.stateAfterSample G o z (z .mark)) l′, ap length (f .draws))
+  on-fewer go ih z l (due t v l′) f = omega (arith, ih (Machine.stateAfterSample G o z (Machine.later G (z .mark) t)) l′, ap length (f .draws))
   on-fewer go ih z l (taking d k l′) f =
-      omega (arith, noted-fewer (after (z .time) d) d k (go (Machine.took G o z d k) l′), ih (Machine.took G o z d k) l′, ap length (f .draws))
+      omega (arith, noted-fewer (after (z .time) d) d k (go (Machine.stateAfterDraw G o z d k) l′), ih (Machine.stateAfterDraw G o z d k) l′, ap length (f .draws))
 
-  steps-fewer : (f : ℕ) (z : Machine.State G o) (l : Lent G) → Fewer l (Machine.machineSteps G o f z l)
+  steps-fewer : (f : ℕ) (z : Machine.State G o) (l : Remaining G) → Fewer l (Machine.machineSteps G o f z l)
   unfolding Fewer
   steps-fewer zero z l = omega arith
   steps-fewer (suc f) z l =
@@ -69,8 +69,8 @@ module _ (s : State) (modeS modeAC memory : List Float) (draws : List ℕ) (nois
   abbrev z : Machine.State G nan
   z = record { memory = memory; written = s .written; time = s .time; over = s .ended; mark = s .latest }
 
-  abbrev t : Theory.Turn G nan
-  t = Theory.firstTurn G nan z (record { draws = draws; noise = noise; output = output; records = records })
+  abbrev t : Theory.Progress G nan
+  t = Theory.initialProgress G nan z (record { draws = draws; noise = noise; output = output; records = records })
 
   abbrev ended : Machine.Ran G nan
   ended = Theory.allSteps G nan z (Theory.leftOf G nan noise t)

@@ -11,7 +11,7 @@ use lib.Seq.{take-all, take-at}
 use borrow.Author.Tests.{leb-true, leb-false, ltb-true, le-leb, lt-leb}
 use Rattle.run_theory.specs.Generator.{Generator, NoisePair}
 use Rattle.run_theory.specs.PlainRun.{Kind, ignored, ends, reply, Reply, kind, timeOf, ended, replies, samplesFrom, plainSamples, plainRecords}
-use Rattle.run_theory.specs.PlainBench.{Stop, done, outputFull, wantsNoise, wantsDraws, recordsFull, Lent, Step, halt, drain, due, taking, write, step5, step4, dueBy, step1, latest, Bench, Benched, benchStep, benchOn, benchSteps, fuel}
+use Rattle.run_theory.specs.PlainBench.{Stop, done, outputFull, wantsNoise, wantsDraws, recordsFull, Remaining, Step, halt, drain, due, taking, write, step5, step4, dueBy, step1, latest, Bench, Benched, benchStep, benchOn, benchSteps, fuel}
 use Rattle.run_theory.specs.Laws.{Laws, Accepted}
 use Rattle.run_theory.proofs.ListClaim.{isDone}
 use Rattle.run_theory.proofs.PlainFacts.{ended-still, replies-still}
@@ -36,8 +36,8 @@ module _ (G : Generator) (L : Laws G) where
   Halts e w ds vs (due t v l) = Unit {0}
   Halts e w ds vs (taking d k l) = Unit {0}
 
-  write-halts : (e : Bool) (w : ℕ) (ds : List Draw) (vs : List (NoisePair G)) (room slots : ℕ) (f : NoisePair G → Lent G → Step G)
-      → ((us : List (NoisePair G)) (v : NoisePair G) (l : Lent G) → Halts e w ds us (f v l)) → w < total → length vs < room → Halts e w ds vs (write G f ds vs room slots)
+  write-halts : (e : Bool) (w : ℕ) (ds : List Draw) (vs : List (NoisePair G)) (room slots : ℕ) (f : NoisePair G → Remaining G → Step G)
+      → ((us : List (NoisePair G)) (v : NoisePair G) (l : Remaining G) → Halts e w ds us (f v l)) → w < total → length vs < room → Halts e w ds vs (write G f ds vs room slots)
   write-halts e w ds vs zero slots f h lt room = absurd (omega arith)
   write-halts e w ds [] (suc room) slots f h lt more = (refl, lt)
   write-halts e w ds (v ∷ vs) (suc room) slots f h lt more = h (v ∷ vs) v (record { draws = ds; noise = vs; room = room; slots = slots })
@@ -76,8 +76,8 @@ module _ (G : Generator) (L : Laws G) where
     reached : Reached G L (r .bench)
     left : Left G L (r .bench) (r .rest)
 
-  module _ (b : Bench G) (l : Lent G) (go : Bench G → Lent G → Benched G)
-      (ih : (b′ : Bench G) (l′ : Lent G) → fuel G l′ < fuel G l → length (l′ .noise) < l′ .room → length (l′ .draws) ≤ l′ .slots → Reached G L b′ → Left G L b′ l′ → Stopped (go b′ l′))
+  module _ (b : Bench G) (l : Remaining G) (go : Bench G → Remaining G → Benched G)
+      (ih : (b′ : Bench G) (l′ : Remaining G) → fuel G l′ < fuel G l → length (l′ .noise) < l′ .room → length (l′ .draws) ≤ l′ .slots → Reached G L b′ → Left G L b′ l′ → Stopped (go b′ l′))
       (more : length (l .noise) < l .room) (rows : length (l .draws) ≤ l .slots) (g : Reached G L b) (a : Left G L b l) where
     on-stops : (c : Step G) → Says G (ended G t0 (b .taken)) (length (b .used)) (timeOf G t0 (b .taken)) l c → Halts (ended G t0 (b .taken)) (length (b .used)) (l .draws) (l .noise) c → Stopped (benchOn G go b l c)
     on-stops (halt s) f h = record { why = h; reached = g; left = a }
@@ -94,7 +94,7 @@ module _ (G : Generator) (L : Laws G) where
         (omega (arith, f .room, ap length (f .draws))) (omega (arith, f .room, ap length (f .noise))) (omega (arith, f .slots, ap length (f .draws), few-slots k))
         (reached-take G L b l l′ d k g a f) (left-take G L b l l′ d k g a f)
 
-  steps-stop : (f : ℕ) (b : Bench G) (l : Lent G) → fuel G l ≤ f → length (l .noise) < l .room → length (l .draws) ≤ l .slots → Reached G L b → Left G L b l → Stopped (benchSteps G f b l)
+  steps-stop : (f : ℕ) (b : Bench G) (l : Remaining G) → fuel G l ≤ f → length (l .noise) < l .room → length (l .draws) ≤ l .slots → Reached G L b → Left G L b l → Stopped (benchSteps G f b l)
   steps-stop zero b l p more rows g a = absurd (omega arith)
   steps-stop (suc f) b l p more rows g a =
       on-stops b l (λ b′ l′. benchSteps G f b′ l′) (λ b′ l′ less. steps-stop f b′ l′ (omega arith)) more rows g a (benchStep G b l)
@@ -117,7 +117,7 @@ module _ (G : Generator) (L : Laws G) where
 
   module _ (tape : List Draw) where
     -- a call where all noise fed so far is used
-    pub fed-first : (b : Bench G) (rest : List Draw) (vs : List (NoisePair G)) (l : Lent G) (a : At tape b rest vs) → a .unused ≡ []
+    pub fed-first : (b : Bench G) (rest : List Draw) (vs : List (NoisePair G)) (l : Remaining G) (a : At tape b rest vs) → a .unused ≡ []
         → l .draws ≡ rest → length (l .noise) < l .room → length (l .draws) ≤ l .slots
         → (let r = benchSteps G (fuel G l) b l in Fed tape (r .stop) (r .bench) (r .rest .draws) (vs ++ l .noise))
     fed-first b rest vs l a none-left same more rows = record {
@@ -145,7 +145,7 @@ module _ (G : Generator) (L : Laws G) where
         s = steps-stop (fuel G l) b l (omega arith) more rows (a .reached) (subst (λ (ds : List Draw). Accepted G (timeOf G t0 (b .taken)) (b .mark) ds) (sym same) (a .accepted))
 
     -- a bench that stops at once is as it was, and more noise is unused
-    stays : (w : Stop) (b : Bench G) (rest : List Draw) (vs : List (NoisePair G)) (l : Lent G) (a : At tape b rest vs) → StopsFor (ended G t0 (b .taken)) (length (b .used)) rest (a .unused ++ l .noise) w → l .draws ≡ rest
+    stays : (w : Stop) (b : Bench G) (rest : List Draw) (vs : List (NoisePair G)) (l : Remaining G) (a : At tape b rest vs) → StopsFor (ended G t0 (b .taken)) (length (b .used)) rest (a .unused ++ l .noise) w → l .draws ≡ rest
         → benchStep G b l ≡ halt w → (let r = benchSteps G (fuel G l) b l in Fed tape (r .stop) (r .bench) (r .rest .draws) (vs ++ l .noise))
     stays w b rest vs l a why same stop =
         subst (λ (c : Step G). (let r = benchOn G (λ b′ l′. benchSteps G (length (l .draws) + l .room) b′ l′) b l c in Fed tape (r .stop) (r .bench) (r .rest .draws) (vs ++ l .noise))) (sym stop)
@@ -162,7 +162,7 @@ module _ (G : Generator) (L : Laws G) where
         }))
 
     -- a call more
-    pub fed-on : (w : Stop) (b : Bench G) (rest : List Draw) (vs : List (NoisePair G)) (l : Lent G) → Fed tape w b rest vs
+    pub fed-on : (w : Stop) (b : Bench G) (rest : List Draw) (vs : List (NoisePair G)) (l : Remaining G) → Fed tape w b rest vs
         → l .draws ≡ rest → length (l .noise) < l .room → length (l .draws) ≤ l .slots
         → (let r = benchSteps G (fuel G l) b l in Fed tape (r .stop) (r .bench) (r .rest .draws) (vs ++ l .noise))
     fed-on done b rest vs l f same more rows = stays done b rest vs l (f .at) (f .why) same (rw (f .why .0, le-leb total (length (b .used)) (f .why .1)))

@@ -1,4 +1,4 @@
--- One chunk of a tape's noise, fed to a run that stands where the machine and the plain bench do: it is refused for its noise alone (`loud`), and else the run stands where they do after the call (`quiet`).
+-- One chunk of a tape's noise, fed to a run that stands where the machine and the plain bench do: it is refused for its noise alone (`outOfRange`), and else the run stands where they do after the call (`quiet`).
 -- So what holds at the end, over a chunk and at a refusal holds of any chunks from what opening leaves (`all-fed`).
 use Prim.Native.Nat.{ℕ, zero, suc, _+_, _-_, _*_, _/_, _%_, _^_, _≤_, _<_}
 use mathlib.Core.Bool.{Bool, true, false, cond, _||_}
@@ -15,7 +15,7 @@ use lib.Ieee.{Float, nan}
 use Rattle.run_theory.specs.Generator.{Generator, NoisePair}
 use Rattle.run_theory.specs.PlainRun.{Kind, ignored, ends, reply, Reply, kind, timeOf, push, replies, plainSamples, plainRecords}
 use Rattle.run_theory.specs.PlainBench as Bench
-use Rattle.run_theory.specs.PlainBench.{pairs, flatten, join, over, drawsOf, firstLoud, Lent, lentOf, Bench, bench0, Benched, benchSteps, fuel}
+use Rattle.run_theory.specs.PlainBench.{pairs, flatten, join, over, drawsOf, firstOutOfRange, Remaining, remainingOf, Bench, bench0, Benched, benchSteps, fuel}
 use Rattle.run_theory.specs.Laws.{Laws}
 use Rattle.run_theory.specs.Demand3.{plainLines, plainOutput}
 use Rattle.run_call_model.specs.Machine as Machine
@@ -30,10 +30,10 @@ use Rattle.run_call.specs.declared.Answer as Answer
 use Rattle.run_call.specs.StateGenerator.{genOf}
 use Rattle.run_call.specs.Given.{stopGiven, refusalGiven}
 use Rattle.run_call.specs.MachineModel.{stateOf, ranGiven, leftGiven}
-use Rattle.run_call.proofs.RunIsTheTheorys.{run-is}
+use Rattle.run_call.proofs.RunIsTheModels.{run-is}
 use Rattle.tape_feed.specs.FeedModel.{Fed, feedAfter, fedAfter, calledOf, fedThen, fedOf}
 use Rattle.tape_theory.specs.Fed.{Held, Chunk, lend, keep}
-use Rattle.tape_theory.specs.PlainTape.{loudIn, Roomy, Cut, noiseIn}
+use Rattle.tape_theory.specs.PlainTape.{outOfRangeIn, Roomy, Cut, noiseIn}
 use Rattle.tape_theory.proofs.FedBench as Stream
 
 -- ---- lists
@@ -51,7 +51,7 @@ module _ {X : Type 0} where
 -- ---- noise
 -- what a chunk's refusal says of its noise
 module _ (G : Generator) where
-  open Generator G using (Value, loud)
+  open Generator G using (Value, outOfRange)
 
   abbrev pub Reads : Option Bench.Refusal → Bool → Type 0
   Reads none b = b ≡ false
@@ -59,19 +59,19 @@ module _ (G : Generator) where
   Reads (some (Bench.wrongDraw d f)) b = ⊥
   Reads (some (Bench.wrongNoise p)) b = b ≡ true
 
-  pub loud-read : (j : ℕ) (vs : List Value) → Reads (firstLoud G j vs) (loudIn G vs)
-  unfolding loudIn
-  loud-read j [] = refl
-  loud-read j (v ∷ vs) = go (loud v) (loud-read (suc j) vs)
+  pub out-of-range-read : (j : ℕ) (vs : List Value) → Reads (firstOutOfRange G j vs) (outOfRangeIn G vs)
+  unfolding outOfRangeIn
+  out-of-range-read j [] = refl
+  out-of-range-read j (v ∷ vs) = go (outOfRange v) (out-of-range-read (suc j) vs)
     where
-      go : (b : Bool) → Reads (firstLoud G (suc j) vs) (loudIn G vs) → Reads (cond b (some (Bench.wrongNoise j)) (firstLoud G (suc j) vs)) (b || loudIn G vs)
+      go : (b : Bool) → Reads (firstOutOfRange G (suc j) vs) (outOfRangeIn G vs) → Reads (cond b (some (Bench.wrongNoise j)) (firstOutOfRange G (suc j) vs)) (b || outOfRangeIn G vs)
       go true h = refl
       go false h = h
 
-  pub loud-append : (xs ys : List Value) → loudIn G (xs ++ ys) ≡ (loudIn G xs || loudIn G ys)
-  unfolding loudIn
-  loud-append [] ys = refl
-  loud-append (x ∷ xs) ys = ap (λ (b : Bool). loud x || b) (loud-append xs ys) ∙ or-assoc (loud x) (loudIn G xs) (loudIn G ys)
+  pub out-of-range-append : (xs ys : List Value) → outOfRangeIn G (xs ++ ys) ≡ (outOfRangeIn G xs || outOfRangeIn G ys)
+  unfolding outOfRangeIn
+  out-of-range-append [] ys = refl
+  out-of-range-append (x ∷ xs) ys = ap (λ (b : Bool). outOfRange x || b) (out-of-range-append xs ys) ∙ or-assoc (outOfRange x) (outOfRangeIn G xs) (outOfRangeIn G ys)
     where
       or-assoc : (a b c : Bool) → (a || (b || c)) ≡ ((a || b) || c)
       or-assoc true b c = refl
@@ -163,8 +163,8 @@ module _ (T : Tape) where
     abbrev call : Bench.Call G
     call = record { draws = drop (65 * k) draws; noise = c .noise; output = c .output; records = drop (66 * r) (over (plainLines G (b .taken)) room) }
 
-    abbrev lent : Lent G
-    lent = lentOf G call
+    abbrev lent : Remaining G
+    lent = remainingOf G call
 
     in-tape : k + length (from k) ≡ length draws / 65
     in-tape = sym (length-append (b .taken) (from k)) ∙ ap length (at .draws) ∙ length-draws G draws
@@ -191,14 +191,14 @@ module _ (T : Tape) where
         whole-draws : eqb (length (drop (65 * k) draws) % 65) 0 ≡ true
         whole-draws = eq-eqb (length (drop (65 * k) draws) % 65) 0 (omega (arith, length-drop (65 * k) draws, whole))
 
-    refused-for : Bench.refusalOf G (z .time) (some (z .mark)) call ≡ firstLoud G 0 (c .noise)
+    refused-for : Bench.refusalOf G (z .time) (some (z .mark)) call ≡ firstOutOfRange G 0 (c .noise)
     refused-for =
         ap (λ (t : G .Time). Bench.refusalOf G t (some (z .mark)) call) (h .time)
         ∙ refusal-alike G laws (timeOf G (G .t0) (b .taken)) (b .mark) (z .mark) call (at .reached .good) (h .mark)
-        ∙ (λ i. cond (lengths-right i) (some Bench.wrongLength) (Bench.orElse G (accepted-if G (timeOf G (G .t0) (b .taken)) (b .mark) (from k) (at .accepted) i) (firstLoud G 0 (c .noise))))
+        ∙ (λ i. cond (lengths-right i) (some Bench.wrongLength) (Bench.orElse G (accepted-if G (timeOf G (G .t0) (b .taken)) (b .mark) (from k) (at .accepted) i) (firstOutOfRange G 0 (c .noise))))
 
     -- a chunk is a call of the machine
-    fed-once : (x : Option Bench.Refusal) → firstLoud G 0 (c .noise) ≡ x
+    fed-once : (x : Option Bench.Refusal) → firstOutOfRange G 0 (c .noise) ≡ x
         → fedOf modeS modeAC draws (c .noise) (lend c (standing z b w))
         ≡ fedAfter (standing z b w .feed) (standing z b w .records) (leftGiven state modeS modeAC (Bench.resultOf G call (Machine.machineCall G nan z call x .0)) (Machine.machineCall G nan z call x .1))
     unfolding fedOf fedThen calledOf lend leftGiven ranGiven
@@ -215,11 +215,11 @@ module _ (T : Tape) where
       records = over (plainLines G (b .taken)) room;
     }
 
-    pub loud : (p : ℕ) → firstLoud G 0 (c .noise) ≡ some (Bench.wrongNoise p)
+    pub outOfRange : (p : ℕ) → firstOutOfRange G 0 (c .noise) ≡ some (Bench.wrongNoise p)
         → fedOf modeS modeAC draws (c .noise) (lend c (standing z b w))
         ≡ lend c (refusedAt p)
     unfolding lend fedAfter feedAfter leftGiven ranGiven
-    loud p e =
+    outOfRange p e =
         fed-once (some (Bench.wrongNoise p)) e
         ∙ (λ i. record {
           feed = record { state = stateOf state modeS modeAC z; taken = same k (omega (arith, in-tape, few)) i; records = same r (omega (arith, in-tape, few, few-records G (b .taken))) i; answer = Answer.the-variants.Refused (refusalGiven (Bench.wrongNoise p)) };
@@ -252,7 +252,7 @@ module _ (T : Tape) where
     taken-is : (k + (length (lent .draws) - length (rz .rest .draws))) % 2 ^ 64 ≡ length (rb .bench .taken)
     taken-is =
         mod-eq-of-lt (omega (arith, in-tape, few))
-        ∙ omega (arith, ap (λ (x : Lent G). length (x .draws)) (kept .rest), length-taken, in-tape, n .draws)
+        ∙ omega (arith, ap (λ (x : Remaining G). length (x .draws)) (kept .rest), length-taken, in-tape, n .draws)
 
     records-is : (r + (lent .slots - rz .rest .slots)) % 2 ^ 64 ≡ length (plainRecords G (rb .bench .taken))
     records-is = mod-eq-of-lt (omega (arith, sum, few-records G (rb .bench .taken), length-taken, few)) ∙ sum
@@ -266,7 +266,7 @@ module _ (T : Tape) where
         ∙ ap (λ (ls : List ℕ). over ls room) (sym (join-append (plainRecords G (b .taken)) (rz .records)) ∙ ap join (kept .records))
 
     -- a chunk that is not refused
-    pub quiet : firstLoud G 0 (c .noise) ≡ none → keep (fedOf modeS modeAC draws (c .noise) (lend c (standing z b w))) ≡ standing (rz .state) (rb .bench) (rb .stop)
+    pub quiet : firstOutOfRange G 0 (c .noise) ≡ none → keep (fedOf modeS modeAC draws (c .noise) (lend c (standing z b w))) ≡ standing (rz .state) (rb .bench) (rb .stop)
     unfolding keep fedAfter feedAfter leftGiven ranGiven
     quiet e =
         ap keep (fed-once none e)
@@ -277,13 +277,13 @@ module _ (T : Tape) where
         })
 
     -- the samples that it brings
-    pub sampled : firstLoud G 0 (c .noise) ≡ none → (let f = fedOf modeS modeAC draws (c .noise) (lend c (standing z b w)) in take (2 * (f .feed .state .written - z .written)) (f .output)) ≡ flatten (rz .samples)
+    pub sampled : firstOutOfRange G 0 (c .noise) ≡ none → (let f = fedOf modeS modeAC draws (c .noise) (lend c (standing z b w)) in take (2 * (f .feed .state .written - z .written)) (f .output)) ≡ flatten (rz .samples)
     unfolding fedAfter feedAfter leftGiven ranGiven
     sampled e =
         ap (λ (f : Fed). take (2 * (f .feed .state .written - z .written)) (f .output)) (fed-once none e)
         ∙ take-over (2 * (rz .state .written - z .written)) (flatten (rz .samples)) (c .output)
         (length-flatten (rz .samples)
-        ∙ omega (arith, kept .matches .written, h .written, ap length (m .used), length-append (b .used) (m .us), ap length (m .noise), length-append (m .us) (rb .rest .noise), n .noise, ap (λ (x : Lent G). length (x .noise)) (kept .rest)))
+        ∙ omega (arith, kept .matches .written, h .written, ap length (m .used), length-append (b .used) (m .us), ap length (m .noise), length-append (m .us) (rb .rest .noise), n .noise, ap (λ (x : Remaining G). length (x .noise)) (kept .rest)))
 
     pub sampled-on : plainOutput G (b .taken) (b .used) ++ flatten (rz .samples) ≡ plainOutput G (rb .bench .taken) (rb .bench .used)
     sampled-on = sym (flatten-append (plainSamples G (b .taken) (b .used)) (rz .samples)) ∙ ap flatten (kept .samples)
@@ -317,25 +317,25 @@ module _ (T : Tape) where
   -- P holds of a run that stands so, was fed vs, and is then fed these chunks: it does where it holds with none left, over a chunk that is not refused if of the rest, and before a refused one
   module _ (P : Machine.State G nan → Bench G → Bench.Stop → List (NoisePair G) → List Chunk → Type 0)
       (at-end : (z : Machine.State G nan) (b : Bench G) (w : Bench.Stop) (vs : List (NoisePair G)) → Matches G laws nan b z → Stream.Fed G laws tape w b (from (length (b .taken))) vs → P z b w vs [])
-      (on-quiet : (z : Machine.State G nan) (b : Bench G) (w : Bench.Stop) (c : Chunk) (cs : List Chunk) (vs : List (NoisePair G)) (h : Matches G laws nan b z) (roomy : Roomy c) (at : Stream.At G laws tape b (from (length (b .taken))) vs)
-      → pairs (noiseIn (c ∷ cs)) ≡ pairs (c .noise) ++ pairs (noiseIn cs) → firstLoud G 0 (c .noise) ≡ none
+      (on-in-range : (z : Machine.State G nan) (b : Bench G) (w : Bench.Stop) (c : Chunk) (cs : List Chunk) (vs : List (NoisePair G)) (h : Matches G laws nan b z) (roomy : Roomy c) (at : Stream.At G laws tape b (from (length (b .taken))) vs)
+      → pairs (noiseIn (c ∷ cs)) ≡ pairs (c .noise) ++ pairs (noiseIn cs) → firstOutOfRange G 0 (c .noise) ≡ none
       → P (rz z b w c vs h roomy at .state) (rb z b w c vs h roomy at .bench) (rb z b w c vs h roomy at .stop) (vs ++ pairs (c .noise)) cs → P z b w vs (c ∷ cs))
-      (on-loud : (z : Machine.State G nan) (b : Bench G) (w : Bench.Stop) (c : Chunk) (cs : List Chunk) (vs : List (NoisePair G)) (h : Matches G laws nan b z) (roomy : Roomy c) (at : Stream.At G laws tape b (from (length (b .taken))) vs)
-      → (p : ℕ) → firstLoud G 0 (c .noise) ≡ some (Bench.wrongNoise p) → P z b w vs (c ∷ cs)) where
+      (on-out-of-range : (z : Machine.State G nan) (b : Bench G) (w : Bench.Stop) (c : Chunk) (cs : List Chunk) (vs : List (NoisePair G)) (h : Matches G laws nan b z) (roomy : Roomy c) (at : Stream.At G laws tape b (from (length (b .taken))) vs)
+      → (p : ℕ) → firstOutOfRange G 0 (c .noise) ≡ some (Bench.wrongNoise p) → P z b w vs (c ∷ cs)) where
     abbrev Goes : List Chunk → Type 0
     Goes cs = (z : Machine.State G nan) (b : Bench G) (w : Bench.Stop) (vs : List (NoisePair G)) → Matches G laws nan b z → Stream.Fed G laws tape w b (from (length (b .taken))) vs → P z b w vs cs
 
     one-chunk : (c : Chunk) (cs : List Chunk) → Goes cs → Cut (c ∷ cs) → (z : Machine.State G nan) (b : Bench G) (w : Bench.Stop) (vs : List (NoisePair G)) (h : Matches G laws nan b z) (roomy : Roomy c) (at : Stream.At G laws tape b (from (length (b .taken))) vs)
         → After z b w c vs h roomy at → P z b w vs (c ∷ cs)
-    one-chunk c cs later cut z b w vs h roomy at after = go (firstLoud G 0 (c .noise)) refl (loud-read G 0 (c .noise))
+    one-chunk c cs later cut z b w vs h roomy at after = go (firstOutOfRange G 0 (c .noise)) refl (out-of-range-read G 0 (c .noise))
       where
-        go : (x : Option Bench.Refusal) → firstLoud G 0 (c .noise) ≡ x → Reads G x (loudIn G (c .noise)) → P z b w vs (c ∷ cs)
+        go : (x : Option Bench.Refusal) → firstOutOfRange G 0 (c .noise) ≡ x → Reads G x (outOfRangeIn G (c .noise)) → P z b w vs (c ∷ cs)
         go none e q =
-            on-quiet z b w c cs vs h roomy at (cut-on c cs cut .2) e
+            on-in-range z b w c cs vs h roomy at (cut-on c cs cut .2) e
             (later (rz z b w c vs h roomy at .state) (rb z b w c vs h roomy at .bench) (rb z b w c vs h roomy at .stop) (vs ++ pairs (c .noise)) (kept z b w c vs h roomy at .matches) (after-from z b w c vs h roomy at after))
         go (some Bench.wrongLength) e q = absurd q
         go (some (Bench.wrongDraw d f)) e q = absurd q
-        go (some (Bench.wrongNoise p)) e q = on-loud z b w c cs vs h roomy at p e
+        go (some (Bench.wrongNoise p)) e q = on-out-of-range z b w c cs vs h roomy at p e
 
     rest-fed : (cs : List Chunk) → Cut cs → Goes cs
     rest-fed [] cut z b w vs h f = at-end z b w vs h f

@@ -41,7 +41,7 @@ module _ (modeS modeAC : List Float) (draws : List ℕ) where
       ∙ fed-all cs (leftFor modeS modeAC draws d c .ran .answer) (heldAfter modeS modeAC draws d (leftFor modeS modeAC draws d c)) refl
 
 -- an opened run, fed in any chunks: what is seen of its calls is the plain bench's
-module _ (tapsS tapsAC : List Float) (settings : List ℕ) (given : Opening.Lent) (r : Run) (o : Opens tapsS tapsAC settings given r) (draws records : List ℕ) where
+module _ (tapsS tapsAC : List Float) (settings : List ℕ) (given : Opening.OpenBuffers) (r : Run) (o : Opens tapsS tapsAC settings given r) (draws records : List ℕ) where
   -- the run that nothing has been fed
   abbrev pub started : Held
   started = begun (r .state) (r .buffers .memory) records

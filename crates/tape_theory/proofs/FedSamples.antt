@@ -10,7 +10,7 @@ use lib.Ieee.{Float, nan}
 use Rattle.run_theory.specs.Generator.{NoisePair}
 use Rattle.run_theory.specs.PlainRun.{samplesFrom}
 use Rattle.run_theory.specs.PlainBench as Bench
-use Rattle.run_theory.specs.PlainBench.{pairs, flatten, firstLoud, Bench, bench0}
+use Rattle.run_theory.specs.PlainBench.{pairs, flatten, firstOutOfRange, Bench, bench0}
 use Rattle.run_theory.specs.Demand3.{Prefix, plainOutput}
 use Rattle.run_call_model.specs.Machine as Machine
 use Rattle.run_call_model.proofs.InStep.{Matches}
@@ -24,7 +24,7 @@ use Rattle.tape_theory.specs.Fed.{Held, Chunk, lend, keep, fedAll, sampl
 use Rattle.tape_theory.specs.PlainTape.{Roomy, Cut, noiseIn}
 use Rattle.tape_theory.proofs.FedIsRun.{refused-stays}
 use Rattle.tape_theory.proofs.FedBench as Stream
-use Rattle.tape_theory.proofs.FedCall.{Tape, G, tape, from, standing, rb, rz, refusedAt, loud, quiet, sampled, sampled-on, all-fed}
+use Rattle.tape_theory.proofs.FedCall.{Tape, G, tape, from, standing, rb, rz, refusedAt, outOfRange, quiet, sampled, sampled-on, all-fed}
 
 -- once refused, a run brings no samples
 refused-silent : (modeS modeAC : List Float) (draws : List ℕ) (cs : List Chunk) (q : Refusal.Refusal) (d : Held) → d .feed .answer ≡ Answer.the-variants.Refused q → samplesFed modeS modeAC draws d cs ≡ []
@@ -68,10 +68,10 @@ module _ (T : Tape) where
       by Bench.recordsFull f e = absurd (f .why)
 
   module _ (z : Machine.State (G T) nan) (b : Bench (G T)) (w : Bench.Stop) (c : Chunk) (cs : List Chunk) (vs : List (NoisePair (G T))) (h : Matches (G T) laws nan b z) (roomy : Roomy c) (at : Stream.At (G T) laws (tape T) b (from T (length (b .taken))) vs) where
-    on-quiet : pairs (noiseIn (c ∷ cs)) ≡ pairs (c .noise) ++ pairs (noiseIn cs) → firstLoud (G T) 0 (c .noise) ≡ none
+    on-in-range : pairs (noiseIn (c ∷ cs)) ≡ pairs (c .noise) ++ pairs (noiseIn cs) → firstOutOfRange (G T) 0 (c .noise) ≡ none
         → Gives (rz T z b w c vs h roomy at .state) (rb T z b w c vs h roomy at .bench) (rb T z b w c vs h roomy at .stop) (vs ++ pairs (c .noise)) cs → Gives z b w vs (c ∷ cs)
     unfolding samplesFed fedAll
-    on-quiet split e later = record {
+    on-in-range split e later = record {
       first = subst (λ (xs : List Float). Prefix xs (plainOutput (G T) (tape T) (vs ++ pairs (noiseIn (c ∷ cs))))) (sym given) (subst (λ (us : List (NoisePair (G T))). Prefix next (plainOutput (G T) (tape T) us)) (sym fed-is) (later .first));
       all = λ q. given ∙ later .all (sym (ap (λ (f : Held). fedAll modeS modeAC draws f cs .feed .answer) (quiet T z b w c vs h roomy at e)) ∙ q) ∙ ap (plainOutput (G T) (tape T)) (sym fed-is);
     }
@@ -91,21 +91,21 @@ module _ (T : Tape) where
             ∙ sym (append-assoc (plainOutput (G T) (b .taken) (b .used)) (flatten (rz T z b w c vs h roomy at .samples)) (samplesFed modeS modeAC draws after cs))
             ∙ ap (λ (xs : List Float). xs ++ samplesFed modeS modeAC draws after cs) (sampled-on T z b w c vs h roomy at)
 
-    on-loud : (p : ℕ) → firstLoud (G T) 0 (c .noise) ≡ some (Bench.wrongNoise p) → Gives z b w vs (c ∷ cs)
+    on-out-of-range : (p : ℕ) → firstOutOfRange (G T) 0 (c .noise) ≡ some (Bench.wrongNoise p) → Gives z b w vs (c ∷ cs)
     unfolding samplesFed fedAll keep lend
-    on-loud p e = record {
+    on-out-of-range p e = record {
       first = subst (λ (xs : List Float). Prefix xs (plainOutput (G T) (tape T) (vs ++ pairs (noiseIn (c ∷ cs))))) (sym silent) (written-first b (from T (length (b .taken))) vs (pairs (noiseIn (c ∷ cs))) at);
       all = λ q. let x : _≡_ {A = Answer.Answer} (Answer.the-variants.Refused (refusalGiven (Bench.wrongNoise p))) (Answer.the-variants.Stopped Stop.the-variants.Done) = sym answer ∙ q in let y : _≡_ {A = ℕ} 0 1 = cc in absurd (omega arith);
     }
       where
         answer : fedAll modeS modeAC draws (standing T z b w) (c ∷ cs) .feed .answer ≡ Answer.the-variants.Refused (refusalGiven (Bench.wrongNoise p))
         answer =
-            ap (λ (f : Fed). fedAll modeS modeAC draws (keep f) cs .feed .answer) (loud T z b w c vs h roomy at p e)
+            ap (λ (f : Fed). fedAll modeS modeAC draws (keep f) cs .feed .answer) (outOfRange T z b w c vs h roomy at p e)
             ∙ ap (λ (f : Held). f .feed .answer) (refused-stays modeS modeAC draws cs (refusalGiven (Bench.wrongNoise p)) (refusedAt T z b w c vs h roomy at p) refl)
 
         silent : plainOutput (G T) (b .taken) (b .used) ++ samplesFed modeS modeAC draws (standing T z b w) (c ∷ cs) ≡ plainOutput (G T) (b .taken) (b .used)
         silent =
-            ap (λ (f : Fed). plainOutput (G T) (b .taken) (b .used) ++ (take (2 * (f .feed .state .written - z .written)) (f .output) ++ samplesFed modeS modeAC draws (keep f) cs)) (loud T z b w c vs h roomy at p e)
+            ap (λ (f : Fed). plainOutput (G T) (b .taken) (b .used) ++ (take (2 * (f .feed .state .written - z .written)) (f .output) ++ samplesFed modeS modeAC draws (keep f) cs)) (outOfRange T z b w c vs h roomy at p e)
             ∙ (λ i. plainOutput (G T) (b .taken) (b .used) ++ (take (none-new i) (c .output) ++ refused-silent modeS modeAC draws cs (refusalGiven (Bench.wrongNoise p)) (refusedAt T z b w c vs h roomy at p) refl i))
             ∙ append-nil (plainOutput (G T) (b .taken) (b .used))
           where
@@ -120,7 +120,7 @@ module _ (T : Tape) where
   fed-samples clean c cs cut = (subst (λ (xs : List Float). Prefix xs (plainOutput (G T) (tape T) (pairs (noiseIn (c ∷ cs))))) front (r .first), λ q. sym front ∙ r .all q)
     where
       r : Gives (Machine.opened (G T) nan) (bench0 (G T)) Bench.wantsNoise [] (c ∷ cs)
-      r = all-fed T Gives at-end on-quiet on-loud clean c cs cut
+      r = all-fed T Gives at-end on-in-range on-out-of-range clean c cs cut
 
       given : List Float
       given = samplesFed modeS modeAC draws (standing T (Machine.opened (G T) nan) (bench0 (G T)) Bench.wantsNoise) (c ∷ cs)

@@ -14,13 +14,13 @@ use Rattle.le_read.specs.LeBytes.{leAt, readAt, inside}
 use Rattle.pulse_shape.specs.Prototype.{modeSPrototype, modeACPrototype}
 use Rattle.pulse_shape.proofs.Whole.{length-prototype}
 use Rattle.draw.specs.Fault.{firstFault}
-use Rattle.draw.specs.declared.Fault as Fault
+use Rattle.draw.specs.declared.DrawFault as DrawFault
 use Rattle.run_theory.specs.Generator.{Generator}
 use Rattle.run_theory.specs.PlainBench as Bench
 use Rattle.run_theory.specs.Laws.{Laws}
 use Rattle.run_theory.specs.Demand3.{Prefix, plainOutput}
 use Rattle.run_call_model.specs.Machine as Machine
-use Rattle.run_generator.proofs.RealDemand3.{real-laws}
+use Rattle.run_generator.proofs.InstanceDemand3.{instance-laws}
 use Rattle.run_call_checks.specs.ChecksModel.{faultRead}
 use Rattle.run_call_checks.proofs.Draws.{fault-same}
 use Rattle.run_steps.specs.declared.Stop as Stop
@@ -44,25 +44,25 @@ use Rattle.tape_theory.proofs.FedCall.{Tape, standing}
 use Rattle.tape_theory.proofs.FedPlain.{fed-ending, fed-text}
 use Rattle.tape_theory.proofs.FedSamples.{fed-samples}
 
-module _ (tape : List ℕ) (lent : Opening.Lent) where
+module _ (tape : List ℕ) (lent : Opening.OpenBuffers) where
   -- the bytes of n draws
   abbrev drawBytes : ℕ → List ℕ
   drawBytes n = take (65 * n) (drop 12135 tape)
 
   -- ---- what a head that begins a run has shown: opening answers that run, and no draw is at fault
   Begins : Beginning.Beginning → Type 0
-  Begins (Beginning.the-variants.Run s n count) = (openedFrom four tape lent ≡ Opened.the-variants.Run s) × (firstFault (s .rates) (s .distributions) (drawBytes n) ≡ Fault.the-variants.Clean)
+  Begins (Beginning.the-variants.Run s n count) = (openedFrom four tape lent ≡ Opened.the-variants.Run s) × (firstFault (s .rates) (s .distributions) (drawBytes n) ≡ DrawFault.the-variants.None)
   Begins (Beginning.the-variants.Refused k) = Unit {0}
 
   module _ (s : State) (opens : openedFrom four tape lent ≡ Opened.the-variants.Run s) where
-    fault-begins : (n : ℕ) (f : Fault.Fault) → firstFault (s .rates) (s .distributions) (drawBytes n) ≡ f → Begins (faultThen four tape s n f)
+    fault-begins : (n : ℕ) (f : DrawFault.DrawFault) → firstFault (s .rates) (s .distributions) (drawBytes n) ≡ f → Begins (faultThen four tape s n f)
     unfolding faultThen noiseThen readAt Begins
-    fault-begins n Fault.the-variants.Clean e = go (inside 4 tape (12135 + 65 * n))
+    fault-begins n DrawFault.the-variants.None e = go (inside 4 tape (12135 + 65 * n))
       where
         go : (b : Bool) → Begins (cond b (Beginning.the-variants.Run s n (leAt 4 tape (12135 + 65 * n))) tapeFault)
         go true = (opens, e)
         go false = tt
-    fault-begins n (Fault.the-variants.At k field) e = tt
+    fault-begins n (DrawFault.the-variants.At k field) e = tt
 
     draws-begins : (q : Counted.Counted) → Begins (drawsThen four tape s q)
     unfolding drawsThen Begins
@@ -76,7 +76,7 @@ module _ (tape : List ℕ) (lent : Opening.Lent) where
 
   early-begins : (e : Early.Early) → Begins (earlyThen four tape lent e)
   unfolding earlyThen Begins
-  early-begins Early.the-variants.Passed = opened-begins (openedFrom four tape lent) refl
+  early-begins Early.the-variants.Accepted = opened-begins (openedFrom four tape lent) refl
   early-begins (Early.the-variants.Refused number) = tt
 
   module _ (s : State) (n count : ℕ) (run : headOf four tape lent .head ≡ Beginning.the-variants.Run s n count) where
@@ -89,7 +89,7 @@ module _ (tape : List ℕ) (lent : Opening.Lent) where
     abbrev G : Generator
     G = genOf s modeS modeAC
 
-    shown : (openedFrom four tape lent ≡ Opened.the-variants.Run s) × (firstFault (s .rates) (s .distributions) (drawBytes n) ≡ Fault.the-variants.Clean)
+    shown : (openedFrom four tape lent ≡ Opened.the-variants.Run s) × (firstFault (s .rates) (s .distributions) (drawBytes n) ≡ DrawFault.the-variants.None)
     unfolding headOf beginningOf Begins
     shown = subst Begins run (early-begins (earlyOf four tape))
 
@@ -107,7 +107,7 @@ module _ (tape : List ℕ) (lent : Opening.Lent) where
     laws : Laws G
     laws =
         let r = opened-run-in-range (tapsS four tape) (tapsAC four tape) (settingsBytes four tape) lent s opens in
-        real-laws (filtersOf s modeS modeAC) (r .0) (s .total) (r .1)
+        instance-laws (filtersOf s modeS modeAC) (r .0) (s .total) (r .1)
 
     memory-is : headOf four tape lent .left .memory ≡ Opening.leftBy four (tapsS four tape) (tapsAC four tape) (Opened.the-variants.Run s) lent .memory
     unfolding headOf leftThen

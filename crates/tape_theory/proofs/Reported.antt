@@ -17,8 +17,8 @@ use Rattle.run_call_model.proofs.FlatLists.{length-draws}
 use Rattle.run_call.specs.declared.State.{State}
 use Rattle.run_call.specs.StateGenerator.{genOf}
 use Rattle.run_open_checks.specs.declared.Opened as Opened
-use Rattle.run_open_checks.specs.Opening.{Lent, leftBy}
-use Rattle.run_open_checks.specs.FirstCause.{LentFits}
+use Rattle.run_open_checks.specs.Opening.{OpenBuffers, leftBy}
+use Rattle.run_open_checks.specs.FirstCause.{BuffersFit}
 use Rattle.settings.specs.Settings.{settingsLength}
 use Rattle.tape_head.specs.declared.Beginning as Beginning
 use Rattle.tape_head.specs.Head.{tapsS, tapsAC, Begun, leftThen, headOf}
@@ -37,7 +37,7 @@ use Rattle.tape_theory.proofs.PlainTape.{plain-tape, section-ends}
 length-zeros : (n : ℕ) → length (zeros n) ≡ n
 length-zeros n = length-replicate n _
 
-pub lent-fits : (settings : List ℕ) → length settings ≡ settingsLength → LentFits settings lentByProgram
+pub lent-fits : (settings : List ℕ) → length settings ≡ settingsLength → BuffersFit settings lentByProgram
 unfolding lentByProgram
 lent-fits settings h = record { settings-is = h; mode-s-is = length-zeros 1792; mode-ac-is = length-zeros 1792; memory-is = length-zeros 2252 }
 

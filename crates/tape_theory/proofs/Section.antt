@@ -1,4 +1,4 @@
--- Chunks fed one after the other: while more are to come each has an even number of values, so that with the last one the noise is cut as `PlainTape` asks (`going-end`); and so it is as a program reads it, 16,384 values at a time (`next-turn`).
+-- Chunks fed one after the other: while more are to come each has an even number of values, so that with the last one the noise is cut as `PlainTape` asks (`going-end`); and so it is as a program reads it, 16,384 values at a time (`next-step`).
 use Prim.Native.Nat.{ℕ, _+_, _-_, _*_, _/_, _%_, _≤_, _<_, min}
 use mathlib.Core.Bool.{Bool, true, false, cond, true≢false}
 use mathlib.Core.Logic.{_⊎_, inl, inr}
@@ -113,13 +113,13 @@ turned n want left left′ want′ turns′ untaken false within w h s l m t = r
     by (inr e) more = omega (arith, all, l, m, t)
 
 module _ (modeS modeAC : List Float) (draws : List ℕ) (d : Held) where
-  pub next-turn : (count turns turns′ left left′ want n : ℕ) (short short′ : Bool) (f f′ : Feed) (memory memory′ : List Float) (records records′ : List ℕ) (row output output′ : List Float)
+  pub next-step : (count turns turns′ left left′ want n : ℕ) (short short′ : Bool) (f f′ : Feed) (memory memory′ : List Float) (records records′ : List ℕ) (row output output′ : List Float)
       → Going modeS modeAC draws d count turns left short (record { feed = f; memory = memory; records = records }) → 0 < turns → length output ≡ 16386 → n ≤ length row → n ≤ want → want ≤ 16384 → short ≡ false
       → Turned n want left left′ turns′ short′
       → record { feed = f′; memory = memory′; output = output′; records = records′ } ≡ fedOf modeS modeAC draws (take n row) (record { feed = f; memory = memory; output = output; records = records })
       → Going modeS modeAC draws d count turns′ left′ short′ (record { feed = f′; memory = memory′; records = records′ })
   unfolding keep lend
-  next-turn count turns turns′ left left′ want n short short′ f f′ memory memory′ records records′ row output output′ g more long inside few most so-far t e =
+  next-step count turns turns′ left left′ want n short short′ f f′ memory memory′ records records′ row output output′ g more long inside few most so-far t e =
       let l : length (take n row) ≡ n = length-take-le n row inside in
       going-on modeS modeAC draws d count turns turns′ left left′ short short′ (record { feed = f; memory = memory; records = records }) (record { feed = f′; memory = memory′; records = records′ }) (record { noise = take n row; output = output }) g more
       (omega (arith, long), omega (arith, long, l)) (λ h. omega (arith, t .even h, l)) (λ h. (so-far, omega (arith, l, t .read h .0, t .read h .1))) (ap keep e)

@@ -5,7 +5,7 @@ use lib.ListN.{take, drop}
 use lib.Ieee.{Float}
 use Rattle.run_call.specs.declared.State.{State}
 use Rattle.run_call.specs.declared.Answer as Answer
-use Rattle.run_call.specs.Buffers.{Left, Lent}
+use Rattle.run_call.specs.Buffers.{Left, CallBuffers}
 use Rattle.run_call.specs.CallModel.{runLeft}
 use Rattle.tape_verdict.specs.declared.Feed.{Feed}
 use Rattle.tape_verdict.specs.Verdict.{startOf}
@@ -39,7 +39,7 @@ module _ (modeS modeAC : List Float) (draws : List ℕ) where
   fedAll d (c ∷ cs) = fedAll (keep (fedOf modeS modeAC draws (c .noise) (lend c d))) cs
 
   -- what the call for a chunk is lent: the draws that are not taken, the chunk, and the room behind the records
-  unfoldable pub lentFor : Held → Chunk → Lent
+  unfoldable pub lentFor : Held → Chunk → CallBuffers
   lentFor d c = record { draws = drop (65 * d .feed .taken) draws; noise = c .noise; output = c .output; records = drop (66 * d .feed .records) (d .records) }
 
   unfoldable pub leftFor : Held → Chunk → Left
@@ -50,7 +50,7 @@ module _ (modeS modeAC : List Float) (draws : List ℕ) where
   heldAfter d l = keep (fedAfter (d .feed) (d .records) l)
 
   -- the calls, none once one was refused
-  unfoldable pub lents : List Chunk → Answer.Answer → Held → List Lent
+  unfoldable pub lents : List Chunk → Answer.Answer → Held → List CallBuffers
   lents [] a d = []
   lents (c ∷ cs) (Answer.the-variants.Refused q) d = []
   lents (c ∷ cs) (Answer.the-variants.Stopped w) d = lentFor d c ∷ lents cs (leftFor d c .ran .answer) (heldAfter d (leftFor d c))

@@ -34,12 +34,12 @@ endingText (done bytes records samples) = runText bytes records samples
 endingText (refused number) = refusedText number
 
 module _ (G : Generator) where
-  open Generator G using (Value, Draw, t0, loud, total)
+  open Generator G using (Value, Draw, t0, outOfRange, total)
 
   -- some noise value is not finite or too large
-  unfoldable pub loudIn : List Value → Bool
-  loudIn [] = false
-  loudIn (v ∷ vs) = loud v || loudIn vs
+  unfoldable pub outOfRangeIn : List Value → Bool
+  outOfRangeIn [] = false
+  outOfRangeIn (v ∷ vs) = outOfRange v || outOfRangeIn vs
 
   -- the end draw is among the draws, and there is noise for every sample
   unfoldable pub plainDone : List Draw → List Value → Bool
@@ -47,7 +47,7 @@ module _ (G : Generator) where
 
   -- faults 8 to 10 of SPECIFICATION 11.2: 8, 11, or 0 for no refusal
   unfoldable pub plainVerdict : Bool → List Draw → List Value → ℕ
-  plainVerdict left ds noise = cond (loudIn noise) 8 (cond (plainDone ds noise) (cond left 11 0) 11)
+  plainVerdict left ds noise = cond (outOfRangeIn noise) 8 (cond (plainDone ds noise) (cond left 11 0) 11)
 
 -- of a run with this state and these prototypes, on all draws and noise of its tape, with or without bytes left over behind them
 module _ (s : State) (modeS modeAC : List Float) where

@@ -11,9 +11,9 @@ use Rattle.pulse_shape.specs.Prototype.{modeSPrototype, modeACPrototype}
 use Rattle.run_theory.specs.PlainBench.{drawsOf}
 use Rattle.run_call.specs.declared.State.{State}
 use Rattle.run_call.specs.StateGenerator.{genOf}
-use Rattle.run_open_checks.specs.Opening.{Lent}
+use Rattle.run_open_checks.specs.Opening.{OpenBuffers}
 use Rattle.tape_floats.specs.Floats.{floatsOf}
-use Rattle.tape_sections.specs.Sections.{drawsPlace, noisePlace}
+use Rattle.tape_sections.specs.Sections.{drawsOffset, noiseOffset}
 use Rattle.tape_text.specs.Text.{refusedText}
 use Rattle.tape_head.specs.declared.Beginning as Beginning
 use Rattle.tape_head.specs.Head.{tapsS, tapsAC, headOf}
@@ -21,7 +21,7 @@ use Rattle.tape_theory.specs.Fed.{Chunk}
 use Rattle.tape_theory.specs.PlainTape.{plainText}
 
 -- what the program lends to opening
-unfoldable pub lentByProgram : Lent
+unfoldable pub lentByProgram : OpenBuffers
 lentByProgram = record { modeS = zeros (prototypeLength four); modeAC = zeros (prototypeLength four); memory = zeros (workingMemory four) }
 
 -- chunks of the noise in parts of bytes: each a whole number of values
@@ -34,10 +34,10 @@ Parts (b ∷ bs) (c ∷ cs) = (c .noise ≡ floatsOf (length b / 4) b) × (lengt
 module _ (tape : List ℕ) where
   -- the bytes of n draws, and those behind the noise's count
   unfoldable pub drawsSection : ℕ → List ℕ
-  drawsSection n = take (65 * n) (drop (drawsPlace four + 4) tape)
+  drawsSection n = take (65 * n) (drop (drawsOffset four + 4) tape)
 
   unfoldable pub behindCount : ℕ → List ℕ
-  behindCount n = drop (noisePlace four n + 4) tape
+  behindCount n = drop (noiseOffset four n + 4) tape
 
   -- a noise section's length comes before its values; then the plain run on all draws and noise, with or without bytes left over
   unfoldable pub sectionText : State → ℕ → ℕ → List ℕ

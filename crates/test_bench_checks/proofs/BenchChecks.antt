@@ -8,7 +8,7 @@ use lib.Dec.{eqb}
 use lib.ListN.{take}
 use Rattle.settings_duration.specs.Duration.{durationOf}
 use Rattle.mode_ac.specs.Data.{bitsOf, bitOf}
-use Rattle.mode_ac.specs.Places.{placeOf}
+use Rattle.mode_ac.specs.Positions.{positionOf}
 use Rattle.mode_ac.specs.Building.{fromData, fromDigits}
 use Rattle.mode_s.specs.Parity.{reduced, brought, remainder, bits, parityOf}
 use Rattle.message.specs.Making.{formats}
@@ -17,7 +17,7 @@ use Rattle.message.specs.declared.ReplyKind.the-variants.{Short, Long}
 use Rattle.message_classify.specs.declared.Class.the-variants.{TisB, NoClass}
 use Rattle.message_classify.specs.Classing.{listed, shortClass, longClass, kindClass, tisBControls, isTisB, isLong, relayClass, typeClass, firstOf, classBy}
 use Rattle.pulse_map.specs.ModeS.{modeSBits, modeSLength}
-use Rattle.pulse_map.specs.ModeAC.{modeACLength, dataPlaces, modeACPlaces}
+use Rattle.pulse_map.specs.ModeAC.{modeACLength, dataPositions, modeACPositions}
 use Rattle.pulse_length.specs.Length.{modeSNumSamples, modeACNumSamples}
 use Rattle.test_bench_checks.specs.Table.{Value, ofClass, noClass, class, durations, parity, lengths, replies, table, gives, says}
 
@@ -35,7 +35,7 @@ short-four low later h =
     ap (λ (df : ℕ). ofClass (typeClass (shortClass df (take 7 ((4 * 8 + low) ∷ later))))) e
 
 pub bench-checks : (low : ℕ) (later : List ℕ) → low < 8 → gives (table low later) ≡ says (table low later)
-unfolding durationOf bitsOf bitOf placeOf fromData fromDigits reduced brought remainder bits parityOf modeSBits modeSLength modeACLength dataPlaces modeACPlaces modeSNumSamples modeACNumSamples
+unfolding durationOf bitsOf bitOf positionOf fromData fromDigits reduced brought remainder bits parityOf modeSBits modeSLength modeACLength dataPositions modeACPositions modeSNumSamples modeACNumSamples
 bench-checks low later h =
     ap (λ (vs : List Value). says (durations ++ (parity ++ (lengths ++ replies))) ++ vs)
     (ap₂ (λ (v w : Value). v ∷ w ∷ []) (long-eleven low later h) (short-four low later h))

@@ -7,7 +7,7 @@ use Rattle.settings_duration.specs.Duration.{durationOf}
 use Rattle.settings_duration.specs.Duration as duration
 use Rattle.mode_ac.specs.Building.{fromData, fromDigits}
 use Rattle.mode_ac.specs.Building as mode-ac
-use Rattle.pulse_map.specs.ModeAC.{modeACPlaces}
+use Rattle.pulse_map.specs.ModeAC.{modeACPositions}
 use Rattle.mode_s.specs.Parity.{parityOf}
 use Rattle.message.specs.Types.{typeNumber}
 use Rattle.message.specs.declared.ReplyKind.the-variants.{Short, Long}
@@ -20,7 +20,7 @@ use Rattle.pulse_length.specs.Length.{modeSNumSamples, modeACNumSamples}
 pub data Value : Type 0 where
   number : ℕ → Value
   refusal : ℕ → Value
-  places : List ℕ → Value
+  positions : List ℕ → Value
   class : ℕ → Value
   noClass : Value
 
@@ -69,7 +69,7 @@ lengths =
 abbrev pub replies : List Line
 replies =
     line (ofReply (fromDigits 7 0 0 0 false)) (number 3584) ∷
-    line (places (modeACPlaces 3584 false)) (places (0 ∷ 6 ∷ 12 ∷ 18 ∷ 42 ∷ [])) ∷
+    line (positions (modeACPositions 3584 false)) (positions (0 ∷ 6 ∷ 12 ∷ 18 ∷ 42 ∷ [])) ∷
     line (ofReply (fromData 4095 false)) (number 4095) ∷
     line (ofReply (fromData 4096 false)) (refusal 10) ∷
     []

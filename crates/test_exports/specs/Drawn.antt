@@ -1,14 +1,14 @@
 -- How a distribution and what it makes of a draw cross to the Rust, as numbers.
 use Prim.Native.Nat.{ℕ}
 use lib.Ieee.{Float, binary64, ofBits, div}
-use Rattle.distributions.specs.declared.Asked.{Asked}
+use Rattle.distributions.specs.declared.RawDistribution.{RawDistribution}
 use Rattle.distributions.specs.declared.OffsetAnswer as Offset
 use Rattle.distributions.specs.declared.PhaseAnswer as Phase
 use Rattle.distributions.specs.declared.ClockAnswer as Clock
 use Rattle.distributions.specs.Drawn.{offsetOf, phaseOf, errorOf}
 
-unfoldable pub askedOf : ℕ → Float → Float → Asked
-askedOf k a b = record { kind = k; first = a; second = b }
+unfoldable pub rawDistributionOf : ℕ → Float → Float → RawDistribution
+rawDistributionOf k a b = record { kind = k; first = a; second = b }
 
 -- 0.0 / 0.0 stands for a refusal
 unfoldable pub noNumber : Float

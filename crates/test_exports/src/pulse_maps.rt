@@ -20,8 +20,8 @@ pub extern "C" fn port_mode_s_pulses(
 {
     let bytes = *message;
     let pulses = pulse_map::mode_s_pulses(bytes, long);
-    let places = pulses.on;
-    *on = places;
+    let positions = pulses.on;
+    *on = positions;
     *samples = pulse_length::mode_s_num_samples(long);
     pulses.len
 }
@@ -36,8 +36,8 @@ pub extern "C" fn port_mode_ac_pulses(
     ensures { λ r. ⌜ (r ≡ modeACPulses «data» spi .len) × ((now (on .exit) ≡ modeACPulses «data» spi .on) × (now (samples .exit) ≡ modeACNumSamples four spi)) ⌝ }
 {
     let pulses = pulse_map::mode_ac_pulses(data, spi);
-    let places = pulses.on;
-    *on = places;
+    let positions = pulses.on;
+    *on = positions;
     *samples = pulse_length::mode_ac_num_samples(spi);
     pulses.len
 }

@@ -4,7 +4,7 @@ ghost use Rattle.mode_s.specs.Parity.{parityOf};
 ghost use Rattle.message.specs.Types.{typeNumbered};
 ghost use Rattle.message_classify.specs.Classing.{classOf, classNumber};
 ghost use Rattle.test_exports.specs.Replies.{kindNumber, kindNumbered, fieldNumber, picksOf, madeFor, MadeNumbers, replyWith};
-use message::Field;
+use message::FieldFault;
 use message::Made;
 use message::Picks;
 use message::Reply;
@@ -24,7 +24,7 @@ fn make(n: u8, p: Picks) -> Made
     match message::message_type(n) {
         TypeFound::Of(t) => message_make::make(t, p),
         TypeFound::Unknown => Made {
-            fault: Field::Wrong(1),
+            fault: FieldFault::Field(1),
             reply: Reply {
                 kind: ReplyKind::Short,
                 bytes: [0; 14],
@@ -33,12 +33,12 @@ fn make(n: u8, p: Picks) -> Made
     }
 }
 
-fn field_number(f: Field) -> u64
+fn field_number(f: FieldFault) -> u64
     ensures { λ r. ⌜ r ≡ fieldNumber f ⌝ }
 {
     match f {
-        Field::Fine => 0,
-        Field::Wrong(n) => n,
+        FieldFault::NoFault => 0,
+        FieldFault::Field(n) => n,
     }
 }
 

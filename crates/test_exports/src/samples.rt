@@ -60,9 +60,9 @@ pub extern "C" fn port_add_reply(
     delay_s: f64,
     delay_ac: f64,
     memory: &mut [f32],
-    place: usize,
+    slot: usize,
 ) -> u16
-    ensures { λ r. ⌜ (now (memory .exit) ≡ addedReply four (now (memory .entry)) place (replySamples four (now («mode_s» .entry)) (now («mode_ac» .entry)) (record { «mode_s» = «delay_s»; «mode_ac» = «delay_ac» }) amplitude (configAt time time offset phase error (kindNumbered kind) (now (bytes .entry))))) × (r ≡ addedCount four (now (memory .entry)) place (replyCount four (record { «mode_s» = «delay_s»; «mode_ac» = «delay_ac» }) (configAt time time offset phase error (kindNumbered kind) (now (bytes .entry))))) ⌝ }
+    ensures { λ r. ⌜ (now (memory .exit) ≡ addedReply four (now (memory .entry)) slot (replySamples four (now («mode_s» .entry)) (now («mode_ac» .entry)) (record { «mode_s» = «delay_s»; «mode_ac» = «delay_ac» }) amplitude (configAt time time offset phase error (kindNumbered kind) (now (bytes .entry))))) × (r ≡ addedCount four (now (memory .entry)) slot (replyCount four (record { «mode_s» = «delay_s»; «mode_ac» = «delay_ac» }) (configAt time time offset phase error (kindNumbered kind) (now (bytes .entry))))) ⌝ }
 {
     let b = *bytes;
     let c = config_at(time, time, offset, phase, error, kind_numbered(kind), b);
@@ -70,5 +70,5 @@ pub extern "C" fn port_add_reply(
         mode_s: delay_s,
         mode_ac: delay_ac,
     };
-    reply_add::add_reply(mode_s, mode_ac, c, amplitude, delays, memory, place)
+    reply_add::add_reply(mode_s, mode_ac, c, amplitude, delays, memory, slot)
 }

@@ -27,7 +27,7 @@ fn delay_number(crossing: Crossing) -> f64
 {
     match crossing {
         Crossing::At(delay) => delay,
-        Crossing::Nowhere => -1.0,
+        Crossing::None => -1.0,
     }
 }
 

@@ -2,14 +2,14 @@
 ghost use mathlib.Core.Path.{_≡_};
 ghost use mathlib.Core.List.{[], _∷_};
 ghost use Rattle.constants.specs.Rate.{four};
-ghost use Rattle.distributions.specs.Asked.{carrierOffset, carrierPhase, clockError};
+ghost use Rattle.distributions.specs.Accepted.{carrierOffset, carrierPhase, clockError};
 ghost use Rattle.message_config.specs.Config.{configStart, configClockPhase, configClockError, configRate, configPhase};
-ghost use Rattle.test_exports.specs.Drawn.{askedOf, offsetDrawn, phaseDrawn, errorDrawn};
+ghost use Rattle.test_exports.specs.Drawn.{rawDistributionOf, offsetDrawn, phaseDrawn, errorDrawn};
 ghost use Rattle.test_exports.specs.Messages.{kindOf, messageAt, delaysAt};
-use distributions::Asked;
 use distributions::ClockAnswer;
 use distributions::OffsetAnswer;
 use distributions::PhaseAnswer;
+use distributions::RawDistribution;
 use message::Reply;
 use message::ReplyKind;
 use message_config::Delays;
@@ -108,9 +108,9 @@ pub extern "C" fn port_drawn(
     clock: f64,
     out: &mut [f64; 3],
 )
-    ensures { λ _. ⌜ now (out .exit) ≡ offsetDrawn (carrierOffset four (askedOf kind first second)) carrier ∷ (phaseDrawn (carrierPhase (askedOf kind first second)) phase ∷ (errorDrawn (clockError (askedOf kind first second)) clock ∷ [])) ⌝ }
+    ensures { λ _. ⌜ now (out .exit) ≡ offsetDrawn (carrierOffset four (rawDistributionOf kind first second)) carrier ∷ (phaseDrawn (carrierPhase (rawDistributionOf kind first second)) phase ∷ (errorDrawn (clockError (rawDistributionOf kind first second)) clock ∷ [])) ⌝ }
 {
-    let asked = Asked {
+    let asked = RawDistribution {
         kind: kind,
         first: first,
         second: second,

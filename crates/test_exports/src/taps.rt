@@ -3,7 +3,7 @@ ghost use mathlib.Core.Path.{_≡_};
 ghost use lib.ListN.{take};
 ghost use Rattle.constants.specs.Rate.{four};
 ghost use Rattle.filterbank.specs.Taps.{filterTaps};
-ghost use Rattle.filterbank.specs.PaddedPulsesModel.{late, lateSum};
+ghost use Rattle.filterbank.specs.PaddedPulsesModel.{padPulses, paddedSum};
 ghost use Rattle.filterbank.specs.Clocked.{stepOf, startClock, advance, in64};
 use filterbank::Clock;
 
@@ -15,15 +15,15 @@ pub extern "C" fn port_filter_taps(prototype: &[f32], phase: f64, out: &mut [f32
     *out = taps;
 }
 
-// The sum at a place, of the first `len` places as `lay_late` lays them.
+// The sum at a place, of the first `len` places as `pad_pulses` lays them.
 #[no_mangle]
 pub extern "C" fn port_pulse_sum(taps: &[f32; 7], on: &[bool; 240], len: usize, index: usize) -> f32
-    ensures { λ r. ⌜ r ≡ lateSum (now (taps .entry)) (late (take len (now (on .entry)))) index ⌝ }
+    ensures { λ r. ⌜ r ≡ paddedSum (now (taps .entry)) (padPulses (take len (now (on .entry)))) index ⌝ }
 {
     let t = *taps;
-    let places = *on;
-    let laid = filterbank_apply::lay_late(places, len);
-    filterbank_apply::pulse_sum(t, &laid, index)
+    let positions = *on;
+    let padded = filterbank_apply::pad_pulses(positions, len);
+    filterbank_apply::pulse_sum(t, &padded, index)
 }
 
 // The clock before the first sample: its phase, and in `index` its index.

@@ -37,21 +37,21 @@ fn show_f64(x: f64) {
 fn read_u16(r: ReadU16) {
     match r {
         ReadU16::Value(n) => digits(n as u64, 4),
-        ReadU16::Past => text(b" past"),
+        ReadU16::OutOfBounds => text(b" past"),
     }
 }
 
 fn read_u32(r: ReadU32) {
     match r {
         ReadU32::Value(n) => digits(n as u64, 8),
-        ReadU32::Past => text(b" past"),
+        ReadU32::OutOfBounds => text(b" past"),
     }
 }
 
 fn read_u64(r: ReadU64) {
     match r {
         ReadU64::Value(n) => digits(n, 16),
-        ReadU64::Past => text(b" past"),
+        ReadU64::OutOfBounds => text(b" past"),
     }
 }
 
@@ -59,7 +59,7 @@ fn read_f32(r: ReadF32) {
     match r {
         ReadF32::Value(x) => show_f32(x),
         ReadF32::Nan => text(b" nan"),
-        ReadF32::Past => text(b" past"),
+        ReadF32::OutOfBounds => text(b" past"),
     }
 }
 
@@ -67,7 +67,7 @@ fn read_f64(r: ReadF64) {
     match r {
         ReadF64::Value(x) => show_f64(x),
         ReadF64::Nan => text(b" nan"),
-        ReadF64::Past => text(b" past"),
+        ReadF64::OutOfBounds => text(b" past"),
     }
 }
 

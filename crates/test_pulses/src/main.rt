@@ -42,7 +42,7 @@ fn say_built(b: Built) {
     }
 }
 
-fn say_place(k: usize, on: bool) {
+fn say_position(k: usize, on: bool) {
     if on {
         io::print_decimal(STDOUT_FILENO, k as u64);
         io::write_all(STDOUT_FILENO, b" ");
@@ -50,11 +50,11 @@ fn say_place(k: usize, on: bool) {
 }
 
 // The places where pulses stand.
-fn say_places(p: Pulses) {
+fn say_positions(p: Pulses) {
     let on = p.on;
     let mut k: usize = 0;
     while k < 240 {
-        say_place(k, on[k]);
+        say_position(k, on[k]);
         k += 1;
     }
     io::write_all(STDOUT_FILENO, b"\n");
@@ -225,8 +225,8 @@ fn main() {
     durations();
     lengths();
     replies();
-    say_places(pulse_map::mode_ac_pulses(3584, false));
-    say_places(pulse_map::mode_ac_pulses(4095, true));
+    say_positions(pulse_map::mode_ac_pulses(3584, false));
+    say_positions(pulse_map::mode_ac_pulses(4095, true));
     mode_ac_maps(false);
     mode_ac_maps(true);
     mode_s_maps(false);

@@ -1,7 +1,7 @@
 // Replays the vectors of parity, making and classing: a line for each record of standard input. What it writes is held to the Rust's answers in the file stdout; `harness vectors` (differential/) makes both.
 use libc::STDIN_FILENO;
 use libc::STDOUT_FILENO;
-use message::Field;
+use message::FieldFault;
 use message::Picks;
 use message::Reply;
 use message::ReplyKind;
@@ -136,8 +136,8 @@ fn print_made(m: message::Made) {
     let fault = m.fault;
     let reply = m.reply;
     match fault {
-        Field::Fine => print_reply(reply),
-        Field::Wrong(field) => {
+        FieldFault::NoFault => print_reply(reply),
+        FieldFault::Field(field) => {
             io::write_all(STDOUT_FILENO, b"refused ");
             io::print_decimal(STDOUT_FILENO, field);
             io::write_all(STDOUT_FILENO, b"\n");

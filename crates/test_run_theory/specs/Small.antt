@@ -41,7 +41,7 @@ smallOf total = record {
       ∷ [];
   entry = λ t d s n. t ∷ s ∷ n ∷ [];
   fault = faultOf;
-  loud = λ v. ltb 1 (length v);
+  outOfRange = λ v. ltb 1 (length v);
   drawBytes = 3;
   recordBytes = 3;
   drawAt = λ bytes. record { gap = getD bytes 0 0; delay = getD bytes 1 0; tone = getD bytes 2 0 };

@@ -90,7 +90,7 @@ fn taps_digest(prototype: &[f32]) -> u64 {
 }
 
 // The values of a reply, at most 1,200.
-fn reply(prototype: &[f32], laid: &[bool; 252], limit: usize, first: f64, e: f64) {
+fn reply(prototype: &[f32], padded: &[bool; 252], limit: usize, first: f64, e: f64) {
     let step = filterbank_apply::clock_step(e);
     let mut clock = filterbank_apply::start_clock(first);
     let mut digest: u64 = 0;
@@ -100,7 +100,10 @@ fn reply(prototype: &[f32], laid: &[bool; 252], limit: usize, first: f64, e: f64
             break;
         }
         let taps = filterbank::filter_taps(prototype, clock.phase);
-        digest = fold_f32(digest, filterbank_apply::pulse_sum(taps, laid, clock.index));
+        digest = fold_f32(
+            digest,
+            filterbank_apply::pulse_sum(taps, padded, clock.index),
+        );
         clock = filterbank_apply::advance(clock, step);
         n = n + 1;
     }
@@ -120,18 +123,18 @@ fn delay(level: f32, prototype: &[f32]) {
     let d = pulse_group_delay::group_delay(level, prototype);
     match d {
         Crossing::At(x) => line(float_encoding::bits_of(x)),
-        Crossing::Nowhere => line(0),
+        Crossing::None => line(0),
     }
 }
 
 fn replies(prototype: &[f32], seed: u64, len: usize)
     requires { ⌜ (seed < 0x8000_0000) × (len ≤ 240) ⌝ }
 {
-    let laid = filterbank_apply::lay_late(pulses(seed), len);
-    reply(prototype, &laid, len + 6, 0.0, 0.0);
-    reply(prototype, &laid, len + 6, 1.1, -0.1);
-    reply(prototype, &laid, len + 6, 0.37, 0.1);
-    reply(prototype, &laid, len + 6, 0.999, 0.034);
+    let padded = filterbank_apply::pad_pulses(pulses(seed), len);
+    reply(prototype, &padded, len + 6, 0.0, 0.0);
+    reply(prototype, &padded, len + 6, 1.1, -0.1);
+    reply(prototype, &padded, len + 6, 0.37, 0.1);
+    reply(prototype, &padded, len + 6, 0.999, 0.034);
 }
 
 fn both(prototype: &[f32]) {

@@ -1,6 +1,6 @@
 -- `distributions::carrier_offset` meets its contract.
 use borrow.Author.Needs.{needs}
-use Rattle.distributions.specs.Asked.{clampedNormal, carrierOffset}
+use Rattle.distributions.specs.Accepted.{clampedNormal, carrierOffset}
 use Rattle.distributions.proofs.ByKind.{kind-0, kind-1, kind-other}
 use Rattle.distributions.proofs.Literals.{offsetLimit-is}
 use mathlib.Core.Path.{_≡_, refl}

@@ -1,6 +1,6 @@
 -- `distributions::carrier_phase` meets its contract.
 use borrow.Author.Needs.{needs}
-use Rattle.distributions.specs.Asked.{carrierPhase}
+use Rattle.distributions.specs.Accepted.{carrierPhase}
 use Rattle.distributions.proofs.ByKind.{kind-0, kind-1, kind-other}
 use mathlib.Core.Path.{_≡_, refl}
 use lib.Ieee.Scale.{finite}

@@ -2,7 +2,7 @@
 use mathlib.Core.Path.{_≡_}
 use lib.Ieee.{binary64, ofBits}
 use borrow.Author.Needs.{needs}
-use Rattle.distributions.specs.Asked.{upTo, clampedNormal}
+use Rattle.distributions.specs.Accepted.{upTo, clampedNormal}
 use Rattle.distributions.proofs.Literals.{offsetLimit-is}
 use Rattle.distributions.proofs.clamped_normal.Statement.{statement}
 use Rattle.distributions.proofs.clamped_normal.Tie as tie

@@ -1,6 +1,6 @@
 -- `distributions::clock_error` meets its contract.
 use borrow.Author.Needs.{needs}
-use Rattle.distributions.specs.Asked.{clockError}
+use Rattle.distributions.specs.Accepted.{clockError}
 use Rattle.distributions.proofs.ByKind.{kind-0, kind-1, kind-other}
 use Rattle.distributions.proofs.Literals.{tenth-is}
 use mathlib.Core.Path.{_≡_, refl}

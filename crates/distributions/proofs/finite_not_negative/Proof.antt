@@ -3,7 +3,7 @@ use mathlib.Core.Bool.{Bool, _&&_}
 use mathlib.Core.Path.{_≡_, sym, ap, _∙_}
 use lib.Ieee.Scale.{finite}
 use borrow.Author.Needs.{needs}
-use Rattle.distributions.specs.Asked.{finiteNotNegative}
+use Rattle.distributions.specs.Accepted.{finiteNotNegative}
 use Rattle.distributions.proofs.finite_not_negative.Statement.{statement}
 use Rattle.distributions.proofs.finite_not_negative.Tie as tie
 

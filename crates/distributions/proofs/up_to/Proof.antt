@@ -1,5 +1,5 @@
 -- `distributions::up_to` meets its contract.
-use Rattle.distributions.specs.Asked.{upTo}
+use Rattle.distributions.specs.Accepted.{upTo}
 use Rattle.distributions.proofs.up_to.Statement.{statement}
 use Rattle.distributions.proofs.up_to.Tie as tie
 

@@ -7,7 +7,7 @@ use Rattle.filterbank_apply.proofs.pulse_sum.Statement.{statement}
 use Rattle.filterbank_apply.proofs.pulse_sum.Tie as tie
 
 returns : tie.Need-returns
-returns c = sum-past (c .before .args .t1) (c .before .args .laid .now) (c .before .args .index) (c .if1 .taken)
+returns c = sum-past (c .before .args .t1) (c .before .args .padded .now) (c .before .args .index) (c .if1 .taken)
 
 array-read-added : tie.Need-array-read-added
 array-read-added c = search needs
@@ -103,7 +103,7 @@ returns-2 c =
     let c1 = c2 .before .before in
     let t = c1 .before .before in
     let a = t .before .args in
-    sum-seven (a .t1) (a .laid .now) (a .index) _ _ _ _ _ _ _ (seven t) (t .if1 .left) (c1 .added .ensures) (c2 .added2 .ensures) (c3 .added3 .ensures) (c4 .added4 .ensures) (c5 .added5 .ensures) (c6 .added6 .ensures) (c .added7 .ensures)
+    sum-seven (a .t1) (a .padded .now) (a .index) _ _ _ _ _ _ _ (seven t) (t .if1 .left) (c1 .added .ensures) (c2 .added2 .ensures) (c3 .added3 .ensures) (c4 .added4 .ensures) (c5 .added5 .ensures) (c6 .added6 .ensures) (c .added7 .ensures)
 
 pub pulse-sum-spec : {M : Type 1} → statement M
 pulse-sum-spec =

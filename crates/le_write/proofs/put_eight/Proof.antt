@@ -2,8 +2,8 @@
 use mathlib.Core.Path.{_≡_, ap, _∙_}
 use Prim.Native.Nat.{ℕ, _+_, _/_}
 use mathlib.Core.List.{List}
-use Rattle.le_read.specs.LeBytes.{laid, bytesOf}
-use Rattle.le_read.proofs.Halves.{laid-eight}
+use Rattle.le_read.specs.LeBytes.{overwritten, bytesOf}
+use Rattle.le_read.proofs.Halves.{overwritten-eight}
 use borrow.Author.Needs.{needs}
 use Rattle.le_write.proofs.put_eight.Statement.{statement}
 use Rattle.le_write.proofs.put_eight.Tie as tie
@@ -23,10 +23,10 @@ same-length c = search needs
 returns : tie.Need-returns
 returns c =
     let a = c .before .before .before .before .before .before .before .before .before .args in
-    let second : _ ≡ laid _ (a .at + 4) (bytesOf 4 (a .v / 4294967296)) = c .before .before .put-four2 .ensures in
+    let second : _ ≡ overwritten _ (a .at + 4) (bytesOf 4 (a .v / 4294967296)) = c .before .before .put-four2 .ensures in
     second
-    ∙ ap (λ (l : List ℕ). laid l (a .at + 4) (bytesOf 4 (a .v / 4294967296))) (c .before .before .before .before .before .before .put-four .ensures)
-    ∙ laid-eight (a .d .now) (a .at) (a .v) (c .before .before .before .before .before .before .before .before .before .pre)
+    ∙ ap (λ (l : List ℕ). overwritten l (a .at + 4) (bytesOf 4 (a .v / 4294967296))) (c .before .before .before .before .before .before .put-four .ensures)
+    ∙ overwritten-eight (a .d .now) (a .at) (a .v) (c .before .before .before .before .before .before .before .before .before .pre)
 
 pub put-eight-spec : {M : Type 1} → statement M
 put-eight-spec =

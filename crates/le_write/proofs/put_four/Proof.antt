@@ -2,8 +2,8 @@
 use mathlib.Core.Path.{_≡_, ap, _∙_}
 use Prim.Native.Nat.{ℕ, _+_, _/_}
 use mathlib.Core.List.{List}
-use Rattle.le_read.specs.LeBytes.{laid, bytesOf}
-use Rattle.le_read.proofs.Halves.{laid-four}
+use Rattle.le_read.specs.LeBytes.{overwritten, bytesOf}
+use Rattle.le_read.proofs.Halves.{overwritten-four}
 use borrow.Author.Needs.{needs}
 use Rattle.le_write.proofs.put_four.Statement.{statement}
 use Rattle.le_write.proofs.put_four.Tie as tie
@@ -23,10 +23,10 @@ same-length c = search needs
 returns : tie.Need-returns
 returns c =
     let a = c .before .before .before .before .before .before .before .before .before .args in
-    let second : _ ≡ laid _ (a .at + 2) (bytesOf 2 (a .v / 65536)) = c .before .before .put-two2 .ensures in
+    let second : _ ≡ overwritten _ (a .at + 2) (bytesOf 2 (a .v / 65536)) = c .before .before .put-two2 .ensures in
     second
-    ∙ ap (λ (l : List ℕ). laid l (a .at + 2) (bytesOf 2 (a .v / 65536))) (c .before .before .before .before .before .before .put-two .ensures)
-    ∙ laid-four (a .d .now) (a .at) (a .v) (c .before .before .before .before .before .before .before .before .before .pre)
+    ∙ ap (λ (l : List ℕ). overwritten l (a .at + 2) (bytesOf 2 (a .v / 65536))) (c .before .before .before .before .before .before .put-two .ensures)
+    ∙ overwritten-four (a .d .now) (a .at) (a .v) (c .before .before .before .before .before .before .before .before .before .pre)
 
 pub put-four-spec : {M : Type 1} → statement M
 put-four-spec =

@@ -1,6 +1,6 @@
 -- `put_two` meets its contract. Two bytes stored are two bytes laid.
 use lib.ListN.{length-set}
-use Rattle.le_read.proofs.Halves.{laid-two}
+use Rattle.le_read.proofs.Halves.{overwritten-two}
 use borrow.Author.Needs.{needs}
 use native.Mathlib.Omega.{arith}
 use Rattle.le_write.proofs.put_two.Statement.{statement}
@@ -25,7 +25,7 @@ same-length : tie.Need-same-length
 same-length c = search needs
 
 returns : tie.Need-returns
-returns c = laid-two (c .args .d .now) (c .args .at) (c .args .v) (c .pre)
+returns c = overwritten-two (c .args .d .now) (c .args .at) (c .args .v) (c .pre)
 
 pub put-two-spec : {M : Type 1} → statement M
 put-two-spec =

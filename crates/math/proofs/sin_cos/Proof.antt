@@ -13,12 +13,12 @@ sine-sum-requires c κs = search needs
 cosine-sum-requires : tie.Need-cosine-sum-requires
 cosine-sum-requires c κs = search needs
 
-turned-requires : tie.Need-turned-requires
-turned-requires c κs = search needs
+by-quadrant-requires : tie.Need-by-quadrant-requires
+by-quadrant-requires c κs = search needs
 
 returns : tie.Need-returns
 unfolding sinCos
-returns c = rw (c .turned .ensures, c .before .cosine-sum .ensures, c .before .before .sine-sum .ensures, c .before .before .before .reduce .ensures)
+returns c = rw (c .by-quadrant .ensures, c .before .cosine-sum .ensures, c .before .before .sine-sum .ensures, c .before .before .before .reduce .ensures)
 
 pub sin-cos-spec : {M : Type 1} → statement M
-sin-cos-spec = tie.close (tie.spec reduce-requires sine-sum-requires cosine-sum-requires turned-requires returns)
+sin-cos-spec = tie.close (tie.spec reduce-requires sine-sum-requires cosine-sum-requires by-quadrant-requires returns)

@@ -22,23 +22,23 @@ array-read-first c = omega (arith, acquisition-capability _ (c .before .before .
 add-first : tie.Need-add-first
 add-first c = omega (arith, entry-lt 8 capabilities (lit< tt) tt (c .before .before .args .p .capability))
 
-array-read-sealed-short : tie.Need-array-read-sealed-short
-array-read-sealed-short c = search needs
+array-read-short-with-parity : tie.Need-array-read-short-with-parity
+array-read-short-with-parity c = search needs
 
-array-read-sealed-short-2 : tie.Need-array-read-sealed-short-2
-array-read-sealed-short-2 c = search needs
+array-read-short-with-parity-2 : tie.Need-array-read-short-with-parity-2
+array-read-short-with-parity-2 c = search needs
 
-array-read-sealed-short-3 : tie.Need-array-read-sealed-short-3
-array-read-sealed-short-3 c = search needs
+array-read-short-with-parity-3 : tie.Need-array-read-short-with-parity-3
+array-read-short-with-parity-3 c = search needs
 
-sealed-short-requires : tie.Need-sealed-short-requires
-sealed-short-requires c κs = search needs
+short-with-parity-requires : tie.Need-short-with-parity-requires
+short-with-parity-requires c κs = search needs
 
 returns : tie.Need-returns
 returns c =
     let a = c .before .before .before .args in
     let h : length (a .p .bytes) ≡ 14 = search needs in
-    acquisition-reply (a .p) h (c .sealed-short .ensures)
+    acquisition-reply (a .p) h (c .short-with-parity .ensures)
 
 pub acquisition-squitter-spec : {M : Type 1} → statement M
 acquisition-squitter-spec =
@@ -48,8 +48,8 @@ acquisition-squitter-spec =
     mul-first
     array-read-first
     add-first
-    array-read-sealed-short
-    array-read-sealed-short-2
-    array-read-sealed-short-3
-    sealed-short-requires
+    array-read-short-with-parity
+    array-read-short-with-parity-2
+    array-read-short-with-parity-3
+    short-with-parity-requires
     returns)

@@ -20,14 +20,14 @@ array-read-first c = omega (arith, all-call-capability _ (c .before .pre))
 add-first : tie.Need-add-first
 add-first c = omega (arith, entry-lt 8 capabilities (lit< tt) tt (c .before .args .p .capability))
 
-sealed-short-requires : tie.Need-sealed-short-requires
-sealed-short-requires c κs = search needs
+short-with-parity-requires : tie.Need-short-with-parity-requires
+short-with-parity-requires c κs = search needs
 
 returns : tie.Need-returns
 unfolding replyOf kindOf messageBytes byte0 formatOf formats subfields lowBits
-returns c = c .sealed-short .ensures
+returns c = c .short-with-parity .ensures
 
 pub all-call-reply-spec : {M : Type 1} → statement M
 all-call-reply-spec =
     tie.close
-    (tie.spec cast-pick mul-first array-read-first add-first sealed-short-requires returns)
+    (tie.spec cast-pick mul-first array-read-first add-first short-with-parity-requires returns)

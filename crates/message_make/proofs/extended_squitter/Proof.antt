@@ -19,45 +19,45 @@ cast-pick c = search needs
 array-read-df : tie.Need-array-read-df
 array-read-df c = omega (arith, extended-format _ (c .before .before .before .pre))
 
-mul-sealed-long : tie.Need-mul-sealed-long
-mul-sealed-long c = omega (arith, entry-lt 31 extendedFormats (lit< tt) tt (c .before .before .before .before .args .p .format))
+mul-long-with-parity : tie.Need-mul-long-with-parity
+mul-long-with-parity c = omega (arith, entry-lt 31 extendedFormats (lit< tt) tt (c .before .before .before .before .args .p .format))
 
-array-read-sealed-long : tie.Need-array-read-sealed-long
-array-read-sealed-long c = omega (arith, control-pick _ (c .before .before .before .before .pre) (c .if1 .taken))
+array-read-long-with-parity : tie.Need-array-read-long-with-parity
+array-read-long-with-parity c = omega (arith, control-pick _ (c .before .before .before .before .pre) (c .if1 .taken))
 
-add-sealed-long : tie.Need-add-sealed-long
-add-sealed-long c =
+add-long-with-parity : tie.Need-add-long-with-parity
+add-long-with-parity c =
     let p = c .before .before .before .before .args .p in
     omega (arith, entry-lt 31 extendedFormats (lit< tt) tt (p .format), entry-lt 8 controls (lit< tt) tt (p .capability))
 
-sealed-long-requires : tie.Need-sealed-long-requires
-sealed-long-requires c κs = search needs
+long-with-parity-requires : tie.Need-long-with-parity-requires
+long-with-parity-requires c κs = search needs
 
 returns : tie.Need-returns
 returns c =
     let a = c .before .before .before .before .before .args in
     let h : length (a .p .bytes) ≡ 14 = search needs in
-    c .sealed-long .ensures ∙ control-reply (a .p) h (c .before .if1 .taken)
+    c .long-with-parity .ensures ∙ control-reply (a .p) h (c .before .if1 .taken)
 
-mul-sealed-long-2 : tie.Need-mul-sealed-long-2
-mul-sealed-long-2 c = omega (arith, entry-lt 31 extendedFormats (lit< tt) tt (c .before .before .before .before .args .p .format))
+mul-long-with-parity-2 : tie.Need-mul-long-with-parity-2
+mul-long-with-parity-2 c = omega (arith, entry-lt 31 extendedFormats (lit< tt) tt (c .before .before .before .before .args .p .format))
 
-array-read-sealed-long-2 : tie.Need-array-read-sealed-long-2
-array-read-sealed-long-2 c = omega (arith, capability-pick _ (c .before .before .before .before .pre) (c .if1 .left))
+array-read-long-with-parity-2 : tie.Need-array-read-long-with-parity-2
+array-read-long-with-parity-2 c = omega (arith, capability-pick _ (c .before .before .before .before .pre) (c .if1 .left))
 
-add-sealed-long-2 : tie.Need-add-sealed-long-2
-add-sealed-long-2 c =
+add-long-with-parity-2 : tie.Need-add-long-with-parity-2
+add-long-with-parity-2 c =
     let p = c .before .before .before .before .args .p in
     omega (arith, entry-lt 31 extendedFormats (lit< tt) tt (p .format), entry-lt 8 capabilities (lit< tt) tt (p .capability))
 
-sealed-long-requires-2 : tie.Need-sealed-long-requires-2
-sealed-long-requires-2 c κs = search needs
+long-with-parity-requires-2 : tie.Need-long-with-parity-requires-2
+long-with-parity-requires-2 c κs = search needs
 
 returns-2 : tie.Need-returns-2
 returns-2 c =
     let a = c .before .before .before .before .before .args in
     let h : length (a .p .bytes) ≡ 14 = search needs in
-    c .sealed-long2 .ensures ∙ capability-reply (a .p) h (c .before .if1 .left)
+    c .long-with-parity2 .ensures ∙ capability-reply (a .p) h (c .before .if1 .left)
 
 pub extended-squitter-spec : {M : Type 1} → statement M
 extended-squitter-spec =
@@ -66,13 +66,13 @@ extended-squitter-spec =
     cast-format
     cast-pick
     array-read-df
-    mul-sealed-long
-    array-read-sealed-long
-    add-sealed-long
-    sealed-long-requires
+    mul-long-with-parity
+    array-read-long-with-parity
+    add-long-with-parity
+    long-with-parity-requires
     returns
-    mul-sealed-long-2
-    array-read-sealed-long-2
-    add-sealed-long-2
-    sealed-long-requires-2
+    mul-long-with-parity-2
+    array-read-long-with-parity-2
+    add-long-with-parity-2
+    long-with-parity-requires-2
     returns-2)

@@ -3,7 +3,7 @@ use mathlib.Core.Path.{_≡_, sym, ap, _∙_}
 use lib.Dec.{ltb}
 use borrow.Author.Needs.{needs}
 use Rattle.message.specs.declared.MessageType.{MessageType}
-use Rattle.message.specs.declared.Field.the-variants.{Fine}
+use Rattle.message.specs.declared.FieldFault.the-variants.{NoFault}
 use Rattle.message.specs.Making.{checked, fieldFault, formats, subfields, formatOf, overlayFits, modeAcFits}
 use Rattle.message_make.proofs.field_fault.Statement.{statement}
 use Rattle.message_make.proofs.field_fault.Tie as tie
@@ -68,7 +68,7 @@ returns-3 : tie.Need-returns-3
 unfolding fieldFault formats subfields formatOf overlayFits modeAcFits
 returns-3 c =
     let p = c .before .before .before .before .args .p in
-    let picked : c .last-fault2 .result ≡ checked 7 (ltb (p .format) 3) Fine = c .last-fault2 .ensures in
+    let picked : c .last-fault2 .result ≡ checked 7 (ltb (p .format) 3) NoFault = c .last-fault2 .ensures in
     picked ∙ sym (ap (λ (t : MessageType). fieldFault t (c .before .before .before .before .args .p)) (c .before .before .enum-told3 .given .1))
 
 returns-4 : tie.Need-returns-4

@@ -2,8 +2,8 @@
 use mathlib.Core.Path.{sym, ap, _∙_}
 use borrow.Author.Needs.{needs}
 use Rattle.message.specs.Making.{replyOf, madeWhere, made}
-use Rattle.message.specs.declared.Field.{Field}
-use Rattle.message.specs.declared.Field.the-variants.{Fine}
+use Rattle.message.specs.declared.FieldFault.{FieldFault}
+use Rattle.message.specs.declared.FieldFault.the-variants.{NoFault}
 use Rattle.message_make.proofs.make.Statement.{statement}
 use Rattle.message_make.proofs.make.Tie as tie
 
@@ -23,15 +23,15 @@ returns : tie.Need-returns
 unfolding made madeWhere
 returns c =
     let a = c .before .before .before .before .args in
-    ap (madeWhere Fine) (c .reply-of .ensures)
-    ∙ ap (λ (f : Field). madeWhere f (replyOf (a .t) (a .p)))
+    ap (madeWhere NoFault) (c .reply-of .ensures)
+    ∙ ap (λ (f : FieldFault). madeWhere f (replyOf (a .t) (a .p)))
     (sym (sym (c .before .before .before .field-fault .ensures) ∙ c .before .enum-told .given .1))
 
 returns-2 : tie.Need-returns-2
 unfolding made madeWhere
 returns-2 c =
     let a = c .before .before .before .before .args in
-    ap (λ (f : Field). madeWhere f (replyOf (a .t) (a .p)))
+    ap (λ (f : FieldFault). madeWhere f (replyOf (a .t) (a .p)))
     (sym (sym (c .before .before .before .field-fault .ensures) ∙ c .before .field .given .1))
 
 pub make-spec : {M : Type 1} → statement M

@@ -10,8 +10,8 @@ enum-known-answer c = search needs
 stop-number-requires : tie.Need-stop-number-requires
 stop-number-requires c κs = search needs
 
-told-requires : tie.Need-told-requires
-told-requires c κs = search needs
+flat-answer-requires : tie.Need-flat-answer-requires
+flat-answer-requires c κs = search needs
 
 enum-known-answer-2 : tie.Need-enum-known-answer-2
 enum-known-answer-2 c = search needs
@@ -22,14 +22,14 @@ values-of-requires c κs = search needs
 number-requires : tie.Need-number-requires
 number-requires c κs = search needs
 
-told-requires-2 : tie.Need-told-requires-2
-told-requires-2 c κs = search needs
+flat-answer-requires-2 : tie.Need-flat-answer-requires-2
+flat-answer-requires-2 c κs = search needs
 
 returns : tie.Need-returns
-returns c = answered-stopped _ _ _ (c .before .before .before .answer .given .1) _ (c .before .stop-number .ensures) _ (c .told .ensures)
+returns c = answered-stopped _ _ _ (c .before .before .before .answer .given .1) _ (c .before .stop-number .ensures) _ (c .flat-answer .ensures)
 
 returns-2 : tie.Need-returns-2
-returns-2 c = answered-refused _ _ _ (c .before .before .before .before .answer2 .given .1) _ (c .before .number .ensures) _ (c .before .before .values-of .ensures) _ (c .told2 .ensures)
+returns-2 c = answered-refused _ _ _ (c .before .before .before .before .answer2 .given .1) _ (c .before .number .ensures) _ (c .before .before .values-of .ensures) _ (c .flat-answer2 .ensures)
 
 pub answer-out-spec : {M : Type 1} → statement M
 answer-out-spec =
@@ -37,10 +37,10 @@ answer-out-spec =
     (tie.spec
     enum-known-answer
     stop-number-requires
-    told-requires
+    flat-answer-requires
     enum-known-answer-2
     values-of-requires
     number-requires
-    told-requires-2
+    flat-answer-requires-2
     returns
     returns-2)

@@ -6,7 +6,7 @@ use lib.ListN.{length, drop}
 use Rattle.constants.specs.Rate.{four}
 use Rattle.pulse_shape.specs.declared.Crossing.the-variants.{At}
 use Rattle.pulse_shape.specs.GroupDelay.{delayFrom, groupDelay}
-use Rattle.pulse_shape.proofs.Turns.{delay-stop, delay-on, delay-end}
+use Rattle.pulse_shape.proofs.LoopSteps.{delay-stop, delay-on, delay-end}
 use Rattle.pulse_group_delay.proofs.group_delay.Statement.{statement}
 use Rattle.pulse_group_delay.proofs.group_delay.Tie as tie
 

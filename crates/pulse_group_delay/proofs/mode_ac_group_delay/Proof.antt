@@ -1,6 +1,6 @@
 -- `mode_ac_group_delay` meets its contract.
 use borrow.Author.Needs.{needs}
-use Rattle.pulse_shape.proofs.Delays.{mode-ac-at, mode-ac-nowhere}
+use Rattle.pulse_shape.proofs.Delays.{mode-ac-at, mode-ac-none}
 use Rattle.pulse_group_delay.proofs.mode_ac_group_delay.Statement.{statement}
 use Rattle.pulse_group_delay.proofs.mode_ac_group_delay.Tie as tie
 
@@ -23,7 +23,7 @@ returns-2 : tie.Need-returns-2
 returns-2 c =
     let g = c .before .before in
     let a = g .before .before .args in
-    mode-ac-nowhere (a .level) (a .prototype .now) (g .group-delay .result) (g .group-delay .ensures) (c .enum-told .given .1)
+    mode-ac-none (a .level) (a .prototype .now) (g .group-delay .result) (g .group-delay .ensures) (c .enum-told .given .1)
 
 pub mode-ac-group-delay-spec : {M : Type 1} → statement M
 mode-ac-group-delay-spec =

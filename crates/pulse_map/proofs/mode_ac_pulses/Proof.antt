@@ -5,10 +5,10 @@ use mathlib.Core.List.{List}
 use mathlib.Core.Logic.{⊎-elim}
 use Prim.Native.Nat.{ℕ, _+_, _-_, _≤_}
 use lib.ListN.{length, set, length-set}
-use Rattle.mode_ac.proofs.RisingPlaces.{place-below}
-use Rattle.pulse_map.specs.ModeAC.{dataPlaces}
+use Rattle.mode_ac.proofs.RisingPositions.{position-below}
+use Rattle.pulse_map.specs.ModeAC.{dataPositions}
 use Rattle.pulse_map.proofs.Marked.{mark}
-use Rattle.pulse_map.proofs.ModeACTurns.{turn-set, turn-clear, end, framed, whole-spi, whole}
+use Rattle.pulse_map.proofs.ModeACLoop.{step-set, step-clear, end, framed, whole-spi, whole}
 use borrow.Author.Needs.{needs}
 use native.Mathlib.Omega.{arith}
 use Rattle.pulse_map.proofs.mode_ac_pulses.Statement.{statement}
@@ -18,7 +18,7 @@ abbrev Inv-loop : tie.InvT-loop
 Inv-loop «data» spi on₀ n₀ on n =
     (n ≤ 12)
     × (length on ≡ 240)
-    × (mark (dataPlaces «data» (12 - n) n) on ≡ mark (dataPlaces «data» 12 0) framed)
+    × (mark (dataPositions «data» (12 - n) n) on ≡ mark (dataPositions «data» 12 0) framed)
 
 abbrev μ-loop : tie.MeasureT-loop
 μ-loop «data» spi on₀ n₀ on n = 12 - n
@@ -32,11 +32,11 @@ loop-holds c = (search needs, refl, refl)
 bit-of-requires : tie.Need-bit-of-requires Inv-loop μ-loop
 bit-of-requires c κs = search needs
 
-place-of-requires : tie.Need-place-of-requires Inv-loop μ-loop
-place-of-requires c κs = search needs
+position-of-requires : tie.Need-position-of-requires Inv-loop μ-loop
+position-of-requires c κs = search needs
 
 array-write-on-2 : tie.Need-array-write-on-2 Inv-loop μ-loop
-array-write-on-2 c = omega (arith, place-below (c .before .before .before .before .loop .n) (c .before .before .before .loop-test .taken))
+array-write-on-2 c = omega (arith, position-below (c .before .before .before .before .loop .n) (c .before .before .before .loop-test .taken))
 
 add-n : tie.Need-add-n Inv-loop μ-loop
 add-n c = search needs
@@ -49,11 +49,11 @@ loop-again c =
     let l = c .before .before .before .loop in
     let d = c .before .before .before .before .args .«data» in
     let h = c .before .before .loop-test .taken in
-    let left : List Bool → List Bool = mark (dataPlaces d (12 - (l .n + 1)) (l .n + 1)) in (
+    let left : List Bool → List Bool = mark (dataPositions d (12 - (l .n + 1)) (l .n + 1)) in (
       search needs,
       ⊎-elim (λ t. ap length (t .2) ∙ length-set (l .on) (t .1 .result) true ∙ l .inv .1) (λ f. ap length (f .1) ∙ l .inv .1) (c .if1 .came),
-      ⊎-elim (λ t. ap left (t .2 ∙ ap (λ (p : ℕ). set (l .on) p true) (t .1 .ensures)) ∙ turn-set d (l .n) (l .on) h (sym (c .before .bit-of .ensures) ∙ t .0 .taken) ∙ l .inv .2)
-          (λ f. ap left (f .1) ∙ turn-clear d (l .n) (l .on) h (sym (c .before .bit-of .ensures) ∙ f .0 .left) ∙ l .inv .2)
+      ⊎-elim (λ t. ap left (t .2 ∙ ap (λ (p : ℕ). set (l .on) p true) (t .1 .ensures)) ∙ step-set d (l .n) (l .on) h (sym (c .before .bit-of .ensures) ∙ t .0 .taken) ∙ l .inv .2)
+          (λ f. ap left (f .1) ∙ step-clear d (l .n) (l .on) h (sym (c .before .bit-of .ensures) ∙ f .0 .left) ∙ l .inv .2)
           (c .if1 .came),
     )
 
@@ -84,7 +84,7 @@ mode-ac-pulses-spec =
     array-write-on
     loop-holds
     bit-of-requires
-    place-of-requires
+    position-of-requires
     array-write-on-2
     add-n
     loop-less

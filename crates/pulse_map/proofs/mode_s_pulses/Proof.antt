@@ -4,16 +4,16 @@ use Prim.Native.Nat.{ℕ, _+_, _-_, _*_, _≤_}
 use native.Mathlib.Nat.{sub-zero}
 use mathlib.Core.Bool.{true}
 use lib.ListN.{length, set, length-set}
-use Rattle.pulse_map.specs.ModeS.{bitOf, pairPlace, bitPlaces, modeSLength}
+use Rattle.pulse_map.specs.ModeS.{bitOf, pairPosition, bitPositions, modeSLength}
 use Rattle.pulse_map.proofs.Marked.{mark}
-use Rattle.pulse_map.proofs.ModeSTurns.{pair-place, turn, end, preambled, whole}
+use Rattle.pulse_map.proofs.ModeSLoop.{pair-position, turn, end, preambled, whole}
 use borrow.Author.Needs.{needs}
 use Rattle.pulse_map.proofs.mode_s_pulses.Statement.{statement}
 use Rattle.pulse_map.proofs.mode_s_pulses.Tie as tie
 
 abbrev Inv-loop : tie.InvT-loop
 Inv-loop long bytes bits on₀ n₀ on n =
-    (n ≤ bits) × (length on ≡ 240) × (mark (bitPlaces bytes (bits - n) n) on ≡ mark (bitPlaces bytes bits 0) preambled)
+    (n ≤ bits) × (length on ≡ 240) × (mark (bitPositions bytes (bits - n) n) on ≡ mark (bitPositions bytes bits 0) preambled)
 
 abbrev μ-loop : tie.MeasureT-loop
 μ-loop long bytes bits on₀ n₀ on n = bits - n
@@ -36,7 +36,7 @@ array-write-on-4 c = search needs
 loop-holds : tie.Need-loop-holds Inv-loop μ-loop
 loop-holds c =
     let bits = c .num-bits .result in
-    (search needs, refl, ap (λ (k : ℕ). mark (bitPlaces (c .before .args .t1) k 0) preambled) {x = bits - 0} {y = bits} (sub-zero bits))
+    (search needs, refl, ap (λ (k : ℕ). mark (bitPositions (c .before .args .t1) k 0) preambled) {x = bits - 0} {y = bits} (sub-zero bits))
 
 array-read-bit : tie.Need-array-read-bit Inv-loop μ-loop
 array-read-bit c = search needs
@@ -73,7 +73,7 @@ loop-again c =
     let bits = c .before .before .before .num-bits .result in (
       search needs,
       length-set (l .on) _ true ∙ l .inv .1,
-      ap (λ (p : ℕ). mark (bitPlaces bytes (bits - (l .n + 1)) (l .n + 1)) (set (l .on) p true)) (sym (pair-place (l .n) (c .bit .result) (search needs)) ∙ ap (pairPlace (l .n)) (c .bit .ensures .0))
+      ap (λ (p : ℕ). mark (bitPositions bytes (bits - (l .n + 1)) (l .n + 1)) (set (l .on) p true)) (sym (pair-position (l .n) (c .bit .result) (search needs)) ∙ ap (pairPosition (l .n)) (c .bit .ensures .0))
           ∙ turn bytes bits (l .n) (l .on) (c .before .loop-test .taken)
           ∙ l .inv .2,
     )
@@ -91,7 +91,7 @@ returns c =
     let a = c .before .before .before .args in
     let bits = c .before .before .num-bits .result in
     whole (a .t1) (a .long) (l .on) _
-    (sym (end (a .t1) bits (l .n) (l .on) (c .loop-test .left)) ∙ l .inv .2 ∙ ap (λ (n : ℕ). mark (bitPlaces (a .t1) n 0) preambled) (c .before .before .num-bits .ensures .0))
+    (sym (end (a .t1) bits (l .n) (l .on) (c .loop-test .left)) ∙ l .inv .2 ∙ ap (λ (n : ℕ). mark (bitPositions (a .t1) n 0) preambled) (c .before .before .num-bits .ensures .0))
     (ap (λ (n : ℕ). 16 + 2 * n) (c .before .before .num-bits .ensures .0))
 
 pub mode-s-pulses-spec : {M : Type 1} → statement M

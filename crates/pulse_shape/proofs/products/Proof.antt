@@ -4,7 +4,7 @@ use Prim.Native.Nat.{_≤_, _-_}
 use mathlib.Core.Path.{_≡_, sym, _∙_}
 use lib.Ieee.{binary32, ofBits}
 use Rattle.pulse_shape.specs.Convolve.{productsFrom}
-use Rattle.pulse_shape.proofs.Turns.{products-turn, products-end}
+use Rattle.pulse_shape.proofs.LoopSteps.{products-step, products-end}
 use Rattle.pulse_shape.proofs.products.Statement.{statement}
 use Rattle.pulse_shape.proofs.products.Tie as tie
 
@@ -43,7 +43,7 @@ loop-again : tie.Need-loop-again Inv-loop μ-loop
 loop-again c =
     let l = c .before .before .before .loop in
     let a = c .before .before .before .before .args in
-    (search needs, sym (products-turn (a .a .now) (a .b .now) (a .j) (a .end) (l .k) (l .sum) (c .before .before .loop-test .taken)) ∙ l .inv .1)
+    (search needs, sym (products-step (a .a .now) (a .b .now) (a .j) (a .end) (l .k) (l .sum) (c .before .before .loop-test .taken)) ∙ l .inv .1)
 
 returns : tie.Need-returns Inv-loop μ-loop
 returns c =

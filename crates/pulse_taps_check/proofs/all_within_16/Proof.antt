@@ -5,7 +5,7 @@ use lib.ListN.{length, drop}
 use mathlib.Core.Path.{_≡_, sym, _∙_}
 use borrow.Author.Tests.{not-true, not-false}
 use Rattle.pulse_shape.specs.Accepted.{allWithin16}
-use Rattle.pulse_shape.proofs.Turns.{within-stop, within-on, within-end}
+use Rattle.pulse_shape.proofs.LoopSteps.{within-stop, within-on, within-end}
 use Rattle.pulse_taps_check.proofs.all_within_16.Statement.{statement}
 use Rattle.pulse_taps_check.proofs.all_within_16.Tie as tie
 

@@ -7,8 +7,8 @@ use Rattle.reply_add.proofs.add_by.Tie as tie
 message-to-pulses-requires : tie.Need-message-to-pulses-requires
 message-to-pulses-requires c κs = search needs
 
-lay-late-requires : tie.Need-lay-late-requires
-lay-late-requires c κs = search needs
+pad-pulses-requires : tie.Need-pad-pulses-requires
+pad-pulses-requires c κs = search needs
 
 wave-of-requires : tie.Need-wave-of-requires
 wave-of-requires c κs = pulses-most (c .before .before .before .before .before .before .args .c .reply) _ (c .before .before .message-to-pulses .ensures)
@@ -24,14 +24,14 @@ returns c =
     let w = c .before .before .before .before .before in
     let p = w .before .before .before in
     let a = p .before .before .before .before .args in
-    by-samples (a .delays) (a .amplitude) (a .c) _ _ _ (a .prototype .now) (a .memory .now) _ (a .place) _ (p .message-to-pulses .ensures) (w .wave-of .ensures .0) (w .before .lay-late .ensures) (c .before .before .add-wave .ensures)
+    by-samples (a .delays) (a .amplitude) (a .c) _ _ _ (a .prototype .now) (a .memory .now) _ (a .slot) _ (p .message-to-pulses .ensures) (w .wave-of .ensures .0) (w .before .pad-pulses .ensures) (c .before .before .add-wave .ensures)
 
 pub add-by-spec : {M : Type 1} → statement M
 add-by-spec =
     tie.close
     (tie.spec
     message-to-pulses-requires
-    lay-late-requires
+    pad-pulses-requires
     wave-of-requires
     add-wave-requires
     same-length

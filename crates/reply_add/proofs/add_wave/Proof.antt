@@ -15,26 +15,26 @@ fill-values-requires c κs = search needs
 array-share-prefix-values : tie.Need-array-share-prefix-values
 array-share-prefix-values c = search needs
 
-slice-aggregate-add-turned : tie.Need-slice-aggregate-add-turned
-slice-aggregate-add-turned c = simp length-take (omega arith)
+slice-aggregate-add-rotated : tie.Need-slice-aggregate-add-rotated
+slice-aggregate-add-rotated c = simp length-take (omega arith)
 
-add-turned-requires : tie.Need-add-turned-requires
-add-turned-requires c κs = search needs
+add-rotated-requires : tie.Need-add-rotated-requires
+add-rotated-requires c κs = search needs
 
 cast-result : tie.Need-cast-result
 cast-result c =
     let f = c .before .before .before .before .before .before .fill-values .ensures in
-    record { fits = few _ _ _ (c .before .before .add-turned .ensures .2) (f .1) (f .2) }
+    record { fits = few _ _ _ (c .before .before .add-rotated .ensures .2) (f .1) (f .2) }
 
 same-length : tie.Need-same-length
 same-length c = search needs
 
 returns : tie.Need-returns
 returns c =
-    let t = c .before .before .add-turned .ensures in
+    let t = c .before .before .add-rotated .ensures in
     let f = c .before .before .before .before .before .before in
     let a = f .before .before .before .before .args in
-    by-wave (a .prototype .now) (a .laid .now) (a .w) _ (a .memory .now) _ (a .place) _ (f .fill-values .ensures .0) (t .0) (t .1)
+    by-wave (a .prototype .now) (a .padded .now) (a .w) _ (a .memory .now) _ (a .slot) _ (f .fill-values .ensures .0) (t .0) (t .1)
 
 pub add-wave-spec : {M : Type 1} → statement M
-add-wave-spec = tie.close (tie.spec slice-aggregate-fill-values fill-values-requires array-share-prefix-values slice-aggregate-add-turned add-turned-requires cast-result same-length returns)
+add-wave-spec = tie.close (tie.spec slice-aggregate-fill-values fill-values-requires array-share-prefix-values slice-aggregate-add-rotated add-rotated-requires cast-result same-length returns)

@@ -5,19 +5,19 @@ use mathlib.Core.Path.{_≡_}
 use mathlib.Core.List.{_++_}
 use lib.ListN.{length, take, length-set}
 use Rattle.filterbank.specs.Apply.{clockValues}
-use Rattle.reply_add.specs.AddModel.{lateValue, lateValues}
+use Rattle.reply_add.specs.AddModel.{paddedValue, paddedValues}
 use Rattle.reply_add.proofs.Filling.{fill-first, fill-next, fill-stop, fill-full}
 use Rattle.reply_add.proofs.fill_values.Statement.{statement}
 use Rattle.reply_add.proofs.fill_values.Tie as tie
 
 abbrev Inv-loop : tie.InvT-loop
-Inv-loop prototype laid step limit values₀ fuel clock₀ n₀ values clock n =
+Inv-loop prototype padded step limit values₀ fuel clock₀ n₀ values clock n =
     (n ≤ fuel)
     × (length values ≡ 1968)
-    × (take n values ++ clockValues (fuel - n) limit step (lateValue prototype laid) clock ≡ lateValues prototype laid limit step clock₀)
+    × (take n values ++ clockValues (fuel - n) limit step (paddedValue prototype padded) clock ≡ paddedValues prototype padded limit step clock₀)
 
 abbrev μ-loop : tie.MeasureT-loop
-μ-loop prototype laid step limit values₀ fuel clock₀ n₀ values clock n = fuel - n
+μ-loop prototype padded step limit values₀ fuel clock₀ n₀ values clock n = fuel - n
 
 mul-fuel : tie.Need-mul-fuel Inv-loop μ-loop
 mul-fuel c = search needs
@@ -25,7 +25,7 @@ mul-fuel c = search needs
 loop-holds : tie.Need-loop-holds Inv-loop μ-loop
 loop-holds c =
     let a = c .before .before .args in
-    (search needs, search needs, fill-first (lateValue (a .prototype .now) (a .laid .now)) (a .limit) (a .step) (8 * a .limit) (a .values .now) (a .first))
+    (search needs, search needs, fill-first (paddedValue (a .prototype .now) (a .padded .now)) (a .limit) (a .step) (8 * a .limit) (a .values .now) (a .first))
 
 same-length : tie.Need-same-length Inv-loop μ-loop
 same-length c = search needs
@@ -34,7 +34,7 @@ returns : tie.Need-returns Inv-loop μ-loop
 returns c =
     let l = c .before .before .before .loop in
     let a = c .before .before .before .before .before .before .args in
-    (fill-stop (lateValue (a .prototype .now) (a .laid .now)) (a .limit) (a .step) (8 * a .limit - l .n) (l .n) (l .values) (l .clock) _ (c .if1 .taken) (l .inv .2), search needs, l .inv .1)
+    (fill-stop (paddedValue (a .prototype .now) (a .padded .now)) (a .limit) (a .step) (8 * a .limit - l .n) (l .n) (l .values) (l .clock) _ (c .if1 .taken) (l .inv .2), search needs, l .inv .1)
 
 value-at-requires : tie.Need-value-at-requires Inv-loop μ-loop
 value-at-requires c κs = search needs
@@ -63,7 +63,7 @@ loop-again c =
     let a = b .args in (
       search needs,
       simp length-set (search needs),
-      fill-next (lateValue (a .prototype .now) (a .laid .now)) (a .limit) (a .step) (8 * a .limit) (l .n) (l .values) (l .clock) _ _ _ (t .loop-test .taken) (search needs) (i .if1 .left) (b .pre .1) (c .before .value-at .ensures) (c .advance .ensures) (l .inv .2),
+      fill-next (paddedValue (a .prototype .now) (a .padded .now)) (a .limit) (a .step) (8 * a .limit) (l .n) (l .values) (l .clock) _ _ _ (t .loop-test .taken) (search needs) (i .if1 .left) (b .pre .1) (c .before .value-at .ensures) (c .advance .ensures) (l .inv .2),
     )
 
 same-length-2 : tie.Need-same-length-2 Inv-loop μ-loop
@@ -73,7 +73,7 @@ returns-2 : tie.Need-returns-2 Inv-loop μ-loop
 returns-2 c =
     let l = c .before .loop in
     let a = c .before .before .before .before .args in
-    (fill-full (lateValue (a .prototype .now) (a .laid .now)) (a .limit) (a .step) (8 * a .limit) (l .n) (l .values) (l .clock) _ (c .loop-test .left) (l .inv .2), search needs, l .inv .1)
+    (fill-full (paddedValue (a .prototype .now) (a .padded .now)) (a .limit) (a .step) (8 * a .limit) (l .n) (l .values) (l .clock) _ (c .loop-test .left) (l .inv .2), search needs, l .inv .1)
 
 pub fill-values-spec : {M : Type 1} → statement M
 fill-values-spec = tie.close (tie.spec Inv-loop μ-loop mul-fuel loop-holds same-length returns value-at-requires mul-values slice-write-values advance-requires add-n loop-less loop-again same-length-2 returns-2)

@@ -4,7 +4,7 @@ use mathlib.Core.Bool.{true, false}
 use mathlib.Core.Path.{_≡_, _∙_}
 use Rattle.constants.specs.Rate.{four}
 use Rattle.pulse_length.specs.Length.{modeSNumSamples}
-use Rattle.reply_pulses.proofs.Places.{samples-short, samples-long, samples-mode-ac}
+use Rattle.reply_pulses.proofs.Positions.{samples-short, samples-long, samples-mode-ac}
 use Rattle.reply_pulses.proofs.message_num_samples.Statement.{statement}
 use Rattle.reply_pulses.proofs.message_num_samples.Tie as tie
 

@@ -3,7 +3,7 @@ use borrow.Author.Needs.{needs}
 use mathlib.Core.Bool.{false}
 use mathlib.Core.Path.{_≡_, _∙_}
 use Rattle.pulse_map.specs.ModeS.{modeSPulses}
-use Rattle.reply_pulses.proofs.Places.{of-short, of-long, of-mode-ac}
+use Rattle.reply_pulses.proofs.Positions.{of-short, of-long, of-mode-ac}
 use Rattle.reply_pulses.proofs.message_to_pulses.Statement.{statement}
 use Rattle.reply_pulses.proofs.message_to_pulses.Tie as tie
 

@@ -1,6 +1,6 @@
 -- `mode_ac_data` meets its contract.
 use borrow.Author.Needs.{needs}
-use Rattle.reply_pulses.proofs.Places.{data-is}
+use Rattle.reply_pulses.proofs.Positions.{data-is}
 use Rattle.reply_pulses.proofs.mode_ac_data.Statement.{statement}
 use Rattle.reply_pulses.proofs.mode_ac_data.Tie as tie
 

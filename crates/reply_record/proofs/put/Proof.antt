@@ -3,7 +3,7 @@ use borrow.Author.Needs.{needs}
 use mathlib.Core.Path.{sym, _∙_}
 use native.Mathlib.Omega.{arith}
 use Rattle.reply_record.specs.Record.{floatBytes, otherBytes, recordBytes}
-use Rattle.reply_record.proofs.Laid.{next, room, record-there, record-past}
+use Rattle.reply_record.proofs.Overwritten.{next, room, record-there, record-past}
 use Rattle.reply_record.proofs.RecordLength.{float-length}
 use Rattle.reply_record.proofs.put.Statement.{statement}
 use Rattle.reply_record.proofs.put.Tie as tie

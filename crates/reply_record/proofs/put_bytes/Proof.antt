@@ -4,19 +4,19 @@ use Prim.Native.Nat.{_-_, _≤_}
 use mathlib.Core.Path.{_≡_, ap, _∙_}
 use lib.ListN.{length, take, length-set}
 use lib.Seq.{take-all}
-use Rattle.le_read.specs.LeBytes.{laid}
-use Rattle.reply_record.proofs.Laid.{none-laid, next-byte}
+use Rattle.le_read.specs.LeBytes.{overwritten}
+use Rattle.reply_record.proofs.Overwritten.{none-overwritten, next-byte}
 use Rattle.reply_record.proofs.put_bytes.Statement.{statement}
 use Rattle.reply_record.proofs.put_bytes.Tie as tie
 
 abbrev Inv-loop : tie.InvT-loop
-Inv-loop d₀ at b k₀ d k = (k ≤ 14) × (length d ≡ length d₀) × (d ≡ laid d₀ at (take k b))
+Inv-loop d₀ at b k₀ d k = (k ≤ 14) × (length d ≡ length d₀) × (d ≡ overwritten d₀ at (take k b))
 
 abbrev μ-loop : tie.MeasureT-loop
 μ-loop d₀ at b k₀ d k = 14 - k
 
 loop-holds : tie.Need-loop-holds Inv-loop μ-loop
-loop-holds c = (search needs, search needs, none-laid (c .args .d .now) (c .args .at))
+loop-holds c = (search needs, search needs, none-overwritten (c .args .d .now) (c .args .at))
 
 array-read-d : tie.Need-array-read-d Inv-loop μ-loop
 array-read-d c = search needs
@@ -48,7 +48,7 @@ returns c =
     let l = c .before .loop in
     let s = c .before .before in
     let h : length (s .args .t3) ≡ 14 = search needs in
-    l .inv .2 ∙ ap (laid (s .args .d .now) (s .args .at)) (take-all (l .k) (s .args .t3) (search needs))
+    l .inv .2 ∙ ap (overwritten (s .args .d .now) (s .args .at)) (take-all (l .k) (s .args .t3) (search needs))
 
 pub put-bytes-spec : {M : Type 1} → statement M
 put-bytes-spec =

@@ -1,6 +1,6 @@
 -- `reply_record::put_floats` meets its contract.
 use borrow.Author.Needs.{needs}
-use Rattle.reply_record.proofs.Laid.{floats-laid}
+use Rattle.reply_record.proofs.Overwritten.{floats-overwritten}
 use Rattle.reply_record.proofs.put_floats.Statement.{statement}
 use Rattle.reply_record.proofs.put_floats.Tie as tie
 
@@ -37,7 +37,7 @@ same-length c = search needs
 returns : tie.Need-returns
 returns c =
     let s = c .before .before .before .before .before .before .before .before .before .before .before .before .before .before .before .before .before .before .before .before .before in
-    floats-laid (s .args .d .now) (s .args .at) (s .args .c) (s .pre) (c .before .before .before .before .before .before .before .before .before .before .before .before .before .before .before .before .before .before .put-f64 .ensures .1) (c .before .before .before .before .before .before .before .before .before .before .before .before .before .before .put-f642 .ensures .1) (c .before .before .before .before .before .before .before .before .before .before .put-f643 .ensures .1) (c .before .before .before .before .before .before .put-f644 .ensures .1) (c .before .before .put-f645 .ensures .1)
+    floats-overwritten (s .args .d .now) (s .args .at) (s .args .c) (s .pre) (c .before .before .before .before .before .before .before .before .before .before .before .before .before .before .before .before .before .before .put-f64 .ensures .1) (c .before .before .before .before .before .before .before .before .before .before .before .before .before .before .put-f642 .ensures .1) (c .before .before .before .before .before .before .before .before .before .before .put-f643 .ensures .1) (c .before .before .before .before .before .before .put-f644 .ensures .1) (c .before .before .put-f645 .ensures .1)
 
 pub put-floats-spec : {M : Type 1} → statement M
 put-floats-spec =

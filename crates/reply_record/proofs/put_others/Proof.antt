@@ -1,6 +1,6 @@
 -- `reply_record::put_others` meets its contract.
 use borrow.Author.Needs.{needs}
-use Rattle.reply_record.proofs.Laid.{others-laid}
+use Rattle.reply_record.proofs.Overwritten.{others-overwritten}
 use Rattle.reply_record.proofs.put_others.Statement.{statement}
 use Rattle.reply_record.proofs.put_others.Tie as tie
 
@@ -41,7 +41,7 @@ returns : tie.Need-returns
 returns c =
     let s = c .before .before .before .before .before .before .before .before .before .before .before .before .before .before .before .before .before .before .before .before .before .before .before in
     let a = s .args in
-    others-laid (a .d .now) (a .at) (a .reply) (a .first) (a .kind) (a .count) (c .before .before .before .before .before .before .before .before .before .before .before .before .before .before .before .before .before .before .before .before .message-length .result) (s .pre) (c .before .before .before .before .before .before .before .before .before .before .before .before .before .before .before .before .before .before .before .before .message-length .ensures) (c .before .before .before .before .before .before .before .before .before .before .before .before .before .before .before .before .before .before .put-u64 .ensures .1) (c .before .before .before .before .before .before .before .before .before .before .before .before .before .before .put-u8 .ensures) (c .before .before .before .before .before .before .before .before .before .before .put-u16 .ensures .1) (c .before .before .before .before .before .before .put-u82 .ensures) (c .before .before .put-bytes .ensures)
+    others-overwritten (a .d .now) (a .at) (a .reply) (a .first) (a .kind) (a .count) (c .before .before .before .before .before .before .before .before .before .before .before .before .before .before .before .before .before .before .before .before .message-length .result) (s .pre) (c .before .before .before .before .before .before .before .before .before .before .before .before .before .before .before .before .before .before .before .before .message-length .ensures) (c .before .before .before .before .before .before .before .before .before .before .before .before .before .before .before .before .before .before .put-u64 .ensures .1) (c .before .before .before .before .before .before .before .before .before .before .before .before .before .before .put-u8 .ensures) (c .before .before .before .before .before .before .before .before .before .before .put-u16 .ensures .1) (c .before .before .before .before .before .before .put-u82 .ensures) (c .before .before .put-bytes .ensures)
 
 pub put-others-spec : {M : Type 1} → statement M
 put-others-spec =

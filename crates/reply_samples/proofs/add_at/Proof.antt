@@ -1,6 +1,6 @@
 -- `add_at` meets its contract.
 use borrow.Author.Needs.{needs}
-use Rattle.reply_samples.proofs.Turns.{two-writes}
+use Rattle.reply_samples.proofs.LoopSteps.{two-writes}
 use Rattle.reply_samples.proofs.add_at.Statement.{statement}
 use Rattle.reply_samples.proofs.add_at.Tie as tie
 
@@ -24,7 +24,7 @@ returns c =
     let a = c .before .before .before .before .before .before .before .before .before .args in
     let first = c .before .before .before .before .before .before .add-to .ensures in
     let second = c .before .before .add-to2 .ensures in
-    let e = two-writes (a .memory .now) _ _ (a .place) (a .z) first second in
+    let e = two-writes (a .memory .now) _ _ (a .slot) (a .z) first second in
     (e, search needs)
 
 pub add-at-spec : {M : Type 1} → statement M

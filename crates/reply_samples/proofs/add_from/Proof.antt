@@ -4,20 +4,20 @@ use Prim.Native.Nat.{_<_, _-_}
 use mathlib.Core.Path.{_≡_, refl}
 use lib.ListN.{length}
 use Rattle.constants.specs.Rate.{four}
-use Rattle.reply_samples.specs.Samples.{turned}
+use Rattle.reply_samples.specs.Samples.{rotated}
 use Rattle.reply_samples.specs.RingModel.{addedFrom}
-use Rattle.reply_samples.proofs.Turns.{addedRest, turn-next, turn-end}
+use Rattle.reply_samples.proofs.LoopSteps.{addedRest, step-next, step-end}
 use Rattle.reply_samples.proofs.add_from.Statement.{statement}
 use Rattle.reply_samples.proofs.add_from.Tie as tie
 
 abbrev Inv-loop : tie.InvT-loop
-Inv-loop values amplitude rate first memory₀ place count phase₀ at₀ i₀ memory phase at i =
+Inv-loop values amplitude rate first memory₀ slot count phase₀ at₀ i₀ memory phase at i =
     (length memory ≡ 2252)
     × (at < 1126)
-    × (addedRest amplitude rate values i memory at phase ≡ addedFrom four memory₀ place (turned amplitude rate first values))
+    × (addedRest amplitude rate values i memory at phase ≡ addedFrom four memory₀ slot (rotated amplitude rate first values))
 
 abbrev μ-loop : tie.MeasureT-loop
-μ-loop values amplitude rate first memory₀ place count phase₀ at₀ i₀ memory phase at i = length values - i
+μ-loop values amplitude rate first memory₀ slot count phase₀ at₀ i₀ memory phase at i = length values - i
 
 loop-holds : tie.Need-loop-holds Inv-loop μ-loop
 loop-holds c = (search needs, search needs, refl)
@@ -37,8 +37,8 @@ sample-at-requires c κs = search needs
 add-at-requires : tie.Need-add-at-requires Inv-loop μ-loop
 add-at-requires c κs = search needs
 
-next-place-requires : tie.Need-next-place-requires Inv-loop μ-loop
-next-place-requires c κs = search needs
+next-slot-requires : tie.Need-next-slot-requires Inv-loop μ-loop
+next-slot-requires c κs = search needs
 
 add-i : tie.Need-add-i Inv-loop μ-loop
 add-i c = search needs
@@ -53,8 +53,8 @@ loop-again c =
     let a = t .before .before .before .before .args in
     let s = c .before .before .before in (
       s .add-at .ensures .1,
-      c .next-place .ensures .1,
-      turn-next (a .amplitude) (a .rate) (a .values .now) (l .i) (l .memory) _ (l .at) _ (l .phase) _ _ _ _ (t .loop-test .taken) refl (s .before .before .sample-at .ensures) (s .add-at .ensures .0) (c .before .before .before .before .before .before .before .phase-wrap-once-f64 .ensures) (c .next-place .ensures .0) (l .inv .2),
+      c .next-slot .ensures .1,
+      step-next (a .amplitude) (a .rate) (a .values .now) (l .i) (l .memory) _ (l .at) _ (l .phase) _ _ _ _ (t .loop-test .taken) refl (s .before .before .sample-at .ensures) (s .add-at .ensures .0) (c .before .before .before .before .before .before .before .phase-wrap-once-f64 .ensures) (c .next-slot .ensures .0) (l .inv .2),
     )
 
 same-length : tie.Need-same-length Inv-loop μ-loop
@@ -64,7 +64,7 @@ returns : tie.Need-returns Inv-loop μ-loop
 returns c =
     let l = c .before .loop in
     let a = c .before .before .before .before .args in
-    turn-end (a .amplitude) (a .rate) (a .values .now) (l .i) (l .memory) (l .at) (l .phase) _ (c .loop-test .left) (l .inv .2)
+    step-end (a .amplitude) (a .rate) (a .values .now) (l .i) (l .memory) (l .at) (l .phase) _ (c .loop-test .left) (l .inv .2)
 
 pub add-from-spec : {M : Type 1} → statement M
-add-from-spec = tie.close (tie.spec Inv-loop μ-loop loop-holds phase-wrap-once-f64-requires mul-sample-at shared-slice-read-sample-at sample-at-requires add-at-requires next-place-requires add-i loop-less loop-again same-length returns)
+add-from-spec = tie.close (tie.spec Inv-loop μ-loop loop-holds phase-wrap-once-f64-requires mul-sample-at shared-slice-read-sample-at sample-at-requires add-at-requires next-slot-requires add-i loop-less loop-again same-length returns)

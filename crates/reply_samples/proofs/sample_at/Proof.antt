@@ -1,6 +1,6 @@
 -- `sample_at` meets its contract.
 use borrow.Author.Needs.{needs}
-use Rattle.reply_samples.proofs.Turns.{sample-is}
+use Rattle.reply_samples.proofs.LoopSteps.{sample-is}
 use Rattle.reply_samples.proofs.sample_at.Statement.{statement}
 use Rattle.reply_samples.proofs.sample_at.Tie as tie
 

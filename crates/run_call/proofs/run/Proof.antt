@@ -5,7 +5,7 @@ use lib.ListN.{length}
 use Rattle.run_call_checks.specs.Checks.{wrongMemory}
 use Rattle.run_call_checks.specs.ChecksModel.{wrongBuffers}
 use Rattle.run_call_checks.proofs.Lengths.{right-memory}
-use Rattle.run_call.proofs.Refusing.{lent-refused, draw-refused, noise-refused, not-refused}
+use Rattle.run_call.proofs.Refusing.{buffers-refused, draw-refused, noise-refused, not-refused}
 use borrow.Author.Needs.{needs}
 use Rattle.run_call.proofs.run.Statement.{statement}
 use Rattle.run_call.proofs.run.Tie as tie
@@ -28,7 +28,7 @@ refused-requires c κs = search needs
 returns : tie.Need-returns
 returns c =
     let a = c .before .before .before .before .before .before .before .before .before .before .args in
-    lent-refused (a .s) (a .mode-s .now) (a .mode-ac .now) (a .memory .now) (a .draws .now) (a .noise .now) (a .output .now) (a .records .now) (sym (c .before .before .lengths-wrong .ensures) ∙ c .before .if1 .taken) _ (c .refused .ensures)
+    buffers-refused (a .s) (a .mode-s .now) (a .mode-ac .now) (a .memory .now) (a .draws .now) (a .noise .now) (a .output .now) (a .records .now) (sym (c .before .before .lengths-wrong .ensures) ∙ c .before .if1 .taken) _ (c .refused .ensures)
 
 check-draws-requires : tie.Need-check-draws-requires
 check-draws-requires c κs = search needs
@@ -50,8 +50,8 @@ enum-told c = search needs
 check-noise-requires : tie.Need-check-noise-requires
 check-noise-requires c κs = search needs
 
-enum-known-loud : tie.Need-enum-known-loud
-enum-known-loud c = search needs
+enum-known-noise-fault : tie.Need-enum-known-noise-fault
+enum-known-noise-fault c = search needs
 
 refused-requires-3 : tie.Need-refused-requires-3
 refused-requires-3 c κs = search needs
@@ -59,7 +59,7 @@ refused-requires-3 c κs = search needs
 returns-3 : tie.Need-returns-3
 returns-3 c =
     let a = c .before .before .before .before .before .before .before .before .before .before .before .before .before .before .before .before .before .before .before .args in
-    noise-refused (a .s) (a .mode-s .now) (a .mode-ac .now) (a .memory .now) (a .draws .now) (a .noise .now) (a .output .now) (a .records .now) (right (c .before .before .before .before .before .before .before .before .before .before)) _ (c .before .before .before .before .before .before .before .check-draws .ensures) (c .before .before .before .before .before .enum-told .given .1) _ (c .before .before .before .before .check-noise .ensures) _ (c .before .before .loud .given .1) _ (c .refused3 .ensures)
+    noise-refused (a .s) (a .mode-s .now) (a .mode-ac .now) (a .memory .now) (a .draws .now) (a .noise .now) (a .output .now) (a .records .now) (right (c .before .before .before .before .before .before .before .before .before .before)) _ (c .before .before .before .before .before .before .before .check-draws .ensures) (c .before .before .before .before .before .enum-told .given .1) _ (c .before .before .before .before .check-noise .ensures) _ (c .before .before .noise-fault .given .1) _ (c .refused3 .ensures)
 
 enum-told-2 : tie.Need-enum-told-2
 enum-told-2 c = search needs
@@ -96,7 +96,7 @@ run-spec =
     returns-2
     enum-told
     check-noise-requires
-    enum-known-loud
+    enum-known-noise-fault
     refused-requires-3
     returns-3
     enum-told-2

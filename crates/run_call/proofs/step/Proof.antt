@@ -10,7 +10,7 @@ sized : (b : tie.Start) → Sized (b .args .s .total) (b .args .t .taken) (lengt
 sized b = record { run-in = b .pre .3; draws-in = b .pre .2; output-in = omega (arith, b); records-in = omega (arith, b) }
 
 -- the turn with its plan, seen from where its turn is made
-abbrev planned : tie.After-moved → Planned
+abbrev planned : tie.After-after-step → Planned
 planned z =
     let n = z .before .before .before in
     let b = n .before .before .before .before .before .before .before .before .before .before in
@@ -24,7 +24,7 @@ planned z =
       rest = a .rest .now;
       output = a .output .now;
       records = a .records .now;
-      next = n .pending .result;
+      last = n .pending .result;
       plan = z .before .choose .result;
       memory-is = b .pre .0;
       inside = b .pre .1;
@@ -54,8 +54,8 @@ pending-requires c κs = search needs
 choose-requires : tie.Need-choose-requires
 choose-requires c κs = search needs
 
-moved-requires : tie.Need-moved-requires
-moved-requires c κs = search needs
+after-step-requires : tie.Need-after-step-requires
+after-step-requires c κs = search needs
 
 enum-told : tie.Need-enum-told
 enum-told c = search needs
@@ -89,7 +89,7 @@ add-requires c κs = search needs
 
 returns : tie.Need-returns
 returns c =
-    let z = c .before .before in halted (planned z) _ (c .enum-told .given .1) _ (z .moved .ensures)
+    let z = c .before .before in halted (planned z) _ (c .enum-told .given .1) _ (z .after-step .ensures)
 
 same-length : tie.Need-same-length
 same-length c = search needs
@@ -102,7 +102,7 @@ returns-2 c =
     let w = c .before .before .before .before in
     let p = w .before .before .before .before in
     let z = p .before .before in
-    drained (planned z) _ (p .p .given .1) _ _ _ (z .moved .ensures) (w .write-due .ensures)
+    drained (planned z) _ (p .p .given .1) _ _ _ (z .after-step .ensures) (w .write-due .ensures)
 
 same-length-3 : tie.Need-same-length-3
 same-length-3 c = search needs
@@ -115,15 +115,15 @@ returns-3 c =
     let w = c .before .before .before .before in
     let p = w .before .before .before .before in
     let z = p .before .before in
-    dued (planned z) _ _ (p .p2 .given .1) _ _ _ (z .moved .ensures) (w .write-due2 .ensures)
+    dued (planned z) _ _ (p .p2 .given .1) _ _ _ (z .after-step .ensures) (w .write-due2 .ensures)
 
 returns-4 : tie.Need-returns-4
 returns-4 c =
-    let z = c .before .before in skipped (planned z) _ (c .enum-told2 .given .1) _ (z .moved .ensures)
+    let z = c .before .before in skipped (planned z) _ (c .enum-told2 .given .1) _ (z .after-step .ensures)
 
 returns-5 : tie.Need-returns-5
 returns-5 c =
-    let z = c .before .before in ended-by (planned z) _ (c .enum-told3 .given .1) _ (z .moved .ensures)
+    let z = c .before .before in ended-by (planned z) _ (c .enum-told3 .given .1) _ (z .after-step .ensures)
 
 same-length-5 : tie.Need-same-length-5
 same-length-5 c = search needs
@@ -136,7 +136,7 @@ returns-6 c =
     let w = c .before .before .before .before in
     let p = w .before .before .before .before in
     let z = p .before .before in
-    added (planned z) _ _ (p .p3 .given .1) _ _ _ (z .moved .ensures) (w .add .ensures .0) (w .add .ensures .1)
+    added (planned z) _ _ (p .p3 .given .1) _ _ _ (z .after-step .ensures) (w .add .ensures .0) (w .add .ensures .1)
 
 pub step-spec : {M : Type 1} → statement M
 step-spec =
@@ -149,7 +149,7 @@ step-spec =
     mul-choose
     sub-choose-3
     choose-requires
-    moved-requires
+    after-step-requires
     enum-told
     enum-known-p
     write-due-requires

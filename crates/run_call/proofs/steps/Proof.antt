@@ -1,7 +1,7 @@
 -- `steps` meets its contract: at each turn the rest of the call is the whole call (`Going`), and what the step gave says which of three ways it goes on.
 use mathlib.Core.Path.{sym, _∙_}
 use lib.ListN.{length}
-use Rattle.run_call.proofs.Going.{Going, starts, turnsLeft, Gave, tail-is, wrote-less, wrote-again, took-bytes, took-less, took-again, halted-samples, stopped-left}
+use Rattle.run_call.proofs.Going.{Going, starts, stepsLeft, Gave, tail-is, samples-written-less, samples-written-again, draw-taken-bytes, draw-taken-less, draw-taken-again, stop-reached-samples, stopped-left}
 use borrow.Author.Needs.{needs}
 use native.Mathlib.Omega.{arith}
 use Rattle.run_call.proofs.steps.Statement.{statement}
@@ -13,7 +13,7 @@ Inv-loop s mode-s mode-ac memory₀ draws noise output₀ records₀ t₀ rest�
 
 abbrev μ-loop : tie.MeasureT-loop
 μ-loop s mode-s mode-ac memory₀ draws noise output₀ records₀ t₀ rest₀ memory output records t rest =
-    turnsLeft (length rest) (length output) t
+    stepsLeft (length rest) (length output) t
 
 -- what the step gave, at the place after it
 abbrev Went : tie.After-step Inv-loop μ-loop → Type 0
@@ -26,11 +26,11 @@ Went c =
 went : (c : tie.After-step Inv-loop μ-loop) → Went c
 went c = record { is = c .step .ensures; m-is = c .step .kept .1 .1 .1 .1 .0; o-is = c .step .kept .1 .1 .1 .1 .1 .1 .1 .0; r-is = c .step .kept .1 .1 .1 .1 .1 .1 .1 .1 .0 }
 
-first-turn-requires : tie.Need-first-turn-requires Inv-loop μ-loop
-first-turn-requires c κs = search needs
+initial-progress-requires : tie.Need-initial-progress-requires Inv-loop μ-loop
+initial-progress-requires c κs = search needs
 
 loop-holds : tie.Need-loop-holds Inv-loop μ-loop
-loop-holds c = let a = c .before .before .before .before .before .before .before .before .args in starts (a .s) (a .mode-s .now) (a .mode-ac .now) (a .memory .now) (a .draws .now) (a .noise .now) (a .output .now) (a .records .now) _ (c .first-turn .ensures) (c .before .before .before .before .before .before .before .before .pre)
+loop-holds c = let a = c .before .before .before .before .before .before .before .before .args in starts (a .s) (a .mode-s .now) (a .mode-ac .now) (a .memory .now) (a .draws .now) (a .noise .now) (a .output .now) (a .records .now) _ (c .initial-progress .ensures) (c .before .before .before .before .before .before .before .before .pre)
 
 step-requires : tie.Need-step-requires Inv-loop μ-loop
 step-requires c κs =
@@ -43,12 +43,12 @@ enum-told c = search needs
 loop-less : tie.Need-loop-less Inv-loop μ-loop
 loop-less c =
     let z = c .before .before .before .before .before .before .before .before in
-    wrote-less (z .before .before .before .before .loop .inv) (went z) (c .enum-told .given .1)
+    samples-written-less (z .before .before .before .before .loop .inv) (went z) (c .enum-told .given .1)
 
 loop-again : tie.Need-loop-again Inv-loop μ-loop
 loop-again c =
     let z = c .before .before .before .before .before .before .before .before in
-    wrote-again (z .before .before .before .before .loop .inv) (went z) (c .enum-told .given .1)
+    samples-written-again (z .before .before .before .before .loop .inv) (went z) (c .enum-told .given .1)
 
 enum-told-2 : tie.Need-enum-told-2 Inv-loop μ-loop
 enum-told-2 c = search needs
@@ -56,12 +56,12 @@ enum-told-2 c = search needs
 sub-rest : tie.Need-sub-rest Inv-loop μ-loop
 sub-rest c =
     let z = c .before .before .before .before .before .before .before .before in
-    took-bytes (z .before .before .before .before .loop .inv) (went z) (c .enum-told2 .given .1)
+    draw-taken-bytes (z .before .before .before .before .loop .inv) (went z) (c .enum-told2 .given .1)
 
 part-rest-start : tie.Need-part-rest-start Inv-loop μ-loop
 part-rest-start c =
     let z = c .before .before .before .before .before .before .before .before in
-    took-bytes (z .before .before .before .before .loop .inv) (went z) (c .enum-told2 .given .1)
+    draw-taken-bytes (z .before .before .before .before .loop .inv) (went z) (c .enum-told2 .given .1)
 
 part-rest-end : tie.Need-part-rest-end Inv-loop μ-loop
 part-rest-end c = search needs
@@ -69,20 +69,20 @@ part-rest-end c = search needs
 loop-less-2 : tie.Need-loop-less-2 Inv-loop μ-loop
 loop-less-2 c =
     let z = c .before .before .before .before .before .before .before .before .before in
-    rw tail-is (took-less (z .before .before .before .before .loop .inv) (went z) (c .before .enum-told2 .given .1))
+    rw tail-is (draw-taken-less (z .before .before .before .before .loop .inv) (went z) (c .before .enum-told2 .given .1))
 
 loop-again-2 : tie.Need-loop-again-2 Inv-loop μ-loop
 loop-again-2 c =
     let z = c .before .before .before .before .before .before .before .before .before in
-    rw tail-is (took-again (z .before .before .before .before .loop .inv) (went z) (c .before .enum-told2 .given .1))
+    rw tail-is (draw-taken-again (z .before .before .before .before .loop .inv) (went z) (c .before .enum-told2 .given .1))
 
-enum-known-next : tie.Need-enum-known-next Inv-loop μ-loop
-enum-known-next c = search needs
+enum-known-last : tie.Need-enum-known-last Inv-loop μ-loop
+enum-known-last c = search needs
 
 stopped-at-requires : tie.Need-stopped-at-requires Inv-loop μ-loop
 stopped-at-requires c κs =
     let z = c .before .before .before .before .before .before .before .before .before in
-    omega (arith, halted-samples (z .before .before .before .before .loop .inv) (went z) _ (c .before .next .given .1), z .before .before .before .before .before .before .before .before .before .before .before .before .before)
+    omega (arith, stop-reached-samples (z .before .before .before .before .loop .inv) (went z) _ (c .before .last .given .1), z .before .before .before .before .before .before .before .before .before .before .before .before .before)
 
 same-length : tie.Need-same-length Inv-loop μ-loop
 same-length c =
@@ -98,7 +98,7 @@ same-length-3 c = let z = c .before .before .before .before .before .before .bef
 returns : tie.Need-returns Inv-loop μ-loop
 returns c =
     let z = c .before .before .before .before .before .before .before .before .before .before in
-    stopped-left (z .before .before .before .before .loop .inv) (went z) _ _ (c .before .before .next .given .1) (c .stopped-at .ensures)
+    stopped-left (z .before .before .before .before .loop .inv) (went z) _ _ (c .before .before .last .given .1) (c .stopped-at .ensures)
 
 pub steps-spec : {M : Type 1} → statement M
 steps-spec =
@@ -106,7 +106,7 @@ steps-spec =
     (tie.spec
     Inv-loop
     μ-loop
-    first-turn-requires
+    initial-progress-requires
     loop-holds
     step-requires
     enum-told
@@ -118,7 +118,7 @@ steps-spec =
     part-rest-end
     loop-less-2
     loop-again-2
-    enum-known-next
+    enum-known-last
     stopped-at-requires
     same-length
     same-length-2

@@ -2,7 +2,7 @@
 use Prim.Native.Nat.{_-_, _≤_}
 use mathlib.Core.Path.{_≡_}
 use lib.ListN.{length, length-set}
-use Rattle.run_call_model.specs.Buffers.{laid}
+use Rattle.run_call_model.specs.Buffers.{overwritten}
 use Rattle.run_theory.specs.Zeros.{zeros}
 use Rattle.run_due_samples.proofs.Stretches.{clear-first, clear-next, all-cleared}
 use borrow.Author.Needs.{needs}
@@ -10,7 +10,7 @@ use Rattle.run_due_samples.proofs.clear_stretch.Statement.{statement}
 use Rattle.run_due_samples.proofs.clear_stretch.Tie as tie
 
 abbrev Inv-loop : tie.InvT-loop
-Inv-loop memory₀ p len i₀ memory i = (i ≤ len) × (length memory ≡ length memory₀) × (memory ≡ laid p (zeros i) memory₀)
+Inv-loop memory₀ p len i₀ memory i = (i ≤ len) × (length memory ≡ length memory₀) × (memory ≡ overwritten p (zeros i) memory₀)
 
 abbrev μ-loop : tie.MeasureT-loop
 μ-loop memory₀ p len i₀ memory i = len - i

@@ -1,5 +1,5 @@
 -- `fits` meets its contract: each test is one fact of `Fits`.
-use Rattle.run_due_samples.proofs.LentTest.{fits-if, fits-not}
+use Rattle.run_due_samples.proofs.BuffersTest.{fits-if, fits-not}
 use borrow.Author.Needs.{needs}
 use native.Mathlib.Omega.{arith}
 use Rattle.run_due_samples.proofs.fits.Statement.{statement}

@@ -2,7 +2,7 @@
 use Prim.Native.Nat.{_-_, _≤_}
 use mathlib.Core.Path.{_≡_}
 use lib.ListN.{length, drop, take, length-set}
-use Rattle.run_call_model.specs.Buffers.{laid}
+use Rattle.run_call_model.specs.Buffers.{overwritten}
 use Rattle.run_due_samples.specs.DueModel.{mix}
 use Rattle.run_due_samples.proofs.Stretches.{mix-first, mix-next, all-mixed}
 use borrow.Author.Needs.{needs}
@@ -10,7 +10,7 @@ use Rattle.run_due_samples.proofs.mix_stretch.Statement.{statement}
 use Rattle.run_due_samples.proofs.mix_stretch.Tie as tie
 
 abbrev Inv-loop : tie.InvT-loop
-Inv-loop memory noise output₀ p from at len i₀ output i = (i ≤ len) × (length output ≡ length output₀) × (output ≡ laid at (mix (drop p memory) (take i (drop from noise))) output₀)
+Inv-loop memory noise output₀ p from at len i₀ output i = (i ≤ len) × (length output ≡ length output₀) × (output ≡ overwritten at (mix (drop p memory) (take i (drop from noise))) output₀)
 
 abbrev μ-loop : tie.MeasureT-loop
 μ-loop memory noise output₀ p from at len i₀ output i = len - i

@@ -2,7 +2,7 @@
 use mathlib.Core.Path.{sym, _∙_}
 use lib.ListN.{length}
 use borrow.Author.Tests.{not-true, not-false}
-use Rattle.run_due_samples.proofs.LentTest.{Fits, fits-for, unchanged, changed}
+use Rattle.run_due_samples.proofs.BuffersTest.{Fits, fits-for, unchanged, changed}
 use borrow.Author.Needs.{needs}
 use native.Mathlib.Omega.{arith}
 use Rattle.run_due_samples.proofs.write_due.Statement.{statement}

@@ -28,14 +28,14 @@ mode-s-delay-requires c κs = search needs
 mode-ac-delay-requires : tie.Need-mode-ac-delay-requires
 mode-ac-delay-requires c κs = search needs
 
-decide-requires : tie.Need-decide-requires
-decide-requires c κs = search needs
+first-state-or-refusal-requires : tie.Need-first-state-or-refusal-requires
+first-state-or-refusal-requires c κs = search needs
 
 returns-3 : tie.Need-returns-3
 returns-3 c =
     let s = c .before .before .before .before .before .before .before .before .before .before .before in
     let a = s .args in
-    taps-given (a .level) (a .taps-s .now) (a .taps-ac .now) (a .rates) (a .total) (a .all) (s .pre .0) (s .pre .1) (c .before .before .before .before .before .before .mode-s-taps-accepted .ensures) (not-false _ (c .before .before .before .before .before .if1 .left)) (c .before .before .before .before .mode-ac-taps-accepted .ensures) (not-false _ (c .before .before .before .if2 .left)) (c .before .before .mode-s-delay .ensures) (c .before .mode-ac-delay .ensures) (c .decide .ensures)
+    taps-given (a .level) (a .taps-s .now) (a .taps-ac .now) (a .rates) (a .total) (a .all) (s .pre .0) (s .pre .1) (c .before .before .before .before .before .before .mode-s-taps-accepted .ensures) (not-false _ (c .before .before .before .before .before .if1 .left)) (c .before .before .before .before .mode-ac-taps-accepted .ensures) (not-false _ (c .before .before .before .if2 .left)) (c .before .before .mode-s-delay .ensures) (c .before .mode-ac-delay .ensures) (c .first-state-or-refusal .ensures)
 
 pub check-taps-spec : {M : Type 1} → statement M
-check-taps-spec = tie.close (tie.spec mode-s-taps-accepted-requires returns mode-ac-taps-accepted-requires returns-2 mode-s-delay-requires mode-ac-delay-requires decide-requires returns-3)
+check-taps-spec = tie.close (tie.spec mode-s-taps-accepted-requires returns mode-ac-taps-accepted-requires returns-2 mode-s-delay-requires mode-ac-delay-requires first-state-or-refusal-requires returns-3)

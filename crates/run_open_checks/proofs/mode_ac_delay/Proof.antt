@@ -1,6 +1,6 @@
 -- `mode_ac_delay` meets its contract.
 use mathlib.Core.Path.{sym, _∙_}
-use Rattle.run_open_checks.proofs.Decided.{mode-ac-delay-of, mode-ac-nowhere}
+use Rattle.run_open_checks.proofs.Decided.{mode-ac-delay-of, mode-ac-none}
 use borrow.Author.Needs.{needs}
 use Rattle.run_open_checks.proofs.mode_ac_delay.Statement.{statement}
 use Rattle.run_open_checks.proofs.mode_ac_delay.Tie as tie
@@ -19,7 +19,7 @@ returns c = c .mode-ac-group-delay .ensures ∙ sym (mode-ac-delay-of _ _ _ (sym
 
 -- src/lib.rt:65:1
 returns-2 : tie.Need-returns-2
-returns-2 c = sym (mode-ac-nowhere _ _ _ (sym (c .before .all-within-16 .ensures) ∙ c .if1 .left))
+returns-2 c = sym (mode-ac-none _ _ _ (sym (c .before .all-within-16 .ensures) ∙ c .if1 .left))
 
 pub mode-ac-delay-spec : {M : Type 1} → statement M
 mode-ac-delay-spec =

@@ -1,6 +1,6 @@
 -- `mode_s_delay` meets its contract.
 use mathlib.Core.Path.{sym, _∙_}
-use Rattle.run_open_checks.proofs.Decided.{mode-s-delay-of, mode-s-nowhere}
+use Rattle.run_open_checks.proofs.Decided.{mode-s-delay-of, mode-s-none}
 use borrow.Author.Needs.{needs}
 use Rattle.run_open_checks.proofs.mode_s_delay.Statement.{statement}
 use Rattle.run_open_checks.proofs.mode_s_delay.Tie as tie
@@ -19,7 +19,7 @@ returns c = c .group-delay .ensures ∙ sym (mode-s-delay-of _ _ _ (sym (c .befo
 
 -- src/lib.rt:55:1
 returns-2 : tie.Need-returns-2
-returns-2 c = sym (mode-s-nowhere _ _ _ (sym (c .before .all-within-16 .ensures) ∙ c .if1 .left))
+returns-2 c = sym (mode-s-none _ _ _ (sym (c .before .all-within-16 .ensures) ∙ c .if1 .left))
 
 pub mode-s-delay-spec : {M : Type 1} → statement M
 mode-s-delay-spec =

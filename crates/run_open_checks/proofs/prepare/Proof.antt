@@ -11,19 +11,19 @@ mode-s-prototype-requires c κs = search needs
 mode-ac-prototype-requires : tie.Need-mode-ac-prototype-requires
 mode-ac-prototype-requires c κs = search needs
 
-slice-aggregate-judge : tie.Need-slice-aggregate-judge
-slice-aggregate-judge c = search needs
+slice-aggregate-check-open : tie.Need-slice-aggregate-check-open
+slice-aggregate-check-open c = search needs
 
-slice-aggregate-judge-2 : tie.Need-slice-aggregate-judge-2
-slice-aggregate-judge-2 c = search needs
+slice-aggregate-check-open-2 : tie.Need-slice-aggregate-check-open-2
+slice-aggregate-check-open-2 c = search needs
 
-judge-requires : tie.Need-judge-requires
-judge-requires c κs = (c .before .before .before .mode-s-prototype .ensures, c .before .before .mode-ac-prototype .ensures)
+check-open-requires : tie.Need-check-open-requires
+check-open-requires c κs = (c .before .before .before .mode-s-prototype .ensures, c .before .before .mode-ac-prototype .ensures)
 
 returns : tie.Need-returns
 returns c =
     let a = c .before .before .before .before .before .before .before .before .args in
-    prepared half (a .taps-s .now) (a .taps-ac .now) (a .settings .now) (a .mode-s) (a .mode-ac) (a .memory) (c .judge .ensures) (c .before .before .before .before .mode-s-prototype .ensures) (c .before .before .before .mode-ac-prototype .ensures)
+    prepared half (a .taps-s .now) (a .taps-ac .now) (a .settings .now) (a .mode-s) (a .mode-ac) (a .memory) (c .check-open .ensures) (c .before .before .before .before .mode-s-prototype .ensures) (c .before .before .before .mode-ac-prototype .ensures)
 
 pub prepare-spec : {M : Type 1} → statement M
-prepare-spec = tie.close (tie.spec mode-s-prototype-requires mode-ac-prototype-requires slice-aggregate-judge slice-aggregate-judge-2 judge-requires returns)
+prepare-spec = tie.close (tie.spec mode-s-prototype-requires mode-ac-prototype-requires slice-aggregate-check-open slice-aggregate-check-open-2 check-open-requires returns)

@@ -1,5 +1,5 @@
 -- `due` meets its contract.
-use Rattle.run_call_model.specs.Plans.{dueMany}
+use Rattle.run_call_model.specs.Plan.{dueMany}
 use Rattle.run_steps.proofs.Tests.{stops, dues}
 use borrow.Author.Needs.{needs}
 use Rattle.run_steps.proofs.due.Statement.{statement}

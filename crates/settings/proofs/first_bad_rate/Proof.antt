@@ -3,7 +3,7 @@ use borrow.Author.Needs.{needs}
 use Prim.Native.Nat.{_-_, _≤_}
 use mathlib.Core.Path.{_≡_, sym, ap, _∙_}
 use lib.ListN.{drop}
-use Rattle.distributions.specs.Asked.{finiteNotNegative}
+use Rattle.distributions.specs.Accepted.{finiteNotNegative}
 use Rattle.settings.specs.Settings.{ratesOf, rateOf}
 use Rattle.settings.specs.Accepted.{firstBadRate}
 use Rattle.settings.proofs.Rates.{goes-on, stops, ends, refuted, held}

@@ -8,14 +8,14 @@ use Rattle.settings.proofs.read.Tie as tie
 rates-at-requires : tie.Need-rates-at-requires
 rates-at-requires c κs = search needs
 
-asked-at-requires : tie.Need-asked-at-requires
-asked-at-requires c κs = search needs
+raw-distribution-at-requires : tie.Need-raw-distribution-at-requires
+raw-distribution-at-requires c κs = search needs
 
-asked-at-requires-2 : tie.Need-asked-at-requires-2
-asked-at-requires-2 c κs = search needs
+raw-distribution-at-requires-2 : tie.Need-raw-distribution-at-requires-2
+raw-distribution-at-requires-2 c κs = search needs
 
-asked-at-requires-3 : tie.Need-asked-at-requires-3
-asked-at-requires-3 c κs = search needs
+raw-distribution-at-requires-3 : tie.Need-raw-distribution-at-requires-3
+raw-distribution-at-requires-3 c κs = search needs
 
 u64-at-requires : tie.Need-u64-at-requires
 u64-at-requires c κs = search needs
@@ -26,16 +26,16 @@ u32-at-requires c κs = search needs
 returns : tie.Need-returns
 unfolding settingsOf
 returns c =
-    rw (c .u32-at .ensures, c .before .u64-at .ensures, c .before .before .asked-at3 .ensures, c .before .before .before .asked-at2 .ensures, c .before .before .before .before .asked-at .ensures, c .before .before .before .before .before .rates-at .ensures) refl
+    rw (c .u32-at .ensures, c .before .u64-at .ensures, c .before .before .raw-distribution-at3 .ensures, c .before .before .before .raw-distribution-at2 .ensures, c .before .before .before .before .raw-distribution-at .ensures, c .before .before .before .before .before .rates-at .ensures) refl
 
 pub read-spec : {M : Type 1} → statement M
 read-spec =
     tie.close
     (tie.spec
     rates-at-requires
-    asked-at-requires
-    asked-at-requires-2
-    asked-at-requires-3
+    raw-distribution-at-requires
+    raw-distribution-at-requires-2
+    raw-distribution-at-requires-3
     u64-at-requires
     u32-at-requires
     returns)

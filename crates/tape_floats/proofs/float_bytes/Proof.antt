@@ -3,15 +3,15 @@ use borrow.Author.Needs.{needs}
 use Prim.Native.Nat.{ℕ, _-_, _≤_, _/_, min}
 use mathlib.Core.Path.{_≡_, sym, ap, _∙_}
 use lib.ListN.{length, take}
-use Rattle.le_read.specs.LeBytes.{laid}
-use Rattle.reply_record.proofs.Laid.{none-laid}
+use Rattle.le_read.specs.LeBytes.{overwritten}
+use Rattle.reply_record.proofs.Overwritten.{none-overwritten}
 use Rattle.tape_floats.specs.Floats.{floatBytes}
 use Rattle.tape_floats.proofs.Rows.{write-next}
 use Rattle.tape_floats.proofs.float_bytes.Statement.{statement}
 use Rattle.tape_floats.proofs.float_bytes.Tie as tie
 
 abbrev Inv-loop : tie.InvT-loop
-Inv-loop values out₀ n k₀ out k = (k ≤ n) × (length out ≡ length out₀) × (n ≡ min (length values) (length out₀ / 4)) × (out ≡ laid out₀ 0 (floatBytes (take k values)))
+Inv-loop values out₀ n k₀ out k = (k ≤ n) × (length out ≡ length out₀) × (n ≡ min (length values) (length out₀ / 4)) × (out ≡ overwritten out₀ 0 (floatBytes (take k values)))
 
 abbrev μ-loop : tie.MeasureT-loop
 μ-loop values out₀ n k₀ out k = n - k
@@ -21,7 +21,7 @@ least-requires c κs = search needs
 
 loop-holds : tie.Need-loop-holds Inv-loop μ-loop
 unfolding floatBytes
-loop-holds c = (search needs, search needs, search needs, none-laid (c .before .before .before .args .out .now) 0)
+loop-holds c = (search needs, search needs, search needs, none-overwritten (c .before .before .before .args .out .now) 0)
 
 mul-put-f32 : tie.Need-mul-put-f32 Inv-loop μ-loop
 mul-put-f32 c = search needs
@@ -56,7 +56,7 @@ returns c =
     let l = c .before .loop in
     let s = c .before .before .before .before .before .args in
     let e : l .k ≡ c .before .before .least .result = search needs in
-    (l .inv .2, l .inv .3 ∙ ap (λ (n : ℕ). laid (s .out .now) 0 (floatBytes (take n (s .values .now)))) e)
+    (l .inv .2, l .inv .3 ∙ ap (λ (n : ℕ). overwritten (s .out .now) 0 (floatBytes (take n (s .values .now)))) e)
 
 pub float-bytes-spec : {M : Type 1} → statement M
 float-bytes-spec =

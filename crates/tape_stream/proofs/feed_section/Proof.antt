@@ -6,7 +6,7 @@ use mathlib.Core.Path.{_≡_, refl, sym, ap, _∙_}
 use native.Mathlib.Omega.{arith}
 use lib.ListN.{length}
 use lib.Seq.{length-take-le}
-use Rattle.tape_theory.proofs.Section.{Going, going-first, going-end, no-more, fewer-left, turned, next-turn}
+use Rattle.tape_theory.proofs.Section.{Going, going-first, going-end, no-more, fewer-left, turned, next-step}
 use Rattle.tape_stream.proofs.feed_section.Statement.{statement}
 use Rattle.tape_stream.proofs.feed_section.Tie as tie
 
@@ -72,7 +72,7 @@ loop-again c =
       inr (omega (arith, c .before .least .ensures)),
       t .goes-on,
       t .over,
-      next-turn _ _ _ _ _ _ _ _ _ (c .before .before .before .before .before .before .before .before .before .before .before .before .before .before .before .before .before .before .before .before .loop .want) (c .before .before .before .before .before .before .before .before .before .before .before .before .before .before .before .before .before .read-values .result) _ _ _ _ _ _ _ _ _ _ _ (c .before .before .before .before .before .before .before .before .before .before .before .before .before .before .before .before .before .before .before .before .loop .inv .7) (c .before .before .before .before .before .before .before .before .before .before .before .before .before .before .before .before .before .before .before .loop-test .taken) refl (array-share-prefix-row (c .before .before .before .before .before .before .before .before .before .before .before .before .before .before .before)) (c .before .before .before .before .before .before .before .before .before .before .before .before .before .before .before .before .before .read-values .ensures .1)
+      next-step _ _ _ _ _ _ _ _ _ (c .before .before .before .before .before .before .before .before .before .before .before .before .before .before .before .before .before .before .before .before .loop .want) (c .before .before .before .before .before .before .before .before .before .before .before .before .before .before .before .before .before .read-values .result) _ _ _ _ _ _ _ _ _ _ _ (c .before .before .before .before .before .before .before .before .before .before .before .before .before .before .before .before .before .before .before .before .loop .inv .7) (c .before .before .before .before .before .before .before .before .before .before .before .before .before .before .before .before .before .before .before .loop-test .taken) refl (array-share-prefix-row (c .before .before .before .before .before .before .before .before .before .before .before .before .before .before .before)) (c .before .before .before .before .before .before .before .before .before .before .before .before .before .before .before .before .before .read-values .ensures .1)
           (c .before .before .before .before .before .before .before .before .before .before .before .before .before .before .before .before .before .before .before .before .loop .inv .1) (c .before .before .before .before .before .before .before .before .before .before .before .before .before .before .before .before .before .before .before .before .loop .inv .5 (c .before .before .before .before .before .before .before .before .before .before .before .before .before .before .before .before .before .before .before .loop-test .taken)) t (c .before .before .before .before .before .before .before .before .before .before .before .feed-noise .ensures),
     )
 

@@ -4,19 +4,19 @@ use Prim.Native.Nat.{_-_, _≤_}
 use mathlib.Core.Path.{_≡_, ap, _∙_}
 use lib.ListN.{length, take, length-set}
 use lib.Seq.{take-all}
-use Rattle.le_read.specs.LeBytes.{laid}
-use Rattle.reply_record.proofs.Laid.{none-laid, next-byte}
+use Rattle.le_read.specs.LeBytes.{overwritten}
+use Rattle.reply_record.proofs.Overwritten.{none-overwritten, next-byte}
 use Rattle.tape_text.proofs.put_bytes.Statement.{statement}
 use Rattle.tape_text.proofs.put_bytes.Tie as tie
 
 abbrev Inv-loop : tie.InvT-loop
-Inv-loop from out₀ at k₀ out k = (k ≤ length from) × (length out ≡ length out₀) × (out ≡ laid out₀ at (take k from))
+Inv-loop from out₀ at k₀ out k = (k ≤ length from) × (length out ≡ length out₀) × (out ≡ overwritten out₀ at (take k from))
 
 abbrev μ-loop : tie.MeasureT-loop
 μ-loop from out₀ at k₀ out k = length from - k
 
 loop-holds : tie.Need-loop-holds Inv-loop μ-loop
-loop-holds c = (search needs, search needs, none-laid (c .args .out .now) (c .args .at))
+loop-holds c = (search needs, search needs, none-overwritten (c .args .out .now) (c .args .at))
 
 shared-slice-read-out : tie.Need-shared-slice-read-out Inv-loop μ-loop
 shared-slice-read-out c = search needs
@@ -49,7 +49,7 @@ returns : tie.Need-returns Inv-loop μ-loop
 returns c =
     let l = c .before .loop in
     let s = c .before .before in
-    record { held = l .inv .2 ∙ ap (laid (s .args .out .now) (s .args .at)) (take-all (l .k) (s .args .from .now) (search needs)); ends = search needs }
+    record { held = l .inv .2 ∙ ap (overwritten (s .args .out .now) (s .args .at)) (take-all (l .k) (s .args .from .now) (search needs)); ends = search needs }
 
 pub put-bytes-spec : {M : Type 1} → statement M
 put-bytes-spec =

@@ -3,22 +3,22 @@ use borrow.Author.Needs.{needs}
 use Prim.Native.Nat.{ℕ, _-_, _≤_}
 use mathlib.Core.Path.{_≡_, sym, ap, _∙_}
 use lib.ListN.{length, take}
-use Rattle.le_read.specs.LeBytes.{laid}
-use Rattle.reply_record.proofs.Laid.{none-laid}
+use Rattle.le_read.specs.LeBytes.{overwritten}
+use Rattle.reply_record.proofs.Overwritten.{none-overwritten}
 use Rattle.tape_text.specs.Text.{hex}
 use Rattle.tape_text.proofs.Puts.{hex-of-first}
 use Rattle.tape_text.proofs.put_hex.Statement.{statement}
 use Rattle.tape_text.proofs.put_hex.Tie as tie
 
 abbrev Inv-loop : tie.InvT-loop
-Inv-loop bytes n out₀ at k₀ out k = (k ≤ n) × (length out ≡ length out₀) × (out ≡ laid out₀ at (hex (take k bytes)))
+Inv-loop bytes n out₀ at k₀ out k = (k ≤ n) × (length out ≡ length out₀) × (out ≡ overwritten out₀ at (hex (take k bytes)))
 
 abbrev μ-loop : tie.MeasureT-loop
 μ-loop bytes n out₀ at k₀ out k = n - k
 
 loop-holds : tie.Need-loop-holds Inv-loop μ-loop
 unfolding hex
-loop-holds c = (search needs, search needs, none-laid (c .before .before .args .out .now) (c .before .before .args .at))
+loop-holds c = (search needs, search needs, none-overwritten (c .before .before .args .out .now) (c .before .before .args .at))
 
 shared-slice-read-put-hex-byte : tie.Need-shared-slice-read-put-hex-byte Inv-loop μ-loop
 shared-slice-read-put-hex-byte c = search needs
@@ -52,7 +52,7 @@ returns c =
     let l = c .before .loop in
     let s = c .before .before .before .before in
     let e : l .k ≡ s .args .n = search needs in
-    l .inv .2 ∙ ap (λ (k : ℕ). laid (s .args .out .now) (s .args .at) (hex (take k (s .args .bytes .now)))) e
+    l .inv .2 ∙ ap (λ (k : ℕ). overwritten (s .args .out .now) (s .args .at) (hex (take k (s .args .bytes .now)))) e
 
 pub put-hex-spec : {M : Type 1} → statement M
 put-hex-spec =

@@ -3,7 +3,7 @@ use borrow.Author.Needs.{needs}
 use Prim.Native.Nat.{_+_}
 use native.Mathlib.Omega.{arith}
 use lib.ListN.{length-set}
-use Rattle.le_read.proofs.Halves.{laid-one}
+use Rattle.le_read.proofs.Halves.{overwritten-one}
 use Rattle.tape_text.proofs.Puts.{hex-byte}
 use Rattle.tape_text.proofs.put_hex_byte.Statement.{statement}
 use Rattle.tape_text.proofs.put_hex_byte.Tie as tie
@@ -29,7 +29,7 @@ same-length c = simp length-set
 returns : tie.Need-returns
 returns c =
     let s = c .before .before .before in
-    hex-byte (s .args .out .now) (s .args .at) (s .args .b) _ _ _ _ (s .pre) (c .before .hex-digit .ensures) (c .hex-digit2 .ensures) (laid-one (s .args .out .now) (s .args .at) _ (slice-write-out c)) (laid-one _ (s .args .at + 1) _ (slice-write-out-2 c))
+    hex-byte (s .args .out .now) (s .args .at) (s .args .b) _ _ _ _ (s .pre) (c .before .hex-digit .ensures) (c .hex-digit2 .ensures) (overwritten-one (s .args .out .now) (s .args .at) _ (slice-write-out c)) (overwritten-one _ (s .args .at + 1) _ (slice-write-out-2 c))
 
 pub put-hex-byte-spec : {M : Type 1} → statement M
 put-hex-byte-spec =

@@ -2,7 +2,7 @@
 use borrow.Author.Needs.{needs}
 use mathlib.Core.Path.{refl}
 use lib.ListN.{length-set}
-use Rattle.le_read.proofs.Halves.{laid-one}
+use Rattle.le_read.proofs.Halves.{overwritten-one}
 use Rattle.tape_text.proofs.Lines.{hex-line-put}
 use Rattle.tape_text.proofs.put_hex_line.Statement.{statement}
 use Rattle.tape_text.proofs.put_hex_line.Tie as tie
@@ -32,7 +32,7 @@ same-length : tie.Need-same-length
 same-length c = simp length-set (c .before .before .put-hex .kept .1 .1 .0)
 
 returns : tie.Need-returns
-returns c = hex-line-put _ _ (c .before .before .before .before .before .before .pre .0) (c .before .before .before .before .before .before .pre .1) (c .before .before .put-hex .ensures) (laid-one _ _ _ (slice-write-out c)) refl
+returns c = hex-line-put _ _ (c .before .before .before .before .before .before .pre .0) (c .before .before .before .before .before .before .pre .1) (c .before .before .put-hex .ensures) (overwritten-one _ _ _ (slice-write-out c)) refl
 
 pub put-hex-line-spec : {M : Type 1} → statement M
 put-hex-line-spec =

@@ -2,7 +2,7 @@
 use borrow.Author.Needs.{needs}
 use native.Mathlib.Omega.{arith}
 use lib.ListN.{length-set}
-use Rattle.le_read.proofs.Halves.{laid-one}
+use Rattle.le_read.proofs.Halves.{overwritten-one}
 use Rattle.tape_text.proofs.Decimal.{few-digits}
 use Rattle.tape_text.proofs.Lines.{number-put}
 use Rattle.tape_text.proofs.put_number.Statement.{statement}
@@ -30,7 +30,7 @@ same-length : tie.Need-same-length
 same-length c = simp length-set (c .before .before .put-bytes .kept .1 .0)
 
 returns : tie.Need-returns
-returns c = number-put _ _ _ _ (c .before .before .before .before .before .before .before .before .fits .n .fits) (c .before .before .before .before .before .decimal .ensures .1 .0) (c .before .before .before .before .before .decimal .ensures .1 .1) (c .before .before .before .before .before .before .before .before .pre) (c .before .before .put-bytes .ensures) (laid-one _ _ _ (slice-write-out c)) (search needs)
+returns c = number-put _ _ _ _ (c .before .before .before .before .before .before .before .before .fits .n .fits) (c .before .before .before .before .before .decimal .ensures .1 .0) (c .before .before .before .before .before .decimal .ensures .1 .1) (c .before .before .before .before .before .before .before .before .pre) (c .before .before .put-bytes .ensures) (overwritten-one _ _ _ (slice-write-out c)) (search needs)
 
 pub put-number-spec : {M : Type 1} → statement M
 put-number-spec =

@@ -5,10 +5,10 @@ use Rattle.test_shapes.proofs.reply.Statement.{statement}
 use Rattle.test_shapes.proofs.reply.Tie as tie
 
 abbrev Inv-loop : tie.InvT-loop
-Inv-loop prototype laid limit first e step clock₀ digest₀ n₀ t11 clock digest n = (n ≤ 1200) × (digest < 0x100_0000_0000_0000)
+Inv-loop prototype padded limit first e step clock₀ digest₀ n₀ t11 clock digest n = (n ≤ 1200) × (digest < 0x100_0000_0000_0000)
 
 abbrev μ-loop : tie.MeasureT-loop
-μ-loop prototype laid limit first e step clock₀ digest₀ n₀ t11 clock digest n = 1200 - n
+μ-loop prototype padded limit first e step clock₀ digest₀ n₀ t11 clock digest n = 1200 - n
 
 clock-step-requires : tie.Need-clock-step-requires Inv-loop μ-loop
 clock-step-requires c κs = search needs

@@ -1,5 +1,5 @@
 -- `test_exports::port_drawn` meets its contract.
-use Rattle.test_exports.specs.Drawn.{askedOf}
+use Rattle.test_exports.specs.Drawn.{rawDistributionOf}
 use mathlib.Core.Path.{refl}
 use borrow.Author.Needs.{needs}
 use Rattle.test_exports.proofs.starts.port_drawn.Statement.{statement}
@@ -24,7 +24,7 @@ error-drawn-requires : tie.Need-error-drawn-requires
 error-drawn-requires c κs = search needs
 
 returns : tie.Need-returns
-unfolding askedOf
+unfolding rawDistributionOf
 returns c =
     rw (c .error-drawn .ensures, c .before .clock-error .ensures, c .before .before .phase-drawn .ensures, c .before .before .before .carrier-phase .ensures, c .before .before .before .before .offset-drawn .ensures, c .before .before .before .before .before .carrier-offset .ensures) refl
 
