@@ -6,7 +6,7 @@ mod more1090_generator;
 use crate::loads::{Load, MODE_S_TAPS};
 use crate::{Given, summed, timed};
 use lent::NOISE;
-use more1090_generator::{DONE, DRAW_BYTES, RECORD_BYTES, Run};
+use more1090_generator::{STOP_DONE, DRAW_LEN, RECORD_LEN, Run};
 use std::hint::black_box;
 
 fn opened(load: &Load) -> Run {
@@ -28,28 +28,28 @@ pub fn run(load: &Load, call: usize, check: bool) -> (Given, f64) {
 /// output is full, it is called again for the rest.
 fn calls(run: &mut Run, load: &Load, call: usize, check: bool) -> Given {
     let mut given = Given::default();
-    let window = DRAW_BYTES * (2 + (1.1 * call as f64 * load.rate / 8e6) as usize);
+    let window = DRAW_LEN * (2 + (1.1 * call as f64 * load.rate / 8e6) as usize);
     let mut output = vec![0.0; 2 * call];
-    let mut records = vec![0; RECORD_BYTES * window / DRAW_BYTES];
+    let mut records = vec![0; RECORD_LEN * window / DRAW_LEN];
     let (mut taken, mut used, mut full) = (0, 0, 0);
     loop {
         let draws = &load.draw_bytes[taken..(taken + window).min(load.draw_bytes.len())];
         let noise = &load.noise[used..used + 2 * call - full];
         let ran = run.call(draws, noise, &mut output[full..], &mut records);
         assert_eq!((ran.refusal, ran.value, ran.field), (0, 0, 0), "a call was refused");
-        taken += DRAW_BYTES * ran.taken as usize;
-        given.samples += ran.samples;
-        given.records += ran.records;
-        full += 2 * ran.samples as usize;
-        used = (used + ran.noise as usize) % NOISE;
-        if full == output.len() || ran.stop == DONE {
+        taken += DRAW_LEN * ran.draws_taken as usize;
+        given.samples += ran.samples_written;
+        given.records += ran.records_written;
+        full += 2 * ran.samples_written as usize;
+        used = (used + ran.noise_used as usize) % NOISE;
+        if full == output.len() || ran.stop == STOP_DONE {
             let written = black_box(&output[..full]);
             if check {
                 given.sum = summed(given.sum, written);
             }
             full = 0;
         }
-        if ran.stop == DONE {
+        if ran.stop == STOP_DONE {
             return given;
         }
     }

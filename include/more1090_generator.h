@@ -37,38 +37,44 @@
 extern "C" {
 #endif
 
-#define MORE1090_SETTINGS_BYTES 119
-#define MORE1090_MODE_S_TAPS 1486  /* floats: a lowpass at 512,000,000 taps a second */
-#define MORE1090_MODE_AC_TAPS 1515 /* floats: a lowpass at 512,000,000 * 1500 / 1450 taps a second */
-#define MORE1090_PROTOTYPE 1792    /* floats: each of the two prototypes */
-#define MORE1090_MEMORY 2252       /* floats: working memory */
-#define MORE1090_DRAW_BYTES 65
-#define MORE1090_RECORD_BYTES 66
+/* The version of this interface, as VERSION has it. */
+#define MORE1090_VERSION_MAJOR 0
+#define MORE1090_VERSION_MINOR 1
+#define MORE1090_VERSION_PATCH 0
+
+#define MORE1090_SAMPLE_RATE 8000000 /* samples a second */
+#define MORE1090_SETTINGS_LEN 119
+#define MORE1090_MODE_S_TAPS_LEN 1486  /* floats: a lowpass at 512,000,000 taps a second */
+#define MORE1090_MODE_AC_TAPS_LEN 1515 /* floats: a lowpass at 512,000,000 * 1500 / 1450 taps a second */
+#define MORE1090_PROTOTYPE_LEN 1792    /* floats: each of the two prototypes */
+#define MORE1090_MEMORY_LEN 2252       /* floats: working memory */
+#define MORE1090_DRAW_LEN 65
+#define MORE1090_RECORD_LEN 66
 
 /* Refusals: the numbers of SPECIFICATION 3.1, with what `value` and `field` hold; they are 0 where nothing is said. */
 enum {
-    MORE1090_ACCEPTED = 0,
-    MORE1090_DURATION = 1,      /* nanoseconds 1,000,000,000 or more, or more than 2^52 samples */
-    MORE1090_RATE = 2,          /* a rate negative or not finite; value: the first such rate, 0 to 6 */
-    MORE1090_TOTAL_RATE = 3,    /* the rates' total is 0 or not finite */
-    MORE1090_DISTRIBUTION = 4,  /* an unknown kind, or a parameter out of range; value: 0 carrier, 1 phase, 2 clock */
-    MORE1090_TAPS = 5,          /* a filter of the wrong length, or a tap not finite or above 16 in size */
-    MORE1090_BAD_PROTOTYPE = 6, /* a prototype value not finite or above 16 in size, or no crossing of 0.5 */
-    MORE1090_BAD_DRAW = 7,      /* a field out of range; value: the first such draw, field: its first such field. Or a first
+    MORE1090_OK = 0,
+    MORE1090_ERR_DURATION = 1,      /* nanoseconds 1,000,000,000 or more, or more than 2^52 samples */
+    MORE1090_ERR_RATE = 2,          /* a rate negative or not finite; value: the first such rate, 0 to 6 */
+    MORE1090_ERR_TOTAL_RATE = 3,    /* the rates' total is 0 or not finite */
+    MORE1090_ERR_DISTRIBUTION = 4,  /* an unknown kind, or a parameter out of range; value: 0 carrier, 1 phase, 2 clock */
+    MORE1090_ERR_TAPS = 5,          /* a filter of the wrong length, or a tap not finite or above 16 in size */
+    MORE1090_ERR_PROTOTYPE = 6, /* a prototype value not finite or above 16 in size, or no crossing of 0.5 */
+    MORE1090_ERR_DRAW = 7,      /* a field out of range; value: the first such draw, field: its first such field. Or a first
                                  * draw that jumps back: its time is before `latest` of the state; value 0, field 0 */
-    MORE1090_NOISE = 8,         /* a noise value not finite or above 64 in size; value: its place */
-    MORE1090_LENT = 9           /* settings, memory, a prototype, output (0 or odd) or draws (no multiple of 65) of a wrong
+    MORE1090_ERR_NOISE = 8,         /* a noise value not finite or above 64 in size; value: its place */
+    MORE1090_ERR_LENGTH = 9           /* settings, memory, a prototype, output (0 or odd) or draws (no multiple of 65) of a wrong
                                  * length */
 };
 
 /* Why a run call came back. */
 enum {
-    MORE1090_DONE = 0,         /* every sample is written: the run is over, and further calls write nothing */
-    MORE1090_OUTPUT_FULL = 1,  /* lend output */
-    MORE1090_WANTS_NOISE = 2,  /* lend two noise values or more */
-    MORE1090_WANTS_DRAWS = 3,  /* lend draws; the one that would start within 1,094 samples of the end, or later, ends the run */
-    MORE1090_RECORDS_FULL = 4, /* lend 66 bytes or more of records */
-    MORE1090_REFUSED = 5
+    MORE1090_STOP_DONE = 0,         /* every sample is written: the run is over, and further calls write nothing */
+    MORE1090_STOP_OUTPUT_FULL = 1,  /* lend output */
+    MORE1090_STOP_WANTS_NOISE = 2,  /* lend two noise values or more */
+    MORE1090_STOP_WANTS_DRAWS = 3,  /* lend draws; the one that would start within 1,094 samples of the end, or later, ends the run */
+    MORE1090_STOP_RECORDS_FULL = 4, /* lend 66 bytes or more of records */
+    MORE1090_STOP_REFUSED = 5
 };
 
 typedef struct more1090_distribution {
@@ -96,28 +102,28 @@ typedef struct more1090_state {
     uint64_t ended; /* 1 once the draw that ends the run is taken, else 0 */
 } more1090_state;
 
-typedef struct more1090_opened {
+typedef struct more1090_open_result {
     more1090_state state;
     uint64_t refusal; /* 0, or 1 to 6, or 9 */
     uint64_t value;
-} more1090_opened;
+} more1090_open_result;
 
-typedef struct more1090_ran {
-    more1090_state state; /* for the next call */
-    uint64_t taken;       /* draws taken */
-    uint64_t samples;     /* samples written: 2 * samples floats */
-    uint64_t noise;       /* noise values used: 2 * samples */
-    uint64_t records;     /* records written: 66 * records bytes */
-    uint64_t stop;        /* 0 to 4, or 5 where refused */
-    uint64_t refusal;     /* 0, or 7 to 9 */
+typedef struct more1090_run_result {
+    more1090_state state;     /* for the next call */
+    uint64_t draws_taken;     /* draws taken */
+    uint64_t samples_written; /* samples written: 2 * samples floats */
+    uint64_t noise_used;      /* noise values used: 2 * samples */
+    uint64_t records_written; /* records written: 66 * records bytes */
+    uint64_t stop;            /* 0 to 4, or 5 where refused */
+    uint64_t refusal;         /* 0, or 7 to 9 */
     uint64_t value;
     uint64_t field;
-} more1090_ran;
+} more1090_run_result;
 
 /* Opens a run. Checks 9 (settings, mode_s, mode_ac, memory), then 1 to 6, and answers the first that fails: state is then
  * all zero, and nothing lent is changed. Else the refusal is 0, state is the run's before its first call, mode_s and mode_ac
  * hold the prototypes and memory is all 0.0. Settings and taps are not needed any more. */
-more1090_opened more1090_open(const uint8_t *settings, size_t settings_length,
+more1090_open_result more1090_open(const uint8_t *settings, size_t settings_length,
                               const float *taps_s, size_t taps_s_length,
                               const float *taps_ac, size_t taps_ac_length,
                               float *mode_s, size_t mode_s_length,
@@ -132,7 +138,7 @@ more1090_opened more1090_open(const uint8_t *settings, size_t settings_length,
  * would start before sample 0 is taken and ignored, but its gap counts.) So lend the draws that were not taken and the noise
  * that was not used again, ahead of new ones: how a run is cut into calls then changes no sample and no record. From an
  * opened run every number of a sample is finite and at most 2^53 in size, however long it lasts. */
-more1090_ran more1090_run(more1090_state state,
+more1090_run_result more1090_run(more1090_state state,
                           const float *mode_s, size_t mode_s_length,
                           const float *mode_ac, size_t mode_ac_length,
                           float *memory, size_t memory_length,
@@ -178,8 +184,8 @@ uint32_t more1090_interrogator(const uint8_t *message, size_t message_length, ui
 #define MORE1090_ASSERT(holds) _Static_assert(holds, "layout")
 #endif
 MORE1090_ASSERT(sizeof(more1090_state) == 184 && offsetof(more1090_state, ended) == 176);
-MORE1090_ASSERT(sizeof(more1090_opened) == 200 && offsetof(more1090_opened, refusal) == 184);
-MORE1090_ASSERT(sizeof(more1090_ran) == 248 && offsetof(more1090_ran, taken) == 184);
+MORE1090_ASSERT(sizeof(more1090_open_result) == 200 && offsetof(more1090_open_result, refusal) == 184);
+MORE1090_ASSERT(sizeof(more1090_run_result) == 248 && offsetof(more1090_run_result, draws_taken) == 184);
 #undef MORE1090_ASSERT
 
 #endif

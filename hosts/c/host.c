@@ -41,9 +41,9 @@ static int refused(uint64_t number, uint64_t value) {
 }
 
 int main(int argc, char **argv) {
-    static float taps_s[MORE1090_MODE_S_TAPS], taps_ac[MORE1090_MODE_AC_TAPS];
-    static float mode_s[MORE1090_PROTOTYPE], mode_ac[MORE1090_PROTOTYPE], memory[MORE1090_MEMORY];
-    uint8_t settings[MORE1090_SETTINGS_BYTES], draws[DRAWS * MORE1090_DRAW_BYTES], record[MORE1090_RECORD_BYTES];
+    static float taps_s[MORE1090_MODE_S_TAPS_LEN], taps_ac[MORE1090_MODE_AC_TAPS_LEN];
+    static float mode_s[MORE1090_PROTOTYPE_LEN], mode_ac[MORE1090_PROTOTYPE_LEN], memory[MORE1090_MEMORY_LEN];
+    uint8_t settings[MORE1090_SETTINGS_LEN], draws[DRAWS * MORE1090_DRAW_LEN], record[MORE1090_RECORD_LEN];
     float noise[NOISE], output[2 * SAMPLES];
     FILE *out = argc > 1 ? fopen(argv[1], "wb") : stdout;
     if (out == NULL) {
@@ -51,30 +51,30 @@ int main(int argc, char **argv) {
         return 1;
     }
     make_settings(settings);
-    make_taps(taps_s, MORE1090_MODE_S_TAPS);
-    make_taps(taps_ac, MORE1090_MODE_AC_TAPS);
-    more1090_opened opened =
-        more1090_open(settings, sizeof settings, taps_s, MORE1090_MODE_S_TAPS, taps_ac, MORE1090_MODE_AC_TAPS, mode_s,
-                      MORE1090_PROTOTYPE, mode_ac, MORE1090_PROTOTYPE, memory, MORE1090_MEMORY);
-    if (opened.refusal != MORE1090_ACCEPTED)
+    make_taps(taps_s, MORE1090_MODE_S_TAPS_LEN);
+    make_taps(taps_ac, MORE1090_MODE_AC_TAPS_LEN);
+    more1090_open_result opened =
+        more1090_open(settings, sizeof settings, taps_s, MORE1090_MODE_S_TAPS_LEN, taps_ac, MORE1090_MODE_AC_TAPS_LEN, mode_s,
+                      MORE1090_PROTOTYPE_LEN, mode_ac, MORE1090_PROTOTYPE_LEN, memory, MORE1090_MEMORY_LEN);
+    if (opened.refusal != MORE1090_OK)
         return refused(opened.refusal, opened.value);
-    more1090_ran ran = {.state = opened.state, .taken = DRAWS, .noise = NOISE, .stop = MORE1090_WANTS_DRAWS};
-    for (unsigned n = 0; ran.stop != MORE1090_DONE;) {
+    more1090_run_result ran = {.state = opened.state, .draws_taken = DRAWS, .noise_used = NOISE, .stop = MORE1090_STOP_WANTS_DRAWS};
+    for (unsigned n = 0; ran.stop != MORE1090_STOP_DONE;) {
         /* what was not taken or used comes first in what is lent next */
-        size_t left = DRAWS - ran.taken, quiet = NOISE - ran.noise;
-        memmove(draws, draws + ran.taken * MORE1090_DRAW_BYTES, left * MORE1090_DRAW_BYTES);
-        memmove(noise, noise + ran.noise, quiet * sizeof *noise);
+        size_t left = DRAWS - ran.draws_taken, quiet = NOISE - ran.noise_used;
+        memmove(draws, draws + ran.draws_taken * MORE1090_DRAW_LEN, left * MORE1090_DRAW_LEN);
+        memmove(noise, noise + ran.noise_used, quiet * sizeof *noise);
         for (; left < DRAWS; left++)
-            make_draw(draws + left * MORE1090_DRAW_BYTES, n++);
+            make_draw(draws + left * MORE1090_DRAW_LEN, n++);
         for (; quiet < NOISE; quiet++)
             noise[quiet] = noise_value();
-        ran = more1090_run(ran.state, mode_s, MORE1090_PROTOTYPE, mode_ac, MORE1090_PROTOTYPE, memory, MORE1090_MEMORY, draws,
+        ran = more1090_run(ran.state, mode_s, MORE1090_PROTOTYPE_LEN, mode_ac, MORE1090_PROTOTYPE_LEN, memory, MORE1090_MEMORY_LEN, draws,
                            sizeof draws, noise, NOISE, output, 2 * SAMPLES, record, sizeof record);
-        if (ran.refusal != MORE1090_ACCEPTED)
+        if (ran.refusal != MORE1090_OK)
             return refused(ran.refusal, ran.value);
-        if (ran.records == 1)
+        if (ran.records_written == 1)
             print_record(record);
-        if (fwrite(output, 2 * sizeof *output, ran.samples, out) != ran.samples)
+        if (fwrite(output, 2 * sizeof *output, ran.samples_written, out) != ran.samples_written)
             return 1;
     }
     return fclose(out) == 0 ? 0 : 1;

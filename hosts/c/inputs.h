@@ -41,7 +41,7 @@ static void make_draw(uint8_t *to, unsigned n) {
     const uint8_t type = n % 7, overlay = 17;
     const float amplitude = 0.02f;
     const uint16_t data = 01200; /* four octal digits */
-    memset(to, 0, MORE1090_DRAW_BYTES);
+    memset(to, 0, MORE1090_DRAW_LEN);
     to = put_f64(to, 8000.0);
     to = put(to, &type, 1);
     to = put_f64(to, 81.9); /* dB Hz; for the record only */

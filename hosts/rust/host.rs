@@ -9,7 +9,7 @@ mod draws;
 mod more1090_generator;
 use draws::{CLOCK_MAX, Random, WEIGHTS};
 use more1090_generator::{
-    DONE, DRAW_BYTES, MODE_AC_TAPS, MODE_S_TAPS, RECORD_BYTES, Run, SETTINGS_BYTES,
+    STOP_DONE, DRAW_LEN, MODE_AC_TAPS_LEN, MODE_S_TAPS_LEN, RECORD_LEN, Run, SETTINGS_LEN,
 };
 use std::f64::consts::PI;
 use std::fs::File;
@@ -27,7 +27,7 @@ fn lowpass(taps: usize, cutoff: f64) -> Vec<f32> {
     (0..taps).map(|k| (tap(k) / sum) as f32).collect()
 }
 
-fn settings(seconds: f64, rate: f64) -> [u8; SETTINGS_BYTES] {
+fn settings(seconds: f64, rate: f64) -> [u8; SETTINGS_LEN] {
     let mut s = Vec::new();
     s.extend((seconds as u64).to_le_bytes());
     s.extend(((seconds.fract() * 1e9) as u32).to_le_bytes());
@@ -65,17 +65,17 @@ fn simulate(
     out: &mut dyn Write,
     lines: &mut dyn Write,
 ) -> Result<()> {
-    let taps_s = lowpass(MODE_S_TAPS, 2.0);
-    let taps_ac = lowpass(MODE_AC_TAPS, 2.0 * 1450.0 / 1500.0);
+    let taps_s = lowpass(MODE_S_TAPS_LEN, 2.0);
+    let taps_ac = lowpass(MODE_AC_TAPS_LEN, 2.0 * 1450.0 / 1500.0);
     let refused = |n: u64| Error::other(format!("refused {n}"));
     let mut run =
         Run::open(&settings(seconds, rate), &taps_s, &taps_ac).map_err(|r| refused(r.0))?;
     let (mut drawn, mut noisy) = (Random(seed), Random(!seed));
     let (mut draws, mut noise) = (Vec::new(), Vec::new());
-    let (mut output, mut records) = (vec![0.0; 1 << 17], vec![0; 64 * RECORD_BYTES]);
+    let (mut output, mut records) = (vec![0.0; 1 << 17], vec![0; 64 * RECORD_LEN]);
     let (mut replies, mut told) = (0, 0);
     loop {
-        while draws.len() < 64 * DRAW_BYTES {
+        while draws.len() < 64 * DRAW_LEN {
             draws.extend(drawn.draw(rate));
         }
         while noise.len() < output.len() {
@@ -85,26 +85,26 @@ fn simulate(
         if ran.refusal != 0 {
             return Err(refused(ran.refusal));
         }
-        draws.drain(..DRAW_BYTES * ran.taken as usize);
-        noise.drain(..ran.noise as usize);
-        let bytes: Vec<u8> = output[..2 * ran.samples as usize]
+        draws.drain(..DRAW_LEN * ran.draws_taken as usize);
+        noise.drain(..ran.noise_used as usize);
+        let bytes: Vec<u8> = output[..2 * ran.samples_written as usize]
             .iter()
             .flat_map(|x| x.to_le_bytes())
             .collect();
         out.write_all(&bytes)?;
-        for r in records.chunks(RECORD_BYTES).take(ran.records as usize) {
+        for r in records.chunks(RECORD_LEN).take(ran.records_written as usize) {
             writeln!(lines, "{}", line(r))?;
         }
-        replies += ran.records;
+        replies += ran.records_written;
         let second = run.state.written / 8_000_000;
-        if ran.stop == DONE || second > told {
+        if ran.stop == STOP_DONE || second > told {
             told = second;
             eprintln!(
                 "{} of {} samples, {replies} replies",
                 run.state.written, run.state.total
             );
         }
-        if ran.stop == DONE {
+        if ran.stop == STOP_DONE {
             return lines.flush();
         }
     }

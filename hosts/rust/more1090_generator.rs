@@ -3,15 +3,15 @@
 // A program uses a part of it.
 #![allow(dead_code)]
 
-pub const SETTINGS_BYTES: usize = 119;
-pub const MODE_S_TAPS: usize = 1486;
-pub const MODE_AC_TAPS: usize = 1515;
+pub const SETTINGS_LEN: usize = 119;
+pub const MODE_S_TAPS_LEN: usize = 1486;
+pub const MODE_AC_TAPS_LEN: usize = 1515;
 pub const PROTOTYPE: usize = 1792;
 pub const MEMORY: usize = 2252;
-pub const DRAW_BYTES: usize = 65;
-pub const RECORD_BYTES: usize = 66;
+pub const DRAW_LEN: usize = 65;
+pub const RECORD_LEN: usize = 66;
 
-pub const DONE: u64 = 0;
+pub const STOP_DONE: u64 = 0;
 
 #[repr(C)]
 #[derive(Clone, Copy)]
@@ -38,19 +38,19 @@ pub struct State {
 }
 
 #[repr(C)]
-pub struct Opened {
+pub struct OpenResult {
     pub state: State,
     pub refusal: u64,
     pub value: u64,
 }
 
 #[repr(C)]
-pub struct Ran {
+pub struct RunResult {
     pub state: State,
-    pub taken: u64,
-    pub samples: u64,
-    pub noise: u64,
-    pub records: u64,
+    pub draws_taken: u64,
+    pub samples_written: u64,
+    pub noise_used: u64,
+    pub records_written: u64,
     pub stop: u64,
     pub refusal: u64,
     pub value: u64,
@@ -58,17 +58,17 @@ pub struct Ran {
 }
 
 const _: () =
-    assert!(size_of::<State>() == 184 && size_of::<Opened>() == 200 && size_of::<Ran>() == 248);
+    assert!(size_of::<State>() == 184 && size_of::<OpenResult>() == 200 && size_of::<RunResult>() == 248);
 
 #[rustfmt::skip]
 unsafe extern "C" {
     fn more1090_open(settings: *const u8, settings_length: usize, taps_s: *const f32, taps_s_length: usize,
         taps_ac: *const f32, taps_ac_length: usize, mode_s: *mut f32, mode_s_length: usize,
-        mode_ac: *mut f32, mode_ac_length: usize, memory: *mut f32, memory_length: usize) -> Opened;
+        mode_ac: *mut f32, mode_ac_length: usize, memory: *mut f32, memory_length: usize) -> OpenResult;
     fn more1090_run(state: State, mode_s: *const f32, mode_s_length: usize, mode_ac: *const f32, mode_ac_length: usize,
         memory: *mut f32, memory_length: usize, draws: *const u8, draws_length: usize,
         noise: *const f32, noise_length: usize, output: *mut f32, output_length: usize,
-        records: *mut u8, records_length: usize) -> Ran;
+        records: *mut u8, records_length: usize) -> RunResult;
     fn more1090_parity(bytes: *const u8, bytes_length: usize) -> u32;
     safe fn more1090_parity_change(place: u64) -> u32;
     safe fn more1090_flipped_bit(change: u32) -> u64;
@@ -92,7 +92,7 @@ pub fn flipped_bit(change: u32) -> Option<u64> {
 /// `more1090_open`, on slices of any length.
 #[rustfmt::skip]
 pub fn open(settings: &[u8], taps_s: &[f32], taps_ac: &[f32],
-    mode_s: &mut [f32], mode_ac: &mut [f32], memory: &mut [f32]) -> Opened {
+    mode_s: &mut [f32], mode_ac: &mut [f32], memory: &mut [f32]) -> OpenResult {
     // Slices are aligned and good for their lengths, and those to be written overlap with nothing: all that is asked.
     unsafe {
         more1090_open(settings.as_ptr(), settings.len(), taps_s.as_ptr(), taps_s.len(), taps_ac.as_ptr(), taps_ac.len(),
@@ -103,7 +103,7 @@ pub fn open(settings: &[u8], taps_s: &[f32], taps_ac: &[f32],
 /// `more1090_run`, on any state and slices of any length.
 #[rustfmt::skip]
 pub fn run(state: State, mode_s: &[f32], mode_ac: &[f32], memory: &mut [f32],
-    draws: &[u8], noise: &[f32], output: &mut [f32], records: &mut [u8]) -> Ran {
+    draws: &[u8], noise: &[f32], output: &mut [f32], records: &mut [u8]) -> RunResult {
     unsafe {
         more1090_run(state, mode_s.as_ptr(), mode_s.len(), mode_ac.as_ptr(), mode_ac.len(),
             memory.as_mut_ptr(), memory.len(), draws.as_ptr(), draws.len(), noise.as_ptr(), noise.len(),
@@ -137,7 +137,7 @@ impl Run {
 
     /// A run call; the state for the next one is kept.
     #[rustfmt::skip]
-    pub fn call(&mut self, draws: &[u8], noise: &[f32], output: &mut [f32], records: &mut [u8]) -> Ran {
+    pub fn call(&mut self, draws: &[u8], noise: &[f32], output: &mut [f32], records: &mut [u8]) -> RunResult {
         let ran = run(self.state, &self.mode_s, &self.mode_ac, &mut self.memory, draws, noise, output, records);
         self.state = ran.state;
         ran

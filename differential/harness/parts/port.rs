@@ -5,7 +5,7 @@ mod more1090_generator;
 
 use crate::calls::{OPENING_MARK, OUTPUT_MARK, RECORDS_MARK};
 use crate::tape::*;
-use more1090_generator::{DONE, Ran, Run, State};
+use more1090_generator::{STOP_DONE, RunResult, Run, State};
 
 /// A run that the port opened, with the memory lent to it.
 pub struct Port {
@@ -39,7 +39,7 @@ impl Port {
         (p, opened.refusal, opened.value)
     }
 
-    fn run(&mut self, l: Lent) -> Ran {
+    fn run(&mut self, l: Lent) -> RunResult {
         // A length asked for above what there is: more is lent, as marks.
         let lend = |v: &mut Vec<f32>, n: usize| v.resize(n.max(v.len()), OPENING_MARK);
         let whole = [self.memory.len(), self.mode_s.len(), self.mode_ac.len()];
@@ -101,7 +101,7 @@ impl Port {
             output: &mut output,
             records: &mut records,
         });
-        let counts = [ran.stop, ran.taken, ran.samples, ran.noise, ran.records];
+        let counts = [ran.stop, ran.draws_taken, ran.samples_written, ran.noise_used, ran.records_written];
         put_answer(b, ran.refusal, [ran.value, ran.field], counts);
         put_floats(b, &output);
         b.extend(&records);
@@ -127,11 +127,11 @@ pub fn run_whole(tape: &Tape, samples: usize, stored: bool) -> (Vec<f32>, Vec<u8
             &mut output,
             &mut records,
         );
-        all.0.extend(&output[..2 * ran.samples as usize]);
-        all.1.extend(&records[..RECORD_BYTES * ran.records as usize]);
-        taken += ran.taken as usize;
-        used += ran.noise as usize;
-        if ran.refusal != 0 || ran.stop == DONE || ran.taken + ran.samples == 0 {
+        all.0.extend(&output[..2 * ran.samples_written as usize]);
+        all.1.extend(&records[..RECORD_BYTES * ran.records_written as usize]);
+        taken += ran.draws_taken as usize;
+        used += ran.noise_used as usize;
+        if ran.refusal != 0 || ran.stop == STOP_DONE || ran.draws_taken + ran.samples_written == 0 {
             break;
         }
         next = if stored { taken_up(&run.save()) } else { Some(run) };
