@@ -1,8 +1,10 @@
 // Samples for other tools: a tape on standard input, its samples on standard output as interleaved little-endian f32 (cf32), its records, 66 bytes each, in the file that the first argument names.
 // Samples are written as they come, records once the run is done. Each second of signal, how it ended, and a write that fails are reported on standard error.
 ghost use Prim.Native.Nat.{_≤_};
+use constants::RECORD_LEN;
 use libc::STDERR_FILENO;
 use libc::STDOUT_FILENO;
+use tape_sections::MAX_RECORDS_LEN;
 use tape_verdict::Outcome;
 
 // A line on standard error: a word, a number, and the samples written.
@@ -29,10 +31,10 @@ fn put_records(fd: i32, records: &[u8]) -> bool {
 }
 
 // The records of a run that is done, and how it ended.
-fn finish(fd: i32, records: [u8; 26400], count: usize, samples: u64)
+fn finish(fd: i32, records: [u8; MAX_RECORDS_LEN], count: usize, samples: u64)
     requires { ⌜ count ≤ 400 ⌝ }
 {
-    let end = 66 * count;
+    let end = RECORD_LEN * count;
     if put_records(fd, &records[..end]) {
         report(b"records ", count as u64, samples);
     }
@@ -40,7 +42,7 @@ fn finish(fd: i32, records: [u8; 26400], count: usize, samples: u64)
 
 // The samples, the records, and how it ended.
 fn convert(fd: i32) {
-    let mut records = [0u8; 26400];
+    let mut records = [0u8; MAX_RECORDS_LEN];
     match tape_run::run_tape(true, &mut records) {
         Outcome::Done(count, samples) => finish(fd, records, count, samples),
         Outcome::Refused(number, samples) => report(b"refused ", number, samples),

@@ -4,6 +4,7 @@ ghost use Rattle.draw.specs.Draw.{picksAt, drawAt, bytesAt};
 ghost use Rattle.message.specs.Types.{typeNumbered};
 ghost use Rattle.message.specs.Making.{checked};
 ghost use Rattle.draw.specs.Fault.{typeFits, amplitudeFits, modeACLimit, clockFits, parameterFault, messageFault, drawFault, firstFault};
+use constants::DRAW_LEN;
 use draw::Draw;
 use draw::DrawFault;
 use le_read::wide;
@@ -169,13 +170,13 @@ pub fn first_fault(draws: &[u8], rates: MessagesPerSecond, all: Distributions) -
 {
     let mut rest = draws;
     let mut k: u64 = 0;
-    while 65 <= rest.len() {
+    while DRAW_LEN <= rest.len() {
         let d = read(rest);
         let f = field_fault(rates, all, d);
         if let FieldFault::Field(n) = f {
             return DrawFault::At(k, n);
         }
-        rest = &rest[65..];
+        rest = &rest[DRAW_LEN..];
         k = k + 1;
     }
     DrawFault::None

@@ -6,6 +6,7 @@ ghost use lib.ListN.{length, drop, getD};
 ghost use lib.Ieee.{binary32, nan, add, mul, sub};
 ghost use Rattle.constants.specs.Rate.{four};
 ghost use Rattle.filterbank.specs.Taps.{one, branchOf, tauOf, branch, between, filterTaps};
+use constants::PROTOTYPE_LEN;
 
 // The branch at a phase, from the phase times 256.
 fn branch_of(phase: f64) -> usize
@@ -71,7 +72,7 @@ fn at_bank_end(p: &[f32], tau: f32) -> [f32; 7]
 pub fn filter_taps(prototype: &[f32], phase: f64) -> [f32; 7]
     ensures { λ r. ⌜ r ≡ filterTaps four (now (prototype .entry)) phase ⌝ }
 {
-    if prototype.len() != 1792 {
+    if prototype.len() != PROTOTYPE_LEN {
         return [0.0; 7];
     }
     let a = branch_of(phase);

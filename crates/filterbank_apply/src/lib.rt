@@ -6,6 +6,7 @@ ghost use mathlib.Core.Bool.{cond};
 ghost use lib.ListN.{take};
 ghost use lib.Ieee.{binary32, add};
 ghost use Rattle.filterbank.specs.PaddedPulsesModel.{padPulses, paddedSum};
+use constants::MAX_POSITIONS;
 use constants::least;
 use filterbank::Clock;
 
@@ -44,10 +45,10 @@ pub fn advance(clock: Clock, step: f64) -> Clock
 }
 
 // The first `len` pulses laid six places late, so that a sum over them needs no tests of their places.
-pub fn pad_pulses(on: [bool; 240], len: usize) -> [bool; 252]
+pub fn pad_pulses(on: [bool; MAX_POSITIONS], len: usize) -> [bool; 252]
     ensures { λ r. ⌜ r ≡ padPulses (take len on) ⌝ }
 {
-    let n = least(len, 240);
+    let n = least(len, MAX_POSITIONS);
     let mut out = [false; 252];
     let mut j: usize = 0;
     while j < n {

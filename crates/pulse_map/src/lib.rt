@@ -3,10 +3,11 @@ ghost use mathlib.Core.Path.{_≡_};
 ghost use Prim.Native.Nat.{_<_, _≤_};
 ghost use Rattle.pulse_map.specs.ModeS.{byteBit, modeSBits, modeSPulses};
 ghost use Rattle.pulse_map.specs.ModeAC.{modeACPulses};
+use constants::MAX_POSITIONS;
 
 // Where pulses stand, one entry for each place of half a microsecond, and how many places there are; none stands beyond them.
 pub struct Pulses {
-    pub on: [bool; 240],
+    pub on: [bool; MAX_POSITIONS],
     pub len: usize,
 }
 
@@ -28,7 +29,7 @@ pub fn mode_s_pulses(bytes: [u8; 14], long: bool) -> Pulses
     ensures { λ r. ⌜ r ≡ modeSPulses bytes long ⌝ }
 {
     let bits = num_bits(long);
-    let mut on = [false; 240];
+    let mut on = [false; MAX_POSITIONS];
     on[0] = true;
     on[2] = true;
     on[7] = true;
@@ -46,7 +47,7 @@ pub fn mode_s_pulses(bytes: [u8; 14], long: bool) -> Pulses
 pub fn mode_ac_pulses(data: u16, spi: bool) -> Pulses
     ensures { λ r. ⌜ r ≡ modeACPulses «data» spi ⌝ }
 {
-    let mut on = [false; 240];
+    let mut on = [false; MAX_POSITIONS];
     on[0] = true;
     let mut n: usize = 0;
     while n < 12 {

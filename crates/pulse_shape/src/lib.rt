@@ -9,6 +9,7 @@ ghost use Rattle.pulse_shape.specs.Values.{values};
 ghost use Rattle.pulse_shape.specs.Trapezoid.{trapezoidAt, modeSTrapezoid, modeACTrapezoid};
 ghost use Rattle.pulse_shape.specs.Convolve.{productsFrom, firstTerm, convolveAt};
 ghost use Rattle.pulse_shape.specs.Prototype.{prototypeOf, modeSPrototype, modeACPrototype};
+use constants::PROTOTYPE_LEN;
 use constants::least;
 
 // m / n, each taken as an f32.
@@ -93,26 +94,26 @@ fn convolve_at(a: &[f32], b: &[f32], j: usize) -> f32
     products(a, b, j, first_term(b.len(), j), least(j + 1, a.len()))
 }
 
-fn prototype(pulse: &[f32], lowpass: &[f32]) -> [f32; 1792]
+fn prototype(pulse: &[f32], lowpass: &[f32]) -> [f32; PROTOTYPE_LEN]
     ensures { λ r. ⌜ r ≡ prototypeOf four (now (pulse .entry)) (now (lowpass .entry)) ⌝ }
 {
-    let mut out = [0.0f32; 1792];
+    let mut out = [0.0f32; PROTOTYPE_LEN];
     let mut j: usize = 0;
-    while j < 1792 {
+    while j < PROTOTYPE_LEN {
         out[j] = convolve_at(pulse, lowpass, j);
         j = j + 1;
     }
     out
 }
 
-pub fn mode_s_prototype(lowpass: &[f32]) -> [f32; 1792]
+pub fn mode_s_prototype(lowpass: &[f32]) -> [f32; PROTOTYPE_LEN]
     ensures { λ r. ⌜ r ≡ modeSPrototype four (now (lowpass .entry)) ⌝ }
 {
     let pulse = mode_s_trapezoid();
     prototype(&pulse, lowpass)
 }
 
-pub fn mode_ac_prototype(lowpass: &[f32]) -> [f32; 1792]
+pub fn mode_ac_prototype(lowpass: &[f32]) -> [f32; PROTOTYPE_LEN]
     ensures { λ r. ⌜ r ≡ modeACPrototype four (now (lowpass .entry)) ⌝ }
 {
     let pulse = mode_ac_trapezoid();

@@ -2,6 +2,8 @@
 ghost use mathlib.Core.Path.{_≡_};
 ghost use Rattle.constants.specs.Rate.{four};
 ghost use Rattle.pulse_shape.specs.Accepted.{within16, allWithin16, modeSTapsAccepted, modeACTapsAccepted};
+use constants::MODE_AC_TAPS_LEN;
+use constants::MODE_S_TAPS_LEN;
 
 fn within_16(x: f32) -> bool
     ensures { λ r. ⌜ r ≡ within16 x ⌝ }
@@ -29,7 +31,7 @@ pub fn all_within_16(values: &[f32]) -> bool
 pub fn mode_s_taps_accepted(taps: &[f32]) -> bool
     ensures { λ r. ⌜ r ≡ modeSTapsAccepted four (now (taps .entry)) ⌝ }
 {
-    if taps.len() == 1486 {
+    if taps.len() == MODE_S_TAPS_LEN {
         return all_within_16(taps);
     }
     false
@@ -38,7 +40,7 @@ pub fn mode_s_taps_accepted(taps: &[f32]) -> bool
 pub fn mode_ac_taps_accepted(taps: &[f32]) -> bool
     ensures { λ r. ⌜ r ≡ modeACTapsAccepted four (now (taps .entry)) ⌝ }
 {
-    if taps.len() == 1515 {
+    if taps.len() == MODE_AC_TAPS_LEN {
         return all_within_16(taps);
     }
     false

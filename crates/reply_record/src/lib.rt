@@ -5,6 +5,7 @@ ghost use Prim.Native.Nat.{_+_, _≤_, _<_};
 ghost use lib.ListN.{length};
 ghost use Rattle.le_read.specs.LeBytes.{inside, overwritten};
 ghost use Rattle.reply_record.specs.Record.{recordLength, messageLength, floatBytes, otherBytes, recordBytes, recordAt};
+use constants::RECORD_LEN;
 use message::Reply;
 use message::ReplyKind;
 use message_config::MessageConfig;
@@ -66,7 +67,7 @@ fn put_others(d: &mut [u8], at: usize, reply: Reply, first: u64, kind: u8, count
 pub fn put(d: &mut [u8], at: usize, c: MessageConfig, first: u64, kind: u8, count: u16) -> bool
     ensures { λ r. ⌜ (r ≡ inside recordLength (now (d .entry)) at) × (now (d .exit) ≡ recordAt (now (d .entry)) at (recordBytes c first kind count)) ⌝ }
 {
-    if le_read::holds(d.len(), at, 66) {
+    if le_read::holds(d.len(), at, RECORD_LEN) {
         let reply = c.reply;
         put_floats(d, at, c);
         put_others(d, at + 40, reply, first, kind, count);

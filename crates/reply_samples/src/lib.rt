@@ -7,6 +7,9 @@ ghost use lib.Ieee.{binary32, nan, add};
 ghost use Rattle.constants.specs.Rate.{four};
 ghost use Rattle.reply_samples.specs.Samples.{sampleAt, rotated};
 ghost use Rattle.reply_samples.specs.RingModel.{addedAt, nextSlot, addedFrom, addedReply, addedCount};
+use constants::LAST_SLOT;
+use constants::MEMORY_LEN;
+use constants::RING_SLOTS;
 
 // A complex sample.
 pub struct Sample {
@@ -48,7 +51,7 @@ fn add_at(memory: &mut [f32], slot: usize, z: Sample)
 fn next_slot(slot: usize) -> usize
     ensures { λ r. ⌜ (r ≡ nextSlot four slot) × (r < 1126) ⌝ }
 {
-    if slot < 1125 {
+    if slot < LAST_SLOT {
         return slot + 1;
     }
     0
@@ -84,10 +87,10 @@ pub fn add_rotated(
 ) -> usize
     ensures { λ r. ⌜ (now (memory .exit) ≡ addedReply four (now (memory .entry)) slot (rotated amplitude rate phase (now (values .entry)))) × (r ≡ addedCount four (now (memory .entry)) slot (length (now (values .entry)))) × (r ≤ length (now (values .entry))) ⌝ }
 {
-    if memory.len() != 2252 {
+    if memory.len() != MEMORY_LEN {
         return 0;
     }
-    if slot >= 1126 {
+    if slot >= RING_SLOTS {
         return 0;
     }
     add_from(values, amplitude, rate, phase, memory, slot);

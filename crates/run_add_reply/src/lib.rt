@@ -4,6 +4,7 @@ ghost use Prim.Native.Nat.{_%_};
 ghost use Rattle.constants.specs.Rate.{four};
 ghost use Rattle.reply_samples.specs.RingModel.{ringSlots};
 ghost use Rattle.run_add_reply.specs.RecordedModel.{memoryWith, recordsWith};
+use constants::RING_SLOTS_U64;
 use message_config::Delays;
 use message_config::MessageConfig;
 
@@ -11,7 +12,7 @@ use message_config::MessageConfig;
 fn ring(n: u64) -> usize
     ensures { λ r. ⌜ r ≡ n % ringSlots four ⌝ }
 {
-    (n % 1126) as usize
+    (n % RING_SLOTS_U64) as usize
 }
 
 // Adds the reply of the draw at the start of the bytes, given its message but for the reply's bytes, from its first sample on, and writes its record from `at` on. Other memory, and records with no room, are left as they are.

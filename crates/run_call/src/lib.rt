@@ -6,6 +6,8 @@ ghost use lib.Ieee.{nan};
 ghost use Rattle.run_call.specs.CallModel.{initialBy, ranBy, callLeft, refusedBy, runLeft};
 ghost use Rattle.run_call.specs.StepModel.{Inside, progressRead, restAfter, StepSays};
 ghost use Rattle.run_call.specs.StateGenerator.{genOf};
+use constants::DRAW_LEN;
+use constants::RECORD_LEN;
 use draw::DrawFault;
 use message_config::Delays;
 use refusals::Refusal;
@@ -78,7 +80,7 @@ fn step(
         rest.len(),
         output.len() - used,
         noise.len() - used,
-        records.len() - 66 * lines,
+        records.len() - RECORD_LEN * lines,
     );
     let r = run_steps::after_step(t, p);
     match p {
@@ -110,7 +112,7 @@ fn step(
             memory,
             rest,
             records,
-            66 * lines,
+            RECORD_LEN * lines,
         ),
     }
     r
@@ -183,7 +185,7 @@ fn steps(
         match last {
             LastStep::SamplesWritten => {}
             LastStep::DrawTaken => {
-                rest = &rest[65..];
+                rest = &rest[DRAW_LEN..];
             }
             LastStep::StopReached(w) => {
                 return stopped_at(s, t, w);

@@ -7,6 +7,9 @@ ghost use Rattle.run_call_checks.specs.Checks.{wrongMemory};
 ghost use Rattle.run_call_checks.specs.ChecksModel.{wrongBuffers, jumpOf, faultRead, checkGenerator};
 ghost use Rattle.run_generator.specs.Instance.{outOfRange};
 ghost use Rattle.run_call_checks.specs.NoiseModel.{outOfRangeFrom, noiseFaultRead};
+use constants::DRAW_LEN;
+use constants::MEMORY_LEN;
+use constants::PROTOTYPE_LEN;
 use draw::DrawFault;
 use settings::Distributions;
 use settings::MessagesPerSecond;
@@ -21,13 +24,13 @@ pub fn lengths_wrong(
 ) -> bool
     ensures { λ r. ⌜ r ≡ (wrongMemory memory «mode_s» «mode_ac» || wrongBuffers output draws) ⌝ }
 {
-    if memory != 2252 {
+    if memory != MEMORY_LEN {
         return true;
     }
-    if mode_s != 1792 {
+    if mode_s != PROTOTYPE_LEN {
         return true;
     }
-    if mode_ac != 1792 {
+    if mode_ac != PROTOTYPE_LEN {
         return true;
     }
     if output == 0 {
@@ -36,14 +39,14 @@ pub fn lengths_wrong(
     if output % 2 != 0 {
         return true;
     }
-    draws % 65 != 0
+    draws % DRAW_LEN != 0
 }
 
 // A first lent draw jumps back.
 fn jumps_back(time: f64, latest: f64, draws: &[u8]) -> bool
     ensures { λ r. ⌜ r ≡ jumpOf time latest (now (draws .entry)) ⌝ }
 {
-    if draws.len() < 65 {
+    if draws.len() < DRAW_LEN {
         return false;
     }
     draw::time_after(time, draws) < latest

@@ -5,6 +5,9 @@ ghost use lib.ListN.{length, drop, take};
 ghost use Rattle.run_call_model.specs.Buffers.{overwritten};
 ghost use Rattle.run_theory.specs.Zeros.{zeros};
 ghost use Rattle.run_due_samples.specs.DueModel.{mix, samplesOf, clearOf, fitsOf, DueBuffers, dueOf};
+use constants::MEMORY_LEN;
+use constants::NOISE_SCALE;
+use constants::RING_SLOTS_U64;
 
 // Writes a stretch of the memory with its noise.
 fn mix_stretch(
@@ -21,7 +24,7 @@ fn mix_stretch(
 {
     let mut i: usize = 0;
     while i < len {
-        output[at + i] = memory[p + i] + noise[from + i] * 0.0009765625;
+        output[at + i] = memory[p + i] + noise[from + i] * NOISE_SCALE;
         i = i + 1;
     }
 }
@@ -65,7 +68,7 @@ fn least(a: usize, b: usize) -> usize
 fn ring(n: u64) -> usize
     ensures { λ r. ⌜ r ≡ n % 1126 ⌝ }
 {
-    (n % 1126) as usize
+    (n % RING_SLOTS_U64) as usize
 }
 
 // Writes samples from sample `written` on, two numbers each, stretch by stretch.
@@ -84,7 +87,7 @@ fn write_all(
     let mut p = 2 * ring(written);
     let mut done: usize = 0;
     while done < values {
-        let len = least(2252 - p, values - done);
+        let len = least(MEMORY_LEN - p, values - done);
         stretch(memory, noise, output, p, from + done, at + done, len);
         done = done + len;
         p = 0;
@@ -95,7 +98,7 @@ fn write_all(
 fn fits(memory: usize, noise: usize, output: usize, samples: usize, n: usize) -> bool
     ensures { λ r. ⌜ r ≡ fitsOf memory noise output samples n ⌝ }
 {
-    if memory != 2252 {
+    if memory != MEMORY_LEN {
         return false;
     }
     let room = least(noise, output) / 2;

@@ -6,6 +6,7 @@ ghost use Rattle.run_theory.specs.Zeros.{zeros};
 ghost use Rattle.run_open.specs.FillModel.{over};
 ghost use Rattle.constants.specs.Rate.{four};
 ghost use Rattle.run_open_checks.specs.Opening.{half, openedOf, isRun, leftBy};
+use constants::PROTOTYPE_LEN;
 use constants::least;
 use run_open_checks::Opened;
 
@@ -34,8 +35,8 @@ fn clear(memory: &mut [f32])
 // Where it is wanted, writes the two lists over the prototypes and sets working memory to 0.0.
 pub fn fill(
     wanted: bool,
-    proto_s: [f32; 1792],
-    proto_ac: [f32; 1792],
+    proto_s: [f32; PROTOTYPE_LEN],
+    proto_ac: [f32; PROTOTYPE_LEN],
     mode_s: &mut [f32],
     mode_ac: &mut [f32],
     memory: &mut [f32],

@@ -3,6 +3,9 @@ ghost use mathlib.Core.Path.{_≡_};
 ghost use Rattle.constants.specs.Rate.{four};
 ghost use Rattle.pulse_shape.specs.Prototype.{modeSPrototype, modeACPrototype};
 ghost use Rattle.run_open_checks.specs.Opening.{half, buffersFit, modeSDelay, modeACDelay, firstState, delaysThen, tapsOf, openedFor, preparedOf};
+use constants::MEMORY_LEN;
+use constants::PROTOTYPE_LEN;
+use constants::SETTINGS_LEN;
 use message_config::Delays;
 use pulse_shape::Crossing;
 use refusals::Refusal;
@@ -19,24 +22,24 @@ pub enum Opened {
 // What opening answers, and the prototypes that a run is opened with.
 pub struct Prepared {
     pub opened: Opened,
-    pub mode_s: [f32; 1792],
-    pub mode_ac: [f32; 1792],
+    pub mode_s: [f32; PROTOTYPE_LEN],
+    pub mode_ac: [f32; PROTOTYPE_LEN],
 }
 
 // Whether the settings, the prototypes and working memory have their lengths.
 fn buffers_fit(settings: usize, mode_s: usize, mode_ac: usize, memory: usize) -> bool
     ensures { λ r. ⌜ r ≡ buffersFit four settings «mode_s» «mode_ac» memory ⌝ }
 {
-    if settings != 119 {
+    if settings != SETTINGS_LEN {
         return false;
     }
-    if memory != 2252 {
+    if memory != MEMORY_LEN {
         return false;
     }
-    if mode_s != 1792 {
+    if mode_s != PROTOTYPE_LEN {
         return false;
     }
-    if mode_ac != 1792 {
+    if mode_ac != PROTOTYPE_LEN {
         return false;
     }
     true

@@ -9,6 +9,10 @@ ghost use Rattle.run_call_model.specs.Plan.{planEnded, planReply, planDraw, sto
 ghost use Rattle.run_steps.specs.PlanModel.{counted, stopRead, planRead, isNegative, chosen};
 ghost use lib.Ieee.{lt};
 ghost use Rattle.run_steps.specs.ProgressModel.{progressAfterSamples, progressAfterDraw, progressAfterStop, progressAfterStep};
+use constants::DRAW_LEN;
+use constants::HOLD_BACK;
+use constants::RECORD_LEN;
+use constants::REPLY_LIMIT;
 use message_config::Delays;
 use message_config::MessageConfig;
 
@@ -82,13 +86,13 @@ fn drain(written: u64, total: u64, room: usize, noise: usize) -> Plan
 fn due_before(first: u64, written: u64) -> u64
     ensures { λ r. ⌜ r ≡ first - 32 - written ⌝ }
 {
-    if first <= 32 {
+    if first <= HOLD_BACK {
         return 0;
     }
-    if first - 32 <= written {
+    if first - HOLD_BACK <= written {
         return 0;
     }
-    first - 32 - written
+    first - HOLD_BACK - written
 }
 
 // The samples due by the start of a draw at its time.
@@ -125,7 +129,7 @@ fn reply(written: u64, time: f64, first: u64, room: usize, noise: usize, bytes: 
     if 0 < n {
         return due(n, time, room, noise);
     }
-    if bytes < 66 {
+    if bytes < RECORD_LEN {
         return Plan::Halt(Stop::RecordsFull);
     }
     Plan::Add(time, first)
@@ -147,7 +151,7 @@ fn classify(
         return Plan::Skip(time);
     }
     let first = sample_number(start);
-    if total <= first + 1094 {
+    if total <= first + REPLY_LIMIT {
         return Plan::End(time);
     }
     reply(written, time, first, room, noise, bytes)
@@ -170,7 +174,7 @@ pub fn choose(
     if ended {
         return drain(written, total, room, noise);
     }
-    if rest < 65 {
+    if rest < DRAW_LEN {
         return Plan::Halt(Stop::WantsDraws);
     }
     let start = last.first_sample_index(delays);

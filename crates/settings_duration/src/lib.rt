@@ -2,6 +2,7 @@
 ghost use mathlib.Core.Path.{_≡_};
 ghost use Rattle.constants.specs.Rate.{four};
 ghost use Rattle.settings_duration.specs.Duration.{answerOf, durationOf};
+use constants::SAMPLE_RATE;
 
 // What a duration answers: its samples, or refusal 1.
 pub enum InSamples {
@@ -25,7 +26,7 @@ pub fn duration_as_samples(seconds: u64, nanoseconds: u32) -> InSamples
     if seconds > 562_949_953 {
         return InSamples::Refused;
     }
-    let samples = seconds * 8_000_000 + wide(nanoseconds) / 125;
+    let samples = seconds * SAMPLE_RATE + wide(nanoseconds) / 125;
     if samples > 0x10_0000_0000_0000 {
         return InSamples::Refused;
     }

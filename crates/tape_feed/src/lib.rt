@@ -2,6 +2,8 @@
 ghost use mathlib.Core.Path.{_≡_};
 ghost use Prim.Native.Nat.{_*_, _≤_, _<_, min};
 ghost use Rattle.tape_feed.specs.FeedModel.{feedAfter, calledOf, fedOf};
+use constants::DRAW_LEN;
+use constants::RECORD_LEN;
 use run_call::Answer;
 use run_call::Ran;
 use tape_verdict::Feed;
@@ -45,8 +47,8 @@ fn call(
 ) -> Feed
     ensures { λ r. ⌜ record { feed = r; memory = now (memory .exit); output = now (output .exit); records = now (records .exit) } ≡ calledOf (now («mode_s» .entry)) (now («mode_ac» .entry)) (now (draws .entry)) (now (noise .entry)) (record { feed = f; memory = now (memory .entry); output = now (output .entry); records = now (records .entry) }) ⌝ }
 {
-    let a = place(f.taken, 65, draws.len());
-    let b = place(f.records, 66, records.len());
+    let a = place(f.taken, DRAW_LEN, draws.len());
+    let b = place(f.records, RECORD_LEN, records.len());
     let s = f.state;
     let r = run_call::run(
         s,

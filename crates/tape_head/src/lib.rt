@@ -6,6 +6,8 @@ ghost use Rattle.constants.specs.Rate.{four};
 ghost use Rattle.run_open_checks.specs.Opening.{half, preparedOf};
 ghost use Rattle.tape_sections.specs.Sections.{sectionAt};
 ghost use Rattle.tape_head.specs.Head.{noiseThen, drawsThen, openedThen, taps, tapsS, tapsAC, settingsBytes, tapsThen, earlyOf, begins, headOf};
+use constants::DRAW_LEN;
+use constants::MODE_S_TAPS_LEN;
 use draw::DrawFault;
 use le_read::ReadU32;
 use run_call::State;
@@ -13,6 +15,16 @@ use run_open_checks::Opened;
 use run_open_checks::Prepared;
 use settings::Checked;
 use tape_sections::Counted;
+use tape_sections::DRAW_SIZE;
+use tape_sections::DRAWS_COUNT_OFFSET;
+use tape_sections::DRAWS_OFFSET;
+use tape_sections::MAX_DRAWS;
+use tape_sections::SETTINGS_SIZE;
+use tape_sections::TAP_SIZE;
+use tape_sections::TAPS_COUNT;
+use tape_sections::TAPS_COUNT_OFFSET;
+use tape_sections::TAPS_LEN;
+use tape_sections::TAPS_OFFSET;
 pub use tape_sections::head_length;
 
 // That nothing before the taps' values is refused, or the refusal's number.
@@ -32,7 +44,7 @@ fn noise_count(state: State, n: u64, tape: &[u8]) -> Beginning
     requires { ⌜ n ≤ 400 ⌝ }
     ensures { λ r. ⌜ r ≡ noiseThen four (now (tape .entry)) state n ⌝ }
 {
-    match le_read::le_u32(tape, 12135 + 65 * n as usize) {
+    match le_read::le_u32(tape, DRAWS_OFFSET + DRAW_LEN * n as usize) {
         ReadU32::Value(count) => Beginning::Run(state, n, count as u64),
         ReadU32::OutOfBounds => Beginning::Refused(11),
     }
@@ -45,8 +57,8 @@ fn check_draws(state: State, n: u64, tape: &[u8]) -> Beginning
 {
     let rates = state.rates;
     let all = state.distributions;
-    let end = 12135 + 65 * n as usize;
-    match draw_fields::first_fault(&tape[12135..end], rates, all) {
+    let end = DRAWS_OFFSET + DRAW_LEN * n as usize;
+    match draw_fields::first_fault(&tape[DRAWS_OFFSET..end], rates, all) {
         DrawFault::None => noise_count(state, n, tape),
         DrawFault::At(_, _) => Beginning::Refused(7),
     }
@@ -56,18 +68,18 @@ fn check_draws(state: State, n: u64, tape: &[u8]) -> Beginning
 fn draws_section(state: State, tape: &[u8]) -> Beginning
     ensures { λ r. ⌜ r ≡ openedThen four (now (tape .entry)) (Opened.Run state) ⌝ }
 {
-    match tape_sections::section(tape, 12131, 0, 400, 65) {
+    match tape_sections::section(tape, DRAWS_COUNT_OFFSET, 0, MAX_DRAWS, DRAW_SIZE) {
         Counted::Of(n) => check_draws(state, n, tape),
         Counted::Wrong => Beginning::Refused(11),
     }
 }
 
-fn read_taps(tape: &[u8]) -> [f32; 3001]
+fn read_taps(tape: &[u8]) -> [f32; TAPS_LEN]
     requires { ⌜ 12131 ≤ length (now tape) ⌝ }
     ensures { λ r. ⌜ r ≡ taps four (now (tape .entry)) ⌝ }
 {
-    let mut taps = [0.0f32; 3001];
-    tape_floats::floats(&tape[127..], &mut taps);
+    let mut taps = [0.0f32; TAPS_LEN];
+    tape_floats::floats(&tape[TAPS_OFFSET..], &mut taps);
     taps
 }
 
@@ -80,8 +92,8 @@ fn prepared(tape: &[u8], mode_s: usize, mode_ac: usize, memory: usize) -> Prepar
     let all: &[f32] = &taps;
     run_open_checks::prepare(
         &tape[4..123],
-        &all[..1486],
-        &all[1486..],
+        &all[..MODE_S_TAPS_LEN],
+        &all[MODE_S_TAPS_LEN..],
         mode_s,
         mode_ac,
         memory,
@@ -102,7 +114,7 @@ fn opened_then(opened: Opened, tape: &[u8]) -> Beginning
 fn taps_section(tape: &[u8]) -> Early
     ensures { λ r. ⌜ r ≡ tapsThen (sectionAt (now (tape .entry)) 123 3001 3001 4) ⌝ }
 {
-    match tape_sections::section(tape, 123, 3001, 3001, 4) {
+    match tape_sections::section(tape, TAPS_COUNT_OFFSET, TAPS_COUNT, TAPS_COUNT, TAP_SIZE) {
         Counted::Of(_) => Early::Accepted,
         Counted::Wrong => Early::Refused(11),
     }
@@ -112,7 +124,7 @@ fn taps_section(tape: &[u8]) -> Early
 fn before_taps(tape: &[u8]) -> Early
     ensures { λ r. ⌜ r ≡ earlyOf four (now (tape .entry)) ⌝ }
 {
-    if let Counted::Wrong = tape_sections::section(tape, 0, 1, 1, 119) {
+    if let Counted::Wrong = tape_sections::section(tape, 0, 1, 1, SETTINGS_SIZE) {
         return Early::Refused(11);
     }
     let s = settings::read(&tape[4..123]);

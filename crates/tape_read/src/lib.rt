@@ -4,6 +4,10 @@ ghost use Prim.Native.Nat.{_≤_, _<_};
 ghost use lib.ListN.{length};
 ghost use Rattle.io.specs.Counts.{Counts};
 use libc::STDIN_FILENO;
+use tape_sections::CHUNK_BYTES;
+use tape_sections::CHUNK_LEN;
+use tape_sections::DRAWS_OFFSET;
+use tape_sections::LONGEST_HEAD_LEN;
 
 // All that was asked for, or nothing.
 fn all_or_none(size: usize, got: usize) -> usize
@@ -30,10 +34,10 @@ pub fn read_values(want: usize, row: &mut [f32]) -> usize
     if row.len() < want {
         return 0;
     }
-    if 16384 < want {
+    if CHUNK_LEN < want {
         return 0;
     }
-    let mut bytes = [0u8; 65536];
+    let mut bytes = [0u8; CHUNK_BYTES];
     let size = read_whole(4 * want, &mut bytes);
     tape_floats::floats(&bytes[..size], row)
 }
@@ -42,14 +46,14 @@ pub fn read_values(want: usize, row: &mut [f32]) -> usize
 pub fn read_head(bytes: &mut [u8]) -> usize
     ensures { λ r. ⌜ Counts r (now (bytes .exit)) ⌝ }
 {
-    if bytes.len() < 38139 {
+    if bytes.len() < LONGEST_HEAD_LEN {
         return 0;
     }
-    let got = io::read_full(STDIN_FILENO, &mut bytes[..12135]);
-    if got < 12135 {
+    let got = io::read_full(STDIN_FILENO, &mut bytes[..DRAWS_OFFSET]);
+    if got < DRAWS_OFFSET {
         return got;
     }
-    let want = tape_sections::head_length(&bytes[..12135]);
-    let more = io::read_full(STDIN_FILENO, &mut bytes[12135..want]);
-    12135 + more
+    let want = tape_sections::head_length(&bytes[..DRAWS_OFFSET]);
+    let more = io::read_full(STDIN_FILENO, &mut bytes[DRAWS_OFFSET..want]);
+    DRAWS_OFFSET + more
 }

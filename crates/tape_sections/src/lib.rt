@@ -5,6 +5,48 @@ ghost use mathlib.Core.Bool.{_&&_};
 ghost use lib.Dec.{leb};
 ghost use Rattle.constants.specs.Rate.{four};
 ghost use Rattle.tape_sections.specs.Sections.{sectionAt, headLength};
+use constants::DRAW_LEN;
+
+// Offsets in a tape: the taps' count, the taps, the draws' count, the draws.
+pub const TAPS_COUNT_OFFSET: usize = 123;
+
+pub const TAPS_OFFSET: usize = 127;
+
+pub const DRAWS_COUNT_OFFSET: usize = 12131;
+
+pub const DRAWS_OFFSET: usize = 12135;
+
+// Bytes before the noise: with no draws, and with the most.
+pub const SHORTEST_HEAD_LEN: usize = 12139;
+
+pub const LONGEST_HEAD_LEN: usize = 38139;
+
+// Taps of both lowpasses, as a count and as a length.
+pub const TAPS_COUNT: u64 = 3001;
+
+pub const TAPS_LEN: usize = 3001;
+
+// The most draws of a tape.
+pub const MAX_DRAWS: u64 = 400;
+
+// Bytes of an entry of each section.
+pub const SETTINGS_SIZE: u32 = 119;
+
+pub const TAP_SIZE: u32 = 4;
+
+pub const DRAW_SIZE: u32 = 65;
+
+// Bytes of the records of the most draws.
+pub const MAX_RECORDS_LEN: usize = 26400;
+
+// Noise values that are fed to a run at once, and their bytes; the output beside them has room for a sample more.
+pub const CHUNK_VALUES: u64 = 16384;
+
+pub const CHUNK_LEN: usize = 16384;
+
+pub const CHUNK_BYTES: usize = 65536;
+
+pub const CHUNK_OUTPUT_LEN: usize = 16386;
 
 // The count of a section, or that its count or its length is wrong.
 pub enum Counted {
@@ -49,8 +91,8 @@ pub fn head_length(tape: &[u8]) -> usize
     ensures { λ r. ⌜ r ≡ headLength four (now (tape .entry)) ⌝ }
     ensures { λ r. ⌜ (12135 ≤ r) × (r ≤ 38139) ⌝ }
 {
-    match section(tape, 12131, 0, 400, 0) {
-        Counted::Of(n) => 12139 + 65 * n as usize,
-        Counted::Wrong => 12135,
+    match section(tape, DRAWS_COUNT_OFFSET, 0, MAX_DRAWS, 0) {
+        Counted::Of(n) => SHORTEST_HEAD_LEN + DRAW_LEN * n as usize,
+        Counted::Wrong => DRAWS_OFFSET,
     }
 }

@@ -4,9 +4,13 @@ ghost use mathlib.Core.Path.{_≡_};
 ghost use mathlib.Core.Bool.{true, cond};
 ghost use Prim.Native.Nat.{_-_, _≤_, min};
 ghost use Rattle.tape_theory.specs.PlainTape.{FedCut};
+use constants::SAMPLE_RATE;
 use libc::STDERR_FILENO;
 use libc::STDIN_FILENO;
 use libc::STDOUT_FILENO;
+use tape_sections::CHUNK_LEN;
+use tape_sections::CHUNK_OUTPUT_LEN;
+use tape_sections::CHUNK_VALUES;
 use tape_verdict::Feed;
 
 fn least(a: u64, b: u64) -> u64
@@ -26,8 +30,8 @@ fn difference(a: u64, b: u64) -> u64
 
 // A line on standard error for each second of signal.
 fn progress(before: u64, after: u64) {
-    let second = after / 8000000;
-    if before / 8000000 < second {
+    let second = after / SAMPLE_RATE;
+    if before / SAMPLE_RATE < second {
         io::write_all(STDERR_FILENO, b"second ");
         io::print_decimal(STDERR_FILENO, second);
         io::write_all(STDERR_FILENO, b", samples ");
@@ -116,8 +120,8 @@ pub fn feed_section(
     let mut want: u64 = 0;
     let mut turns: u64 = 1;
     while 0 < turns {
-        let mut row = [0.0f32; 16384];
-        let mut output = [0.0f32; 16386];
+        let mut row = [0.0f32; CHUNK_LEN];
+        let mut output = [0.0f32; CHUNK_OUTPUT_LEN];
         let n = tape_read::read_values(want as usize, &mut row);
         let before = f.state.written;
         f = tape_feed::feed_noise(
@@ -133,7 +137,7 @@ pub fn feed_section(
         untaken = put_samples(samples, before, f.state.written, &output);
         short = either((n as u64) < want, untaken);
         left = left_after(left, want, short);
-        want = least(left, 16384);
+        want = least(left, CHUNK_VALUES);
         turns = least(want, 1);
     }
     Section {

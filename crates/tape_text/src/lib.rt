@@ -6,8 +6,15 @@ ghost use mathlib.Core.List.{_∷_, []};
 ghost use Rattle.io.specs.Counts.{Counts};
 ghost use Rattle.le_read.specs.LeBytes.{overwritten};
 ghost use Rattle.tape_text.specs.Text.{number, hexDigit, hex, hexLine, messageOf, lineOf, linesOf, runText, refusedText, Put};
+use constants::RECORD_LEN;
 use constants::least;
 use le_read::wide;
+
+// Room for the text of a tape.
+pub const TEXT_LEN: usize = 40960;
+
+// Lines of text, one for each draw at most.
+const MAX_LINES: usize = 400;
 
 fn hex_digit(d: u8) -> u8
     requires { ⌜ d < 16 ⌝ }
@@ -111,18 +118,18 @@ fn put_lines(records: &[u8], n: usize, out: &mut [u8], at: usize) -> usize
     let mut k: usize = 0;
     while k < n {
         end = put_line(rest, out, end);
-        rest = &rest[66..];
+        rest = &rest[RECORD_LEN..];
         k = k + 1;
     }
     end
 }
 
 // What is printed of a run with its records, so many of them; its length.
-pub fn run_text(records: &[u8], count: usize, samples: u64, out: &mut [u8; 40960]) -> usize
+pub fn run_text(records: &[u8], count: usize, samples: u64, out: &mut [u8; TEXT_LEN]) -> usize
     ensures { λ r. ⌜ (r ≡ length (runText (now (records .entry)) count samples)) × (now (out .exit) ≡ overwritten (now (out .entry)) 0 (runText (now (records .entry)) count samples)) ⌝ }
     ensures { λ r. ⌜ Counts r (now (out .exit)) ⌝ }
 {
-    let n = least(count, least(records.len() / 66, 400));
+    let n = least(count, least(records.len() / RECORD_LEN, MAX_LINES));
     let a = put_bytes(b"first type count message\n", out, 0);
     let b = put_lines(records, n, out, a);
     let c = put_bytes(b"samples ", out, b);
@@ -130,7 +137,7 @@ pub fn run_text(records: &[u8], count: usize, samples: u64, out: &mut [u8; 40960
 }
 
 // What is printed of a refusal with its number; its length.
-pub fn refused_text(refusal: u64, out: &mut [u8; 40960]) -> usize
+pub fn refused_text(refusal: u64, out: &mut [u8; TEXT_LEN]) -> usize
     ensures { λ r. ⌜ (r ≡ length (refusedText refusal)) × (now (out .exit) ≡ overwritten (now (out .entry)) 0 (refusedText refusal)) ⌝ }
     ensures { λ r. ⌜ Counts r (now (out .exit)) ⌝ }
 {

@@ -6,6 +6,7 @@ ghost use Rattle.pulse_map.specs.ModeAC.{modeACPulses};
 ghost use Rattle.pulse_length.specs.Length.{modeSNumSamples, modeACNumSamples};
 ghost use Rattle.settings_duration.specs.Duration.{answerOf, durationOf};
 ghost use Rattle.test_exports.specs.Pulses.{samplesNumber};
+use constants::MAX_POSITIONS;
 use settings_duration::InSamples;
 
 // How many places there are; where pulses stand goes to `on`, and the length in samples to `samples`.
@@ -13,7 +14,7 @@ use settings_duration::InSamples;
 pub extern "C" fn port_mode_s_pulses(
     message: &[u8; 14],
     long: bool,
-    on: &mut [bool; 240],
+    on: &mut [bool; MAX_POSITIONS],
     samples: &mut usize,
 ) -> usize
     ensures { λ r. ⌜ (r ≡ modeSPulses (now (message .entry)) long .len) × ((now (on .exit) ≡ modeSPulses (now (message .entry)) long .on) × (now (samples .exit) ≡ modeSNumSamples four long)) ⌝ }
@@ -30,7 +31,7 @@ pub extern "C" fn port_mode_s_pulses(
 pub extern "C" fn port_mode_ac_pulses(
     data: u16,
     spi: bool,
-    on: &mut [bool; 240],
+    on: &mut [bool; MAX_POSITIONS],
     samples: &mut usize,
 ) -> usize
     ensures { λ r. ⌜ (r ≡ modeACPulses «data» spi .len) × ((now (on .exit) ≡ modeACPulses «data» spi .on) × (now (samples .exit) ≡ modeACNumSamples four spi)) ⌝ }

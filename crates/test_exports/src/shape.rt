@@ -5,14 +5,15 @@ ghost use Rattle.constants.specs.Rate.{four};
 ghost use Rattle.pulse_shape.specs.Prototype.{modeSPrototype, modeACPrototype};
 ghost use Rattle.pulse_shape.specs.GroupDelay.{groupDelay, modeACGroupDelay};
 ghost use Rattle.test_exports.specs.Shape.{delayNumber};
+use constants::PROTOTYPE_LEN;
 use pulse_shape::Crossing;
 
 #[no_mangle]
 pub extern "C" fn port_prototypes(
     taps_s: &[f32],
     taps_ac: &[f32],
-    out_s: &mut [f32; 1792],
-    out_ac: &mut [f32; 1792],
+    out_s: &mut [f32; PROTOTYPE_LEN],
+    out_ac: &mut [f32; PROTOTYPE_LEN],
 )
     ensures { λ _. ⌜ (now («out_s» .exit) ≡ modeSPrototype four (now («taps_s» .entry))) × (now («out_ac» .exit) ≡ modeACPrototype four (now («taps_ac» .entry))) ⌝ }
 {

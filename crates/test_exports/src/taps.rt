@@ -5,6 +5,7 @@ ghost use Rattle.constants.specs.Rate.{four};
 ghost use Rattle.filterbank.specs.Taps.{filterTaps};
 ghost use Rattle.filterbank.specs.PaddedPulsesModel.{padPulses, paddedSum};
 ghost use Rattle.filterbank.specs.Clocked.{stepOf, startClock, advance, in64};
+use constants::MAX_POSITIONS;
 use filterbank::Clock;
 
 #[no_mangle]
@@ -17,7 +18,12 @@ pub extern "C" fn port_filter_taps(prototype: &[f32], phase: f64, out: &mut [f32
 
 // The sum at a place, of the first `len` places as `pad_pulses` lays them.
 #[no_mangle]
-pub extern "C" fn port_pulse_sum(taps: &[f32; 7], on: &[bool; 240], len: usize, index: usize) -> f32
+pub extern "C" fn port_pulse_sum(
+    taps: &[f32; 7],
+    on: &[bool; MAX_POSITIONS],
+    len: usize,
+    index: usize,
+) -> f32
     ensures { λ r. ⌜ r ≡ paddedSum (now (taps .entry)) (padPulses (take len (now (on .entry)))) index ⌝ }
 {
     let t = *taps;
