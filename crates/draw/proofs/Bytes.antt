@@ -14,7 +14,7 @@ use Rattle.settings.proofs.Inside.{number-there}
 use Rattle.draw.specs.declared.Draw.{Draw}
 use Rattle.draw.specs.Draw.{bytesAt, picksAt, drawAt, Representable}
 
--- the bytes from a place on, as many as there are
+-- the bytes from an offset on, as many as there are
 pub bytes-inside : (n : ℕ) (s : List ℕ) (at : ℕ) → at + n ≤ length s → bytesAt s at n ≡ take n (drop at s)
 unfolding bytesAt
 bytes-inside zero s at h = refl

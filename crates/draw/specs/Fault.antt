@@ -59,12 +59,12 @@ drawFault rates all d =
     (checked 2 (finite (d .cn0))
     (checked 3 (amplitudeFits (d .amplitude)) (parameterFault all d))))
 
--- what a draw's fault makes of the answer: its place among the draws and its field, or what comes of the later draws
+-- what a draw's fault makes of the answer: its index among the draws and its field, or what comes of the later draws
 unfoldable pub faultAt : ℕ → FieldFault → DrawFault.DrawFault → DrawFault.DrawFault
 faultAt k NoFault rest = rest
 faultAt k (Field field) rest = DrawFault.the-variants.At k field
 
--- the first fault of n draws, the first standing at place k
+-- the first fault of n draws, the first standing at index k
 unfoldable pub faultFrom : MessagesPerSecond → Distributions → ℕ → ℕ → List ℕ → DrawFault.DrawFault
 faultFrom rates all zero k s = DrawFault.the-variants.None
 faultFrom rates all (suc n) k s = faultAt k (drawFault rates all (drawAt s)) (faultFrom rates all n (suc k) (drop drawLength s))

@@ -1,4 +1,4 @@
--- A mirror of code: a draw's message before its reply's bytes are made, and with them.
+-- A model of code: a draw's message before its reply's bytes are made, and with them.
 use Prim.Native.Nat.{ℕ}
 use lib.ListN.{replicate}
 use lib.Ieee.{Float}

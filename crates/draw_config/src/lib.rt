@@ -36,7 +36,7 @@ fn kind_of(t: MessageType) -> ReplyKind
     }
 }
 
-// The message of the draw at the start of the bytes, `last` being the time before it. A run call looks at a draw in several turns and adds it in one, so that its reply's bytes are 0 until they are made then (`completed`).
+// The message of the draw at the start of the bytes, `last` being the time before it. A run call looks at a draw in several steps and adds it in one, so that its reply's bytes are 0 until they are made then (`completed`).
 pub fn pending(all: Distributions, last: f64, rest: &[u8]) -> MessageConfig
     ensures { λ r. ⌜ r ≡ pendingOf all (timeAfter last (drawAt (now (rest .entry)))) (drawAt (now (rest .entry))) ⌝ }
 {

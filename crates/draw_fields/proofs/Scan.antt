@@ -1,4 +1,4 @@
--- The search for the first draw at fault: one turn of the code's loop, and its ends.
+-- The search for the first draw at fault: one step of the code's loop, and its ends.
 use Prim.Native.Nat.{ℕ, suc, _+_, _-_, _/_, _<_, _≤_}
 use mathlib.Core.Path.{_≡_, sym, ap, _∙_}
 use mathlib.Core.List.{List}
@@ -14,7 +14,7 @@ use Rattle.draw.specs.declared.DrawFault.the-variants.{None, At}
 use Rattle.draw.specs.Draw.{drawAt}
 use Rattle.draw.specs.Fault.{drawFault, faultAt, faultFrom}
 
--- the part of a list from a place to its end
+-- the part of a list from an offset to its end
 pub part-is : (s : List ℕ) (at : ℕ) → take (length s - at) (drop at s) ≡ drop at s
 part-is s at = take-all (length s - at) (drop at s) (rw length-drop (omega arith))
 

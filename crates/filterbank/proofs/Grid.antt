@@ -29,7 +29,7 @@ is-one = refl
 module _ (g : Grid) where
   open Grid g using (cells, exponent, least, whole, small)
 
-  -- a step of at least so many cells, and at most a half
+  -- a step of at least n cells, and at most a half
   abbrev pub Stepping : Float → Type 0
   Stepping d = (u : ℕ) × Units d u × (least * 2 ^ exponent ≤ u) × (u ≤ 1 * 2 ^ 1073)
 

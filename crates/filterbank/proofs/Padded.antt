@@ -12,14 +12,14 @@ use lib.Seq.{paste, paste-zero, paste-suc, take-all}
 pub use Rattle.float_rounding.proofs.Size.{le-or-lt}
 use Rattle.filterbank.specs.PaddedPulsesModel.{padPulses}
 
--- the places before the loop, all off
+-- the positions before the loop, all off
 abbrev pub off : List Bool
 off = replicate 252 false
 
 pub pad-first : (on : List Bool) → off ≡ paste off 6 on 0
 pad-first on = paste-zero off 6 on
 
--- a place that the loop stores at
+-- a position that the loop stores at
 inside : (j n len : ℕ) → j < n → n ≡ min len 240 → 6 + j < 252
 inside j n len h e = omega arith
 

@@ -1,4 +1,4 @@
--- The sum over pulses laid late is the pulse sum, for up to 240 pulses and at every index.
+-- The sum over padded pulses is the pulse sum, for up to 240 pulses and at every index.
 use Prim.Native.Nat.{ℕ, zero, suc, _+_, _-_, _<_, _≤_}
 use mathlib.Core.Path.{_≡_, refl, sym, ap, _∙_}
 use mathlib.Core.Logic.{inl, inr}
@@ -13,7 +13,7 @@ use Rattle.filterbank.specs.PulseSum.{sumWhere, pulseBack, pulseSum}
 use Rattle.filterbank.specs.PaddedPulsesModel.{padPulses, paddedSum}
 use Rattle.filterbank.proofs.Padded.{le-or-lt}
 
--- ---- places of a list that are off at its end
+-- ---- positions of a list that are off at its end
 off-everywhere : (n i : ℕ) → getD (replicate n false) i false ≡ false
 off-everywhere zero i = refl
 off-everywhere (suc n) zero = refl
@@ -24,7 +24,7 @@ padded [] n i = off-everywhere n i
 padded (x ∷ pulses) n zero = refl
 padded (x ∷ pulses) n (suc i) = padded pulses n i
 
--- ---- the place that a tap meets
+-- ---- the position that a tap meets
 met : (pulses : List Bool) (i k : ℕ) → k ≤ 6 → getD (padPulses pulses) (i + 6 - k) false ≡ pulseBack pulses i k
 unfolding padPulses pulseBack
 met pulses i k h = elim (le-or-lt k i) [

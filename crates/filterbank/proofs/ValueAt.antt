@@ -1,4 +1,4 @@
--- The code's value at a clock, over pulses laid late, is that of `applyFilterbank`, for up to 240 pulses.
+-- The code's value at a clock, over padded pulses, is that of `applyFilterbank`, for up to 240 pulses.
 use Prim.Native.Nat.{ℕ, zero, suc, _+_, _≤_}
 use native.Mathlib.Nat.{le-of-eq, le-refl}
 use mathlib.Core.Path.{_≡_, refl, sym, ap, _∙_, subst}

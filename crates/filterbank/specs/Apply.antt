@@ -21,7 +21,7 @@ unfoldable pub clockValues : ℕ → ℕ → Float → (Clock → Float) → Clo
 clockValues zero limit step value clock = []
 clockValues (suc fuel) limit step value clock = cond (ltb (clock .index) limit) (value clock ∷ clockValues fuel limit step value (advance step clock)) []
 
--- the indices of so many pulses: six more than there are pulses, and none for no pulse
+-- the indices of n pulses: six more than there are pulses, and none for no pulse
 abbrev pub limitOf : ℕ → ℕ
 limitOf zero = 0
 limitOf (suc n) = suc n + reach

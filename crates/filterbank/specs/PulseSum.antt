@@ -12,7 +12,7 @@ unfoldable pub sumWhere : (ℕ → Bool) → List Float → ℕ → Float → Fl
 sumWhere on [] k sum = sum
 sumWhere on (tap ∷ taps) k sum = sumWhere on taps (k + 1) (cond (on k) (add binary32 sum tap) sum)
 
--- there is a pulse k places before an index
+-- there is a pulse k positions before an index
 unfoldable pub pulseBack : List Bool → ℕ → ℕ → Bool
 pulseBack pulses index k = leb k index && getD pulses (index - k) false
 

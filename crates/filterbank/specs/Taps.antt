@@ -37,7 +37,7 @@ nextBranch sps prototype a = cond (ltb a (branches sps - 1)) (branch sps prototy
 abbrev pub one : Float
 one = ofBits binary32 0x3f80_0000
 
--- (1 - tau) * x + tau * y at each place, with no addition where the second list has ended
+-- (1 - tau) * x + tau * y at each index, with no addition where the second list has ended
 unfoldable pub between : Float → List Float → List Float → List Float
 between tau [] ys = []
 between tau (x ∷ xs) [] = mul binary32 (sub binary32 one tau) x ∷ between tau xs []

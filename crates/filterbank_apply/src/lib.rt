@@ -44,7 +44,7 @@ pub fn advance(clock: Clock, step: f64) -> Clock
     }
 }
 
-// The first `len` pulses laid six places late, so that a sum over them needs no tests of their places.
+// The first `len` pulses padded by six positions, so that a sum over them needs no tests of their positions.
 pub fn pad_pulses(on: [bool; MAX_POSITIONS], len: usize) -> [bool; 252]
     ensures { λ r. ⌜ r ≡ padPulses (take len on) ⌝ }
 {
@@ -64,7 +64,7 @@ fn added(sum: f32, tap: f32, on: bool) -> f32
     if on { sum + tap } else { sum }
 }
 
-// The sum of the taps at whose place there is a pulse.
+// The sum of the taps at whose position there is a pulse.
 pub fn pulse_sum(taps: [f32; 7], padded: &[bool; 252], index: usize) -> f32
     ensures { λ r. ⌜ r ≡ paddedSum taps (now (padded .entry)) index ⌝ }
 {

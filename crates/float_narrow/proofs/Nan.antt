@@ -1,4 +1,4 @@
--- What the tests for a NaN tell: `x != x` of a value, and a size above the infinity's of a pattern.
+-- What the tests for a NaN say: `x != x` of a value, and a size above the infinity's of a pattern.
 use mathlib.Core.Path.{_≡_, refl, sym, _∙_, subst}
 use Prim.Native.Nat.{ℕ, _*_, _%_, _≤_, _<_}
 use mathlib.Core.Bool.{Bool, true, false, not, true≢false}

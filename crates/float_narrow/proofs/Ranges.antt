@@ -1,4 +1,4 @@
--- `within-test`: a value is within a limit in size where it is neither above the limit nor below its negation; the test of `finite`; and what being within a finite limit tells.
+-- `within-test`: a value is within a limit in size where it is neither above the limit nor below its negation; the test of `finite`; and what being within a finite limit says.
 use mathlib.Core.Path.{_≡_, refl, sym, _∙_, subst}
 use Prim.Native.Nat.{ℕ, _*_, _≤_}
 use native.Mathlib.Nat.{le-of-eq}

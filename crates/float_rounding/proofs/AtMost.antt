@@ -39,7 +39,7 @@ at-most-neg nan l w = w
 at-most-neg (inf s) l w = w
 at-most-neg (fin s m e) l w = w
 
--- ---- what tells it
+-- ---- what shows it
 -- a bound in units of 2 ^ -1074
 pub at-most-within : (x : Float) (b l : ℕ) → b ≤ l * 2 ^ 1074 → Within x b → AtMost l x
 at-most-within nan b l h w = w .2

@@ -1,4 +1,4 @@
--- What the code's test of a place decides: which case of a read or of a write holds.
+-- What the code's test of an offset decides: which case of a read or of a write holds.
 use Prim.Native.Nat.{ℕ, _+_, _-_, _≤_}
 use mathlib.Core.Path.{_≡_, refl, sym, ap, _∙_}
 use mathlib.Core.Bool.{Bool, true, false, cond}
@@ -9,7 +9,7 @@ use lib.ListN.{length}
 use borrow.Author.Tests.{leb-true, leb-false, le-leb, lt-leb}
 use Rattle.le_read.specs.LeBytes.{inside, leAt, readAt, overwritten, bytesOf, put}
 
--- the test of a place, without the sum
+-- the test of an offset, without the sum
 pub no-sum : (at n len : ℕ) → n ≤ len → leb at (len - n) ≡ leb (at + n) len
 no-sum at n len h = go (leb at (len - n)) refl
   where

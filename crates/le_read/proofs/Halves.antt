@@ -47,7 +47,7 @@ le-one s at h = ap (λ (l : List ℕ). leOf (take 1 l)) (drop-cons s at 0 h) ∙
 pub joined : (m n : ℕ) (s : List ℕ) (at : ℕ) {a b : ℕ} → at + m ≤ length s → a ≡ leAt m s at → b ≡ leAt n s (at + m) → a + 256 ^ m * b ≡ leAt (m + n) s at
 joined m n s at h p q = (λ i. p i + 256 ^ m * q i) ∙ sym (le-halves m n s at h)
 
--- bytes laid one part after the other
+-- bytes written one part after the other
 pub overwritten-append : (s : List ℕ) (at : ℕ) (xs ys : List ℕ) → at + length xs ≤ length s → overwritten (overwritten s at xs) (at + length xs) ys ≡ overwritten s at (xs ++ ys)
 unfolding overwritten
 overwritten-append s at xs ys h =

@@ -1,4 +1,4 @@
--- What is left of a read's answer where 0 stands for a place past the end: the number there.
+-- What is left of a read's answer where 0 stands for an offset past the end: the number there.
 use Prim.Native.Nat.{ℕ}
 use mathlib.Core.Path.{_≡_, ap, _∙_}
 use mathlib.Core.List.{List}

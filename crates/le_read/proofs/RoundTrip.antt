@@ -1,4 +1,4 @@
--- Writing, then reading at the same place, gives back what was written, at every width (`back`); a write keeps the length and every other byte (`length-put`, `elsewhere`).
+-- Writing, then reading at the same offset, gives back what was written, at every width (`back`); a write keeps the length and every other byte (`length-put`, `elsewhere`).
 use Prim.Native.Nat.{ℕ, zero, suc, _+_, _-_, _*_, _/_, _%_, _^_, _≤_, _<_}
 use mathlib.Core.Path.{_≡_, refl, sym, ap, _∙_, subst}
 use mathlib.Core.Bool.{Bool, true, false, cond}
@@ -29,12 +29,12 @@ le-bytes (suc n) v =
     ∙ sym (mod-mul v (one-le-pow n 256 (lit< tt)) (lit< tt))
     ∙ ap (λ (x : ℕ). v % x) (sym (pow-suc 256 n))
 
--- what stands before a seam does not turn on what follows it
+-- what stands before a seam does not depend on what follows it
 before-seam : (m i : ℕ) (p q : List ℕ) → i + m ≤ length p → take m (drop i (p ++ q)) ≡ take m (drop i p)
 before-seam m i p q h =
     ap (take m) (drop-append-le i p q (omega arith)) ∙ take-append-le m (drop i p) q (simp length-drop (omega arith))
 
--- ---- bytes laid, all of them inside
+-- ---- bytes written, all of them inside
 
 module _ (s : List ℕ) (at : ℕ) (bs : List ℕ) (h : at + length bs ≤ length s) where
   front : length (take at s) ≡ at

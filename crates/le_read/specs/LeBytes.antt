@@ -1,4 +1,4 @@
--- Little-endian numbers in bytes (SPECIFICATION 1.4). One definition over the width n, in bytes; s is a list of bytes and at a place in it, counted from 0.
+-- Little-endian numbers in bytes (SPECIFICATION 1.4). One definition over the width n, in bytes; s is a list of bytes and at an offset in it, counted from 0.
 use Prim.Native.Nat.{ℕ, zero, suc, _+_, _*_, _/_, _%_}
 use mathlib.Core.Bool.{Bool, cond}
 use mathlib.Core.List.{List, [], _∷_, _++_}
@@ -33,7 +33,7 @@ readAt n value past s at = cond (inside n s at) (value (leAt n s at)) past
 abbrev pub numberAt : ℕ → List ℕ → ℕ → ℕ
 numberAt n s at = readAt n (λ v. v) 0 s at
 
--- s with bs in the place of as many of its bytes from at
+-- s with bs instead of as many of its bytes from at
 unfoldable pub overwritten : List ℕ → ℕ → List ℕ → List ℕ
 overwritten s at bs = take at s ++ bs ++ drop (at + length bs) s
 

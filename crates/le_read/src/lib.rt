@@ -1,4 +1,4 @@
-// Little-endian numbers at a place in a byte slice, and whether they lie within it.
+// Little-endian numbers at an offset in a byte slice, and whether they lie within it.
 ghost use mathlib.Core.Path.{_≡_};
 ghost use Prim.Native.Nat.{_+_, _≤_, _<_};
 ghost use lib.Dec.{leb};
@@ -6,7 +6,7 @@ ghost use lib.ListN.{length};
 ghost use Rattle.le_read.specs.LeBytes.{leAt};
 ghost use Rattle.le_read.specs.Reads.{readU16, readU32, readU64};
 
-// What a read at a place finds: the number, or that its bytes run past the end.
+// What a read at an offset finds: the number, or that its bytes run past the end.
 pub enum ReadU16 {
     Value(u16),
     OutOfBounds,
@@ -22,7 +22,7 @@ pub enum ReadU64 {
     OutOfBounds,
 }
 
-// Whether n bytes from a place lie within a length; no sum, so that no place can overflow.
+// Whether n bytes from an offset lie within a length; no sum, so that no offset can overflow.
 pub fn holds(len: usize, at: usize, n: usize) -> bool
     ensures { λ r. ⌜ r ≡ leb (at + n) len ⌝ }
 {
@@ -63,7 +63,7 @@ fn eight(s: &[u8], at: usize) -> u64
     four(s, at) + 0x1_0000_0000 * four(s, at + 4)
 }
 
-// The number at a place, or that it is past the end.
+// The number at an offset, or that it is past the end.
 pub fn le_u16(s: &[u8], at: usize) -> ReadU16
     ensures { λ r. ⌜ r ≡ readU16 (now (s .entry)) at ⌝ }
 {

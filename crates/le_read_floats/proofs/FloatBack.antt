@@ -1,4 +1,4 @@
--- A float written, then read at the same place, is the same float, unless it was a NaN (`float-back`, at both formats).
+-- A float written, then read at the same offset, is the same float, unless it was a NaN (`float-back`, at both formats).
 use Prim.Native.Nat.{ℕ, _+_, _*_, _^_, _≤_}
 use mathlib.Core.Path.{_≡_, refl, ap, _∙_}
 use mathlib.Core.Bool.{Bool, cond}

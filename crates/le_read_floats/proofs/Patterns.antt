@@ -1,4 +1,4 @@
--- What the one test that tells a NaN's pattern decides of a read.
+-- What the one test that finds a NaN's pattern decides of a read.
 use Prim.Native.Nat.{ℕ, _*_, _%_, _≤_, _<_}
 use mathlib.Core.Path.{_≡_, ap, _∙_}
 use mathlib.Core.Bool.{Bool, cond}

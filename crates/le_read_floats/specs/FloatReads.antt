@@ -17,6 +17,6 @@ readF32 = readAt 4 (floatOf binary32 F32.the-variants.Value F32.the-variants.Nan
 abbrev pub readF64 : List ℕ → ℕ → F64.ReadF64
 readF64 = readAt 8 (floatOf binary64 F64.the-variants.Value F64.the-variants.Nan) F64.the-variants.OutOfBounds
 
--- the float at a place, 0.0 past the end
+-- the float at an offset, 0.0 past the end
 abbrev pub f64At : List ℕ → ℕ → Float
 f64At s at = ofBits binary64 (numberAt 8 s at)

@@ -1,4 +1,4 @@
-// Little-endian floats at a place in a byte slice, read by their IEEE 754 patterns.
+// Little-endian floats at an offset in a byte slice, read by their IEEE 754 patterns.
 ghost use mathlib.Core.Path.{_≡_};
 ghost use lib.Ieee.{binary32, binary64, ofBits};
 ghost use Rattle.le_read.specs.LeBytes.{numberAt};
@@ -6,7 +6,7 @@ ghost use Rattle.le_read_floats.specs.FloatReads.{floatOf, readF32, read
 use le_read::ReadU32;
 use le_read::ReadU64;
 
-// What a read at a place finds: the value, or that its bytes are a NaN's, or that they run past the end.
+// What a read at an offset finds: the value, or that its bytes are a NaN's, or that they run past the end.
 pub enum ReadF32 {
     Value(f32),
     Nan,
@@ -38,7 +38,7 @@ fn f64_read(n: u64) -> ReadF64
     ReadF64::Value(f64::from_bits(n))
 }
 
-// The float at a place, or that it is a NaN or past the end.
+// The float at an offset, or that it is a NaN or past the end.
 pub fn le_f32(s: &[u8], at: usize) -> ReadF32
     ensures { λ r. ⌜ r ≡ readF32 (now (s .entry)) at ⌝ }
 {
@@ -57,7 +57,7 @@ pub fn le_f64(s: &[u8], at: usize) -> ReadF64
     }
 }
 
-// The float at a place: a NaN where the bytes are one's, and 0.0 where they run past the end.
+// The float at an offset: a NaN where the bytes are one's, and 0.0 where they run past the end.
 pub fn f32_at(s: &[u8], at: usize) -> f32
     ensures { λ r. ⌜ r ≡ ofBits binary32 (numberAt 4 (now (s .entry)) at) ⌝ }
 {

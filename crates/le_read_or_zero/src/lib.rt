@@ -1,4 +1,4 @@
-// A byte, and little-endian numbers, at a place in a byte slice, 0 past its end: equal to their definitions, in specs/ of `le_read`, on every input.
+// A byte, and little-endian numbers, at an offset in a byte slice, 0 past its end: equal to their definitions, in specs/ of `le_read`, on every input.
 ghost use mathlib.Core.Path.{_≡_};
 ghost use lib.ListN.{getD};
 ghost use Rattle.le_read.specs.LeBytes.{numberAt};
@@ -6,7 +6,7 @@ use le_read::ReadU16;
 use le_read::ReadU32;
 use le_read::ReadU64;
 
-// The byte at a place, 0 past the end.
+// The byte at an offset, 0 past the end.
 pub fn byte_at(s: &[u8], at: usize) -> u8
     ensures { λ r. ⌜ r ≡ getD (now (s .entry)) at 0 ⌝ }
 {
@@ -16,7 +16,7 @@ pub fn byte_at(s: &[u8], at: usize) -> u8
     0
 }
 
-// The number at a place, 0 where its bytes run past the end.
+// The number at an offset, 0 where its bytes run past the end.
 pub fn u16_at(s: &[u8], at: usize) -> u16
     ensures { λ r. ⌜ r ≡ numberAt 2 (now (s .entry)) at ⌝ }
 {

@@ -30,7 +30,7 @@ fn put_eight(d: &mut [u8], at: usize, v: u64)
     put_four(d, at + 4, v / 0x1_0000_0000);
 }
 
-// A number written at a place. False where its bytes would run past the end: then nothing is written.
+// A number written at an offset. False where its bytes would run past the end: then nothing is written.
 pub fn put_u16(d: &mut [u8], at: usize, v: u16) -> bool
     ensures { λ r. ⌜ (r ≡ inside 2 (now (d .entry)) at) × (now (d .exit) ≡ put 2 (now (d .entry)) at v) ⌝ }
 {
@@ -61,7 +61,7 @@ pub fn put_u64(d: &mut [u8], at: usize, v: u64) -> bool
     false
 }
 
-// A float written at a place. False where its bytes would run past the end: then nothing is written.
+// A float written at an offset. False where its bytes would run past the end: then nothing is written.
 pub fn put_f32(d: &mut [u8], at: usize, x: f32) -> bool
     ensures { λ r. ⌜ (r ≡ inside 4 (now (d .entry)) at) × (now (d .exit) ≡ put 4 (now (d .entry)) at (toBits binary32 x)) ⌝ }
 {

@@ -7,7 +7,7 @@ use lib.ListN.{length, getD, set, take, drop}
 use lib.Seq.{drop-cons, take-all}
 use Rattle.mode_s.specs.Parity.{parityOf, parityBytes, withParity}
 
--- n bytes from place k on, each by itself
+-- n bytes from index k on, each by itself
 unfoldable pub each : List ℕ → ℕ → ℕ → List ℕ
 each l k zero = []
 each l k (suc n) = getD l k 0 ∷ each l (suc k) n

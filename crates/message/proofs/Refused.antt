@@ -1,4 +1,4 @@
--- What making answers, in the specification's terms: for the draw at any place, the reply of its type, or refusal 7 with the first field at fault (`made-answers`).
+-- What making answers, in the specification's terms: for the draw at any index, the reply of its type, or refusal 7 with the first field at fault (`made-answers`).
 use Prim.Native.Nat.{ℕ}
 use mathlib.Core.Path.{_≡_, refl}
 use Rattle.refusals.specs.Answer.{unless}

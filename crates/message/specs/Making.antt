@@ -170,11 +170,11 @@ madeWhere (Field field) r = record { fault = Field field; reply = record { kind 
 unfoldable pub made : MessageType → Picks → Made
 made t p = madeWhere (fieldFault t p) (replyOf t p)
 
--- in the specification's terms: "a draw field out of range" is refusal 7, with the place of the draw and the field
+-- in the specification's terms: "a draw field out of range" is refusal 7, with the index of the draw and the field
 unfoldable pub fieldRefusal : ℕ → FieldFault → Option Refusal
 fieldRefusal draw NoFault = none
 fieldRefusal draw (Field field) = some (Draw draw field)
 
--- what making answers for the draw at a place: a reply, or that refusal
+-- what making answers for the draw at a index: a reply, or that refusal
 unfoldable pub madeAnswer : ℕ → Made → Answer Reply
 madeAnswer draw m = unless (fieldRefusal draw (m .fault)) (m .reply)

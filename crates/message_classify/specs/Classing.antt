@@ -100,7 +100,7 @@ classBy k b = firstOf (relayClass (isLong k) (getD b 0 0)) (typeClass (kindClass
 unfoldable pub classOf : Reply → Class
 classOf r = classBy (r .kind) (r .bytes)
 
--- the class of message bytes, whose number tells the kind: 7 short, 14 long, 2 Mode A/C; another number of bytes has no class
+-- the class of message bytes, whose number says the kind: 7 short, 14 long, 2 Mode A/C; another number of bytes has no class
 unfoldable pub classOfBytes : List ℕ → Class
 classOfBytes m =
     cond (eqb (length m) 7) (classBy Short m)

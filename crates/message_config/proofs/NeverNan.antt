@@ -1,4 +1,4 @@
--- No NaN: of a message in range, every number that its configuration comes to is finite, but for the unrounded start at an infinite time, which is infinite (`draw-numbers-at-four`). A reply's time, clock phase and first phase are finite too, and its carrier turns by at most PI in a sample, from a phase from -PI to PI (`reply-numbers-at-four`).
+-- No NaN: of a message in range, every number that follows from its configuration is finite, but for the unrounded start at an infinite time, which is infinite (`draw-numbers-at-four`). A reply's time, clock phase and first phase are finite too, and its carrier rotates by at most PI in a sample, from a phase from -PI to PI (`reply-numbers-at-four`).
 use mathlib.Core.Path.{_≡_, refl, sym, subst}
 use mathlib.Core.Logic.{inl, inr}
 use Prim.Native.Nat.{ℕ, _+_, _-_, _*_, _^_, _≤_, _<_}

@@ -1,4 +1,4 @@
--- The carrier of a reply: what it turns by in a sample, and its phase at the first sample, so that it has the drawn phase at the reply's time.
+-- The carrier of a reply: what it rotates by in a sample, and its phase at the first sample, so that it has the drawn phase at the reply's time.
 use Prim.Native.Nat.{ℕ}
 use lib.IntN.{ℤ, pos}
 use lib.Ieee.{Float, binary64, ofInt, sub, mul, div}

@@ -1,4 +1,4 @@
-// The configuration of a message, after `MessageConfig` of simulation.rs: when it starts, how its filter's clock runs, and how its carrier turns.
+// The configuration of a message, after `MessageConfig` of simulation.rs: when it starts, how its filter's clock runs, and how its carrier rotates.
 // Each function is equal to a definition of specs/ on every input.
 ghost use mathlib.Core.Path.{_≡_};
 ghost use Rattle.constants.specs.Rate.{four};
@@ -23,7 +23,7 @@ pub struct Delays {
     pub mode_ac: f64,
 }
 
-// How a message's samples begin: the clock error of its filter, the clock's phase at the first sample, in samples, what the carrier turns by in a sample, and its phase at the first sample.
+// How a message's samples begin: the clock error of its filter, the clock's phase at the first sample, in samples, what the carrier rotates by in a sample, and its phase at the first sample.
 pub struct Onset {
     pub clock_error: f64,
     pub clock_phase: f64,

@@ -73,7 +73,7 @@ pub fn field_fault(t: MessageType, p: Picks) -> FieldFault
     }
 }
 
-// A byte of a number, from its place on: 65536 for the third, 256 for the second.
+// A byte of a number, by its weight: 65536 for the third, 256 for the second.
 fn byte_of(p: u32, weight: u32) -> u8
     requires { ⌜ 0 < weight ⌝ }
     ensures { λ r. ⌜ r ≡ p / weight % 256 ⌝ }

@@ -1,4 +1,4 @@
--- Theorem `places-of-the-base`: the places by rule are those that the base lists, compared once, by computation.
+-- Theorem `places-of-the-base`: the positions by rule are those that the base lists, compared once, by computation.
 use mathlib.Core.Path.{_≡_, refl, sym, _∙_}
 use mathlib.Core.Bool.{Bool}
 use Prim.Native.Nat.{ℕ, _≤_}

@@ -1,4 +1,4 @@
--- The places of the twelve bits rise from bit to bit, and lie between those of the framing pulses, 0 and 42.
+-- The positions of the twelve bits rise from bit to bit, and lie between those of the framing pulses, 0 and 42.
 use mathlib.Core.Path.{_≡_, refl, sym, subst}
 use mathlib.Core.Bool.{Bool}
 use Prim.Native.Nat.{ℕ, zero, suc, _+_, _-_, _<_}

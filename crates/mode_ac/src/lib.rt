@@ -1,4 +1,4 @@
-// Mode A/C replies: their data, its four digits and refusal 10; and the twelve bits of the data with their places, each by a table of twelve.
+// Mode A/C replies: their data, its four digits and refusal 10; and the twelve bits of the data with their positions, each by a table of twelve.
 ghost use mathlib.Core.Path.{_≡_};
 ghost use Prim.Native.Nat.{_%_};
 ghost use Rattle.mode_ac.specs.Data.{digitA, digitB, digitC, digitD, digitsOf, bitOf};
@@ -104,7 +104,7 @@ impl ModeACReply {
 // Where each bit stands in the data, counted from the lowest one.
 const SHIFTS: [u16; 12] = [3, 9, 4, 10, 5, 11, 6, 0, 7, 1, 8, 2];
 
-// The place of the n-th bit: every third from 3 on, with one left out in the middle.
+// The position of the n-th bit: every third from 3 on, with one left out in the middle.
 pub fn position_of(n: usize) -> usize
     ensures { λ r. ⌜ r ≡ positionOf n ⌝ }
 {

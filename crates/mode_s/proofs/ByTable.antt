@@ -76,7 +76,7 @@ onward-right r (b ∷ bs) = ap (λ (c : ℕ). onward c bs) (sym (byte-step r b))
 pub onward-whole : (bs : List ℕ) → onward 0 bs ≡ parityOf bs
 onward-whole bs = ap (λ (c : ℕ). onward c bs) (sym shifted-zero) ∙ onward-right 0 bs ∙ sym (parity-shifted bs)
 
--- one turn of the loop, and its end
+-- one step of the loop, and its end
 pub turn : (bs : List ℕ) (i c : ℕ) → i < length bs → onward (withByte c (getD bs i 0)) (drop (i + 1) bs) ≡ onward c (drop i bs)
 unfolding onward
 turn bs i c h = ap (λ (n : ℕ). onward (withByte c (getD bs i 0)) (drop n bs)) (add-one i) ∙ ap (onward c) (sym (drop-cons bs i 0 h))

@@ -1,4 +1,4 @@
--- The search for the place of a change: one turn of the code's loop, its end, and what it finds (`finds`, `found-only`).
+-- The search for the place of a change: one step of the code's loop, its end, and what it finds (`finds`, `found-only`).
 use Prim.Native.Nat.{ℕ, zero, suc, _+_, _-_, _<_, _≤_}
 use mathlib.Core.Path.{_≡_, refl, sym, ap, _∙_, subst}
 use mathlib.Core.Bool.{Bool, true, false, cond}

@@ -39,7 +39,7 @@ answered n (Answer.the-variants.Refused q) = flat_answer n 5 (numberOf q) (value
 unfoldable pub ranFlat : Ran → FlatRan
 ranFlat r = record { state = flatOf (r .state); answer = answered (r .counts) (r .answer) }
 
--- what a run call answers, and what it leaves in what it was lent
+-- what a run call answers, and what it leaves in its buffers
 pub record FlatLeft : Type 0 where
   pub ran : FlatRan
   pub memory : List Float

@@ -1,4 +1,4 @@
--- What a caller in C sees of a run call: its answer, and the two lent buffers after it; of what the contract of `more1090_run` leaves, and of the plain bench (SPECIFICATION 10.2).
+-- What a caller in C sees of a run call: its answer, and the two buffers after it; of what the contract of `more1090_run` leaves, and of the plain bench (SPECIFICATION 10.2).
 use Prim.Native.Nat.{ℕ}
 use mathlib.Core.List.{List}
 use lib.Ieee.{Float}

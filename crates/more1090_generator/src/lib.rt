@@ -253,7 +253,7 @@ fn state_in(f: FlatState) -> State
     }
 }
 
-// What a refused opening tells as its state.
+// What a refused opening says as its state.
 fn no_state() -> FlatState
     ensures { λ r. ⌜ r ≡ noState ⌝ }
 {
@@ -390,7 +390,7 @@ fn ran_out(ran: Ran) -> FlatRan
     }
 }
 
-// Opens a run; refused, it changes nothing that is lent, and the state is all zero.
+// Opens a run; refused, it changes no buffer, and the state is all zero.
 #[no_mangle]
 pub extern "C" fn more1090_open(
     settings: &[u8],

@@ -4,10 +4,10 @@ use mathlib.Core.Bool.{Bool}
 use Rattle.pulse_map.specs.ModeS.{modeSLength}
 use Rattle.pulse_map.specs.ModeAC.{modeACLength}
 
--- each place of a Mode S message lasts one pulse
+-- each position of a Mode S message lasts one pulse
 unfoldable pub modeSNumSamples : ℕ → Bool → ℕ
 modeSNumSamples sps long = modeSLength long * sps
 
--- each place of a Mode A/C reply lasts 1450 of 1500 parts of one; to the nearest, a half upwards
+-- each position of a Mode A/C reply lasts 1450 of 1500 parts of one; to the nearest, a half upwards
 unfoldable pub modeACNumSamples : ℕ → Bool → ℕ
 modeACNumSamples sps spi = (modeACLength spi * sps * 1450 + 750) / 1500

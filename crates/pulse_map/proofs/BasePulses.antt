@@ -1,4 +1,4 @@
--- Theorem `pulses-of-the-base`: the pulse maps and lengths of Mode A/C are those of the base. Of the places only this is used: each is the one that the base lists.
+-- Theorem `pulses-of-the-base`: the pulse maps and lengths of Mode A/C are those of the base. Of the positions only this is used: each is the one that the base lists.
 use mathlib.Core.Path.{_≡_, refl, ap}
 use mathlib.Core.Bool.{Bool}
 use mathlib.Core.List.{List, _∷_, _++_}

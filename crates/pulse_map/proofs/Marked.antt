@@ -1,4 +1,4 @@
--- A map in which the places of a list are marked one after the other is the map of that list, place by place and whole.
+-- A map in which the positions of a list are marked one after the other is the map of that list, position by position and whole.
 use mathlib.Core.Path.{_≡_, refl, sym, ap, subst, _∙_}
 use mathlib.Core.Bool.{Bool, true, false}
 use mathlib.Core.List.{List, [], _∷_, _++_}
@@ -37,7 +37,7 @@ pub or-assoc : (a b c : Bool) → or a (or b c) ≡ or (or a b) c
 or-assoc true b c = refl
 or-assoc false b c = refl
 
--- the place just marked
+-- the position just marked
 hit : (l : List Bool) (p k : ℕ) → k < length l → eqb p k ≡ true → getD (set l p true) k false ≡ true
 hit l p k h e =
     let q : p ≡ k = eqb-true p k e in subst (λ (x : ℕ). getD (set l x true) k false ≡ true) (sym q) (getD-set-same l k true false h)
@@ -70,7 +70,7 @@ map-from-at ps k (suc n) zero h = ap (pulseAt ps) (sym (add-zero k))
 map-from-at ps k (suc n) (suc j) h =
     map-from-at ps (suc k) n j (le-of-suc-le-suc h) ∙ ap (pulseAt ps) (omega arith)
 
--- in the map of a list a pulse stands at a place exactly where the list has it
+-- in the map of a list a pulse stands at a position exactly where the list has it
 pub position-by-position : (ps : List ℕ) (len k : ℕ) → k < 240 → getD (mapOf ps len .on) k false ≡ pulseAt ps k
 unfolding mapOf
 position-by-position ps len k h = map-from-at ps 0 240 k h ∙ ap (pulseAt ps) (zero-add k)
@@ -88,6 +88,6 @@ marked ps =
     ext-getD false (mark ps (replicate 240 false)) (mapFrom ps 0 240) (e ∙ sym (map-length ps 0 240))
     (λ k h. marked-at ps k (omega arith))
 
--- one turn of a loop that marks: of so many turns left, one and the rest
+-- one step of a loop that marks: of n steps left, one and the rest
 pub left-suc : (e k : ℕ) → k < e → e - k ≡ suc (e - (k + 1))
 left-suc e k h = omega arith

@@ -1,4 +1,4 @@
--- The loop of `mode_ac_pulses`, one turn and the end: what is left to mark, marked from here, is the whole marked from the start.
+-- The loop of `mode_ac_pulses`, one step and the end: what is left to mark, marked from here, is the whole marked from the start.
 use mathlib.Core.Path.{_≡_}
 use mathlib.Core.Bool.{Bool, true, false}
 use mathlib.Core.List.{List, [], _∷_, _++_}
@@ -12,7 +12,7 @@ use Rattle.pulse_map.specs.Map.{mapOf}
 use Rattle.pulse_map.specs.ModeAC.{onlyIf, dataPositions, modeACPositions, modeACPulses, modeACLength}
 use Rattle.pulse_map.proofs.Marked.{mark, mark-append, marked, left-suc}
 
--- the map before the first turn
+-- the map before the first step
 abbrev pub framed : List Bool
 framed = set (replicate 240 false) 0 true
 

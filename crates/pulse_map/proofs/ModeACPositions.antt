@@ -1,4 +1,4 @@
--- A Mode A/C pulse stands at a place exactly where SPECIFICATION 7.7 says: at 0 and 42, at 51 for SPI, at the place of each bit that is set, and nowhere else.
+-- A Mode A/C pulse stands at a position exactly where SPECIFICATION 7.7 says: at 0 and 42, at 51 for SPI, at the position of each bit that is set, and nowhere else.
 -- Of `positionOf` only this is used: it rises, and lies between 0 and 42.
 use mathlib.Core.Path.{_≡_, refl, sym, ap, _∙_}
 use mathlib.Core.Bool.{Bool, true, false}
@@ -30,7 +30,7 @@ unfolding pulseAt
 only-off true p k e = rw e
 only-off false p k e = refl
 
--- no pulse of a bit stands at a place that is not its own
+-- no pulse of a bit stands at a position that is not its own
 off-data : (d left n k : ℕ) → ((j : ℕ) → n ≤ j → j < n + left → eqb (positionOf j) k ≡ false)
     → pulseAt (dataPositions d left n) k ≡ false
 unfolding dataPositions pulseAt
@@ -83,7 +83,7 @@ pub identification : (d : ℕ) (spi : Bool) → pulseAt (modeACPositions d spi) 
 identification d spi =
     parts d spi 51 ∙ ap (λ (b : Bool). or b (pulseAt (onlyIf spi 51) 51)) (late d 51 (omega arith)) ∙ only-at spi 51 51 refl
 
--- the place of bit n, if it is set
+-- the position of bit n, if it is set
 pub data-position : (d : ℕ) (spi : Bool) (n : ℕ) → n < 12 → pulseAt (modeACPositions d spi) (positionOf n) ≡ bitOf d n
 data-position d spi n h =
     let a = position-above n h in

@@ -1,4 +1,4 @@
--- The loop of `mode_s_pulses`, one turn and the end: what is left to mark, marked from here, is the whole marked from the start.
+-- The loop of `mode_s_pulses`, one step and the end: what is left to mark, marked from here, is the whole marked from the start.
 use mathlib.Core.Path.{_≡_, refl}
 use mathlib.Core.Bool.{Bool, true, false}
 use mathlib.Core.List.{List, [], _∷_}

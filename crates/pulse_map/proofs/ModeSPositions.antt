@@ -1,4 +1,4 @@
--- A Mode S pulse stands at a place exactly where SPECIFICATION 7.6 says: 0, 2, 7, 9; of the pair of each bit, at its first place for 1 and at its second for 0;
+-- A Mode S pulse stands at a position exactly where SPECIFICATION 7.6 says: 0, 2, 7, 9; of the pair of each bit, at its first position for 1 and at its second for 0;
 -- and nowhere beyond the message.
 use mathlib.Core.Path.{_≡_, refl, sym, ap, _∙_}
 use mathlib.Core.Bool.{Bool, true, false}
@@ -71,7 +71,7 @@ pub preamble : (m : List ℕ) (long : Bool) (k : ℕ) → k < 16 → pulseAt (mo
 unfolding modeSPositions pulseAt
 preamble m long k h = rw (before-pairs m (modeSBits long) 0 k (omega arith))
 
--- the first place of the pair of bit j for 1
+-- the first position of the pair of bit j for 1
 pub first-position : (m : List ℕ) (long : Bool) (j : ℕ) → j < modeSBits long → pulseAt (modeSPositions m long) (16 + 2 * j) ≡ eqb (bitOf m j) 1
 first-position m long j h =
     past-preamble m long (16 + 2 * j) (omega arith)

@@ -1,4 +1,4 @@
--- What is claimed of the pulse maps of Mode A/C: they are the base's, whose twelve places come from a list. No contract cites these.
+-- What is claimed of the pulse maps of Mode A/C: they are the base's, whose twelve positions come from a list. No contract cites these.
 use Prim.Native.Nat.{ℕ, zero, suc}
 use mathlib.Core.Path.{_≡_}
 use mathlib.Core.Bool.{Bool}
@@ -10,7 +10,7 @@ use Rattle.pulse_map.specs.declared.Pulses.{Pulses}
 use Rattle.pulse_map.specs.Map.{mapOf}
 use Rattle.pulse_map.specs.ModeAC.{modeACLength, onlyIf, modeACPulses}
 
--- as `dataPositions`, each place from the list
+-- as `dataPositions`, each position from the list
 unfoldable pub baseDataPlaces : ℕ → ℕ → ℕ → List ℕ
 baseDataPlaces d zero n = []
 baseDataPlaces d (suc left) n = onlyIf (bitOf d n) (getD basePlaces n 0) ++ baseDataPlaces d left (suc n)

@@ -7,7 +7,7 @@ use Rattle.mode_ac.specs.Positions.{positionOf}
 use Rattle.pulse_map.specs.declared.Pulses.{Pulses}
 use Rattle.pulse_map.specs.Map.{mapOf}
 
--- 52 places with SPI, else 43
+-- 52 positions with SPI, else 43
 unfoldable pub modeACLength : Bool → ℕ
 modeACLength true = 52
 modeACLength false = 43
@@ -16,7 +16,7 @@ abbrev pub onlyIf : Bool → ℕ → List ℕ
 onlyIf true p = p ∷ []
 onlyIf false p = []
 
--- the places of those bits that are set, of so many, from bit n on
+-- the positions of those bits that are set, of k bits from bit n on
 unfoldable pub dataPositions : ℕ → ℕ → ℕ → List ℕ
 dataPositions d zero n = []
 dataPositions d (suc left) n = onlyIf (bitOf d n) (positionOf n) ++ dataPositions d left (suc n)

@@ -11,7 +11,7 @@ unfoldable pub modeSBits : Bool → ℕ
 modeSBits true = 112
 modeSBits false = 56
 
--- two places for each bit, after 16 for the preamble
+-- two positions for each bit, after 16 for the preamble
 unfoldable pub modeSLength : Bool → ℕ
 modeSLength long = 16 + 2 * modeSBits long
 
@@ -23,12 +23,12 @@ byteBit x k = x / 2 ^ (7 - k) % 2
 unfoldable pub bitOf : List ℕ → ℕ → ℕ
 bitOf m n = byteBit (getD m (n / 8) 0) (n % 8)
 
--- the pair of bit n, from place 16 on: its first place for 1, its second for 0
+-- the pair of bit n, from position 16 on: its first position for 1, its second for 0
 abbrev pub pairPosition : ℕ → ℕ → ℕ
 pairPosition n zero = 16 + 2 * n + 1
 pairPosition n (suc b) = 16 + 2 * n
 
--- a pulse for each of so many bits, from bit n on
+-- a pulse for each of k bits, from bit n on
 unfoldable pub bitPositions : List ℕ → ℕ → ℕ → List ℕ
 bitPositions m zero n = []
 bitPositions m (suc left) n = pairPosition n (bitOf m n) ∷ bitPositions m left (suc n)

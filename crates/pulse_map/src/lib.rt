@@ -5,7 +5,7 @@ ghost use Rattle.pulse_map.specs.ModeS.{byteBit, modeSBits, modeSPulses}
 ghost use Rattle.pulse_map.specs.ModeAC.{modeACPulses};
 use constants::MAX_POSITIONS;
 
-// Where pulses stand, one entry for each place of half a microsecond, and how many places there are; none stands beyond them.
+// Where pulses stand, one entry for each position of half a microsecond, and how many positions there are; none stands beyond them.
 pub struct Pulses {
     pub on: [bool; MAX_POSITIONS],
     pub len: usize,

@@ -191,7 +191,7 @@ part-at-most j s J h = G-le s (64 * 2 ^ 1074) (suc j) 1068 (lit< tt) (room-53 j 
 over-64 : (sps : ℕ) → 0 < sps → branches sps / sps ≡ 64
 over-64 sps S = mul-div-cancel 64 S
 
--- the delay of a crossing between places j and j + 1: at most (j + 1) / 64
+-- the delay of a crossing between indices j and j + 1: at most (j + 1) / 64
 pub delay-units : (sps : ℕ) (level : Float) (j : ℕ) (a b : Float) → 0 < sps → j < 2 ^ 40 → T (fits binary64 level) → T (fits binary64 a) → T (fits binary64 b) → T (lt zeroF level) → T (within16 a) → T (within16 b) → T (crosses level a b)
     → (n : ℕ) × Units (delayAt sps level j a b) n × (n ≤ suc j * 2 ^ 1068)
 unfolding delayAt
@@ -261,7 +261,7 @@ module _ (sps : ℕ) (level : Float) (S : 0 < sps) (FL : T (fits binary64 level)
       go true c f later = found j a b (inside j (length l) places h) (H 0) (H 1) (and-l (within16 a) (within16 b && allWithin16 l) w) (and-l (within16 b) (allWithin16 l) rest) (true-is (crosses level a b) c) (cc)
       go false c f later = later f
 
--- ---- the law, at any rate: the delay is at most that of the last two places
+-- ---- the law, at any rate: the delay is at most that of the last two indices
 below-7 : (sps n : ℕ) → 0 < sps → n ≤ (prototypeLength sps - 1) * 2 ^ 1068 → n < 7 * sps * 2 ^ 1074
 below-7 sps n S h = lt-of-le-of-lt h (lt-of-lt-of-le (mul-lt-mul-of-pos-right (less sps S) (pow-pos 1068)) (le-of-eq (mul-assoc (7 * sps) 64 (2 ^ 1068))))
   where

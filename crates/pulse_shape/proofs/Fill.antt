@@ -1,4 +1,4 @@
--- A loop that stores f j at each place j of an array makes the list of the values of f.
+-- A loop that stores f j at each index j of an array makes the list of the values of f.
 use Prim.Native.Nat.{ℕ, zero, suc, _+_, _-_, _<_, _≤_}
 use mathlib.Core.Path.{_≡_, refl, sym, ap, _∙_}
 use mathlib.Core.List.{List, [], _∷_, _++_, append-nil}
@@ -10,7 +10,7 @@ use lib.Seq.{take-suc-set, take-all, append-snoc}
 use lib.Ieee.{Float}
 use Rattle.pulse_shape.specs.Values.{valuesFrom, values}
 
--- the list t with f k stored at place k, f (k + 1) at the next and so on, n stores
+-- the list t with f k stored at index k, f (k + 1) at the next and so on, n stores
 unfoldable pub fillFrom : (ℕ → Float) → ℕ → List Float → ℕ → List Float
 fillFrom f zero t k = t
 fillFrom f (suc n) t k = fillFrom f n (set t k (f k)) (k + 1)
@@ -39,11 +39,11 @@ filled f (suc n) t k e =
 pub fill-all : (f : ℕ → Float) (n : ℕ) (t : List Float) → length t ≡ n → fillFrom f n t 0 ≡ values f n
 fill-all f n t e = filled f n t 0 (e ∙ omega arith)
 
--- before the first turn
+-- before the first step
 pub fill-first : (f : ℕ → Float) (t : List Float) → fillFrom f (length t - 0) t 0 ≡ fillFrom f (length t) t 0
 fill-first f t = ap (λ (n : ℕ). fillFrom f n t 0) (sub-zero (length t))
 
--- a turn of the loop, from what the loop comes to before it
+-- a step of the loop, from what the loop yields before it
 pub fill-on : (f : ℕ → Float) (e : ℕ) (t : List Float) (k : ℕ) (x : Float) (w : List Float) → k < e → x ≡ f k → fillFrom f (e - k) t k ≡ w
     → fillFrom f (e - (k + 1)) (set t k x) (k + 1) ≡ w
 fill-on f e t k x w h p q = ap (λ (y : Float). fillFrom f (e - (k + 1)) (set t k y) (k + 1)) p ∙ sym (fill-step f e t k h) ∙ q

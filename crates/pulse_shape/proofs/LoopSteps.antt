@@ -1,4 +1,4 @@
--- One turn of each loop that reads, and its end: what is left of the computation is the same.
+-- One step of each loop that reads, and its end: what is left of the computation is the same.
 use Prim.Native.Nat.{ℕ, zero, suc, _+_, _-_, _<_, _≤_}
 use mathlib.Core.Path.{_≡_, refl, sym, ap, _∙_, subst}
 use mathlib.Core.Bool.{Bool, true, false, _&&_}
@@ -65,7 +65,7 @@ delay-end sps level (a ∷ l) (suc j) h = last (drop j l) j (omega (arith, short
     short : (l : List Float) (j : ℕ) → length l ≤ j + 1 → length (drop j l) ≤ 1
     short l j h = simp length-drop (omega arith)
 
--- by the outcome of the turn's test
+-- by the outcome of the step's test
 pub within-stop : (l : List Float) (j : ℕ) → j < length l → within16 (getD l j nan) ≡ false → allWithin16 (drop j l) ≡ false
 within-stop l j h e = within-step l j h ∙ ap (λ (t : Bool). t && allWithin16 (drop (j + 1) l)) e
 

@@ -14,7 +14,7 @@ use Rattle.pulse_shape.specs.declared.Crossing.the-variants.{At, None}
 unfoldable pub crosses : Float → Float → Float → Bool
 crosses level a b = le a level && lt level b
 
--- where between places j and j + 1, with values a and b, the level lies, in samples
+-- where between indices j and j + 1, with values a and b, the level lies, in samples
 unfoldable pub delayAt : ℕ → Float → ℕ → Float → Float → Float
 delayAt sps level j a b =
     div binary64 (add binary64 (ofInt binary64 (pos j)) (div binary64 (sub binary64 level a) (sub binary64 b a))) (ofInt binary64 (pos (branches sps / sps)))
@@ -23,7 +23,7 @@ abbrev pub choose : Bool → Crossing → Crossing → Crossing
 choose true a b = a
 choose false a b = b
 
--- the first pair that the level crosses, the first value standing at place j
+-- the first pair that the level crosses, the first value standing at index j
 unfoldable pub delayFrom : ℕ → Float → ℕ → List Float → Crossing
 delayFrom sps level j [] = None
 delayFrom sps level j (a ∷ []) = None

@@ -15,7 +15,7 @@ one = ofBits binary32 0x3f80_0000
 abbrev pub ratio : ℕ → ℕ → Float
 ratio m n = div binary32 (ofInt binary32 (pos m)) (ofInt binary32 (pos n))
 
--- value j of the pulse: j / rise on the rising edge, 1.0 on the top, and 1.0 - i / fall at place i of the falling edge, counted from 1
+-- value j of the pulse: j / rise on the rising edge, 1.0 on the top, and 1.0 - i / fall at index i of the falling edge, counted from 1
 unfoldable pub trapezoidAt : ℕ → ℕ → ℕ → ℕ → Float
 trapezoidAt rise fall total j =
     cond (ltb j rise) (ratio j rise)

@@ -1,4 +1,4 @@
--- A list given by its value at each place.
+-- A list given by its value at each index.
 use Prim.Native.Nat.{ℕ, zero, suc, _+_}
 use mathlib.Core.List.{List, [], _∷_}
 use lib.Ieee.{Float}

@@ -1,4 +1,4 @@
-// Checks of lent taps: equal to their definitions, in specs/ of `pulse_shape`, on every input.
+// Checks of taps: equal to their definitions, in specs/ of `pulse_shape`, on every input.
 ghost use mathlib.Core.Path.{_≡_};
 ghost use Rattle.constants.specs.Rate.{four};
 ghost use Rattle.pulse_shape.specs.Accepted.{within16, allWithin16, modeSTapsAccepted, modeACTapsAccepted};

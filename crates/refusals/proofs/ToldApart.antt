@@ -1,4 +1,4 @@
--- Number and values (SPECIFICATION 3.1) tell the refusals apart (`told-apart`).
+-- Number and values (SPECIFICATION 3.1) distinguish the refusals (`told-apart`).
 use Prim.Native.Nat.{ℕ}
 use mathlib.Core.Path.{_≡_, refl, sym, ap, _∙_}
 use mathlib.Core.List.{List, [], _∷_}

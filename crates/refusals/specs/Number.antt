@@ -15,7 +15,7 @@ numberOf (Draw draw field) = 7
 numberOf (Noise index) = 8
 numberOf Length = 9
 
--- what is returned beside the number: the rate, 0 to 6; the distribution, 0 to 2; the draw and the field; the place
+-- what is returned beside the number: the rate, 0 to 6; the distribution, 0 to 2; the draw and the field; the index
 unfoldable pub valuesOf : Refusal → List ℕ
 valuesOf Duration = []
 valuesOf (Rate rate) = rate ∷ []

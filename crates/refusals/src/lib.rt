@@ -17,9 +17,9 @@ pub enum Refusal {
     Prototype,
     // The first draw at fault, and its first field at fault.
     Draw(u64, u64),
-    // The place of the first noise value at fault.
+    // The index of the first noise value at fault.
     Noise(u64),
-    // The length of something that was lent.
+    // The length of a buffer.
     Length,
 }
 

@@ -1,4 +1,4 @@
--- One turn of the loop that writes a wave's values, its beginning and its two ends.
+-- One step of the loop that writes a wave's values, its beginning and its two ends.
 use Prim.Native.Nat.{ℕ, zero, suc, _+_, _-_, _^_, _<_, _≤_}
 use native.Mathlib.Nat.{mod-eq-of-lt, sub-zero}
 use native.Mathlib.Numerals.{add-one}
@@ -55,7 +55,7 @@ module _ (value : Clock → Float) (limit : ℕ) (step : Float) where
   below : (i l : ℕ) → i < l → l ≤ 246 → i < 246
   below i l h k = omega arith
 
-  -- what is written and what is left to write come to all values
+  -- what is written and what is left to write make all values
   pub fill-next : (e n : ℕ) (vs : List Float) (s s′ : Clock) (v : Float) (whole : List Float) → n < e → n < length vs → s .index < limit → limit ≤ 246 → v ≡ value s → s′ ≡ in64 (advance step s)
       → take n vs ++ clockValues (e - n) limit step value s ≡ whole → take (n + 1) (set vs n v) ++ clockValues (e - (n + 1)) limit step value s′ ≡ whole
   fill-next e n vs s s′ v whole h g i l ev es inv =

@@ -1,4 +1,4 @@
--- The samples of a wave over pulses laid late are those of the reply.
+-- The samples of a wave over padded pulses are those of the reply.
 use Prim.Native.Nat.{ℕ, zero, suc, _≤_}
 use mathlib.Core.Path.{_≡_, refl, sym, ap, _∙_}
 use mathlib.Core.Bool.{Bool, cond}

@@ -26,15 +26,15 @@ isModeAC Short = false
 isModeAC Long = false
 isModeAC ModeAc = true
 
--- the filterbank's value at a clock, over pulses laid late
+-- the filterbank's value at a clock, over padded pulses
 unfoldable pub paddedValue : List Float → List Bool → Clock → Float
 paddedValue prototype padded clock = paddedSum (filterTaps four prototype (clock .phase)) padded (clock .index)
 
--- the filterbank's values from a clock on, over pulses laid late
+-- the filterbank's values from a clock on, over padded pulses
 abbrev pub paddedValues : List Float → List Bool → ℕ → Float → Clock → List Float
 paddedValues prototype padded limit step first = clockValues (fuelOf four limit) limit step (paddedValue prototype padded) first
 
--- the wave of a message whose reply has so many places
+-- the wave of a message whose reply has n positions
 unfoldable pub waveOf : MessageConfig → Float → Delays → ℕ → Wave
 waveOf c amplitude delays len =
     record {
@@ -49,6 +49,6 @@ waveOf c amplitude delays len =
 unfoldable pub waveSamples : List Float → List Bool → Wave → List Sample
 waveSamples prototype padded w = rotated (w .amplitude) (w .rate) (w .phase) (paddedValues prototype padded (w .limit) (w .step) (w .clock))
 
--- samples added into memory from a place on, and their number answered
+-- samples added into memory from a slot on, and their number answered
 abbrev pub Adds : List Float → ℕ → List Sample → List Float → ℕ → Type 0
 Adds m slot zs m′ r = (m′ ≡ addedReply four m slot zs) × (r ≡ addedCount four m slot (length zs))

@@ -1,4 +1,4 @@
-// The samples of a reply added into working memory, by the prototype of its kind: the pulses, the filterbank's values at each clock, and their turning by the carrier.
+// The samples of a reply added into working memory, by the prototype of its kind: the pulses, the filterbank's values at each clock, and their rotation by the carrier.
 // The public function is equal to definitions of `reply_samples` on every input.
 ghost use mathlib.Core.Path.{_≡_};
 ghost use Prim.Native.Nat.{_≤_};
@@ -13,7 +13,7 @@ use message::ReplyKind;
 use message_config::Delays;
 use message_config::MessageConfig;
 
-// The indices of so many pulses.
+// The indices of n pulses.
 fn limit_of(len: usize) -> usize
     requires { ⌜ len ≤ 240 ⌝ }
     ensures { λ r. ⌜ (r ≡ limitOf len) × (r ≤ 246) ⌝ }
@@ -83,7 +83,7 @@ fn fill_values(
     n
 }
 
-// Adds the samples of a wave from a place on, and answers how many they are. The values come first, in a loop of their own: the processor works on more samples at once than where each one's value and sine wait for each other.
+// Adds the samples of a wave from a slot on, and answers how many they are. The values come first, in a loop of their own: the processor works on more samples at once than where each one's value and sine wait for each other.
 fn add_wave(
     prototype: &[f32],
     padded: &[bool; 252],
@@ -128,7 +128,7 @@ fn is_mode_ac(kind: ReplyKind) -> bool
     }
 }
 
-// Adds the samples of a reply into working memory from a place on, by the prototype of its kind, and answers how many they are.
+// Adds the samples of a reply into working memory from a slot on, by the prototype of its kind, and answers how many they are.
 pub fn add_reply(
     mode_s: &[f32],
     mode_ac: &[f32],

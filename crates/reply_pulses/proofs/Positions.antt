@@ -1,4 +1,4 @@
--- The places of a reply: as many as its length says, at most 240; 128 for a short message, 240 for a long one, 43 for Mode A/C and 52 with SPI. And each kind's pulses and samples, as the code meets them.
+-- The positions of a reply: as many as its length says, at most 240; 128 for a short message, 240 for a long one, 43 for Mode A/C and 52 with SPI. And each kind's pulses and samples, as the code meets them.
 use mathlib.Core.Path.{_≡_, sym, ap, _∙_, subst}
 use Prim.Native.Nat.{ℕ, _+_, _*_, _%_, _≤_}
 use native.Mathlib.Nat.{le-trans, le-of-eq}

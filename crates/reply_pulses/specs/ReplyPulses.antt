@@ -27,7 +27,7 @@ pulsesOfKind ModeAc bytes = modeACPulses (dataOf bytes) (spiOf bytes)
 unfoldable pub pulsesOf : Reply → Pulses
 pulsesOf r = pulsesOfKind (r .kind) (r .bytes)
 
--- the places that a reply takes, and whether a pulse stands at each
+-- the positions that a reply takes, and whether a pulse stands at each
 unfoldable pub positionsOf : Reply → List Bool
 positionsOf r = take (pulsesOf r .len) (pulsesOf r .on)
 

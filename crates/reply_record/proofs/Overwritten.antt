@@ -1,4 +1,4 @@
--- Bytes laid part after part, by each of the writes: what the writes so far laid, and the next write's bytes behind them (`next`).
+-- Bytes written part after part, by each of the writes: what the writes so far wrote, and the next write's bytes behind them (`next`).
 use Prim.Native.Nat.{ℕ, _+_, _≤_, _<_}
 use mathlib.Core.Path.{_≡_, refl, sym, ap, _∙_}
 use mathlib.Core.Bool.{Bool, true, false, cond}
@@ -18,17 +18,17 @@ use Rattle.message.specs.declared.Reply.{Reply}
 use Rattle.message_config.specs.declared.MessageConfig.{MessageConfig}
 use Rattle.reply_record.specs.Record.{recordLength, messageLength, f64Bytes, floatBytes, otherBytes, recordAt}
 
--- a number written where there is room is its bytes laid
+-- a number written where there is room is its bytes written
 pub put-overwritten : (n : ℕ) (s : List ℕ) (at v : ℕ) → at + n ≤ length s → put n s at v ≡ overwritten s at (bytesOf n v)
 put-overwritten n s at v h = put-there n s at (sym (le-leb (at + n) (length s) h)) v refl
 
--- no bytes laid change nothing
+-- no bytes written change nothing
 pub none-overwritten : (s : List ℕ) (at : ℕ) → s ≡ overwritten s at []
 unfolding overwritten
 none-overwritten s at = sym (ap (λ (l : List ℕ). l ++ drop (at + 0) s) (append-nil (take at s)) ∙ ap (λ (n : ℕ). take at s ++ drop n s) (add-zero at) ∙ take-append-drop at s)
 
 module _ (s : List ℕ) (at : ℕ) where
-  -- xs was laid, then ys behind it
+  -- xs was written, then ys behind it
   pub next : (k : ℕ) (xs ys : List ℕ) (d e : List ℕ) → length xs ≡ k → at + k ≤ length s → d ≡ overwritten s at xs → e ≡ overwritten d (at + k) ys → e ≡ overwritten s at (xs ++ ys)
   next k xs ys d e l h p q =
       q
@@ -80,7 +80,7 @@ others-overwritten s at r first type count n {d₁} {d₂} {d₃} {d₄} {d₅} 
     let p₄ = next s at 11 x₃ (n ∷ []) d₃ d₄ (simp (length-append, length-bytes)) (omega arith) p₃ q₄ in
     next s at 12 x₄ (r .bytes) d₄ d₅ (simp (length-append, length-bytes)) (omega arith) p₄ q₅ ∙ ap (overwritten s at) (simp (append-assoc, e))
 
--- ---- what the test of a place decides
+-- ---- what the test of an offset decides
 module _ (s : List ℕ) (at : ℕ) (b : Bool) (e : b ≡ inside recordLength s at) where
   pub room : b ≡ true → at + recordLength ≤ length s
   room t = leb-true (at + recordLength) (length s) (sym e ∙ t)

@@ -63,7 +63,7 @@ fn put_others(d: &mut [u8], at: usize, reply: Reply, first: u64, kind: u8, count
     put_bytes(d, at + 12, bytes);
 }
 
-// The record of a message, written at a place: its first sample, its type's number and its count of samples. False where it would run past the end: then nothing is written.
+// The record of a message, written at an offset: its first sample, its type's number and its count of samples. False where it would run past the end: then nothing is written.
 pub fn put(d: &mut [u8], at: usize, c: MessageConfig, first: u64, kind: u8, count: u16) -> bool
     ensures { λ r. ⌜ (r ≡ inside recordLength (now (d .entry)) at) × (now (d .exit) ≡ recordAt (now (d .entry)) at (recordBytes c first kind count)) ⌝ }
 {

@@ -1,4 +1,4 @@
--- One turn of the loop that adds values turned by the carrier, and its end; what the functions that it calls give; and what is no place.
+-- One step of the loop that adds values rotated by the carrier, and its end; what the functions that it calls give; and what is no slot.
 use Prim.Native.Nat.{ℕ, suc, _+_, _*_, _<_, _≤_}
 use native.Mathlib.Numerals.{add-one}
 use native.Mathlib.Omega.{arith}
@@ -37,7 +37,7 @@ sample-is amplitude value phase co si t e f g =
     ap (λ (k : Float). sampleOf (mul binary32 (mul binary32 amplitude value) k) (mul binary32 (mul binary32 amplitude value) si)) (f ∙ ap (λ (u : SinCos). narrow (u .cos)) e)
     ∙ ap (λ (k : Float). sampleOf (mul binary32 (mul binary32 amplitude value) (narrow (sinCos phase .cos))) (mul binary32 (mul binary32 amplitude value) k)) (g ∙ ap (λ (u : SinCos). narrow (u .sin)) e)
 
--- a store at one place leaves the next as it was, so both parts are added to what stood there
+-- a store at one slot leaves the next as it was, so both parts are added to what stood there
 pub two-writes : (m m1 m2 : List Float) (p : ℕ) (z : Sample) → m1 ≡ set m (2 * p) (add binary32 (getD m (2 * p) nan) (z .re)) → m2 ≡ set m1 (2 * p + 1) (add binary32 (getD m1 (2 * p + 1) nan) (z .im)) → m2 ≡ addedAt m p z
 unfolding addedAt
 two-writes m m1 m2 p z e f =
@@ -76,7 +76,7 @@ module _ (amplitude rate : Float) where
           gone [] h = refl
           gone (x ∷ k) h = absurd (omega arith)
 
--- ---- at what is no place
+-- ---- at what is no slot
 pub other-length : (m : List Float) (slot : ℕ) → (length m ≡ 2252 → ⊥) → isSlot four m slot ≡ false
 unfolding isSlot
 other-length m slot h = ap (λ (t : Bool). t && ltb slot 1126) (ne-eqb (length m) 2252 h)
@@ -97,7 +97,7 @@ pub none : (m : List Float) (slot n : ℕ) → isSlot four m slot ≡ false → 
 unfolding addedCount
 none m slot n e = sym (ap (λ (t : Bool). cond t n 0) e)
 
--- ---- at a place
+-- ---- at a slot
 pub added-here : (m m′ : List Float) (slot : ℕ) (zs : List Sample) → length m ≡ 2252 → slot < 1126 → m′ ≡ addedFrom four m slot zs → m′ ≡ addedReply four m slot zs
 unfolding addedReply
 added-here m m′ slot zs l h e = e ∙ sym (ap (λ (t : Bool). cond t (addedFrom four m slot zs) m) (a-slot m slot l h))

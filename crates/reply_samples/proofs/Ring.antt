@@ -1,4 +1,4 @@
--- The ring: the place after that of sample s is that of sample s + 1, a place being the sample's number modulo the places; and adding keeps the memory's length.
+-- The ring: the slot after that of sample s is that of sample s + 1, a slot being the sample's number modulo the slots; and adding keeps the memory's length.
 use Prim.Native.Nat.{ℕ, _+_, _-_, _%_, _<_, _≤_}
 use native.Mathlib.Nat.{mod-lt, mod-self, mod-eq-of-lt, mod-add-mod}
 use native.Mathlib.Omega.{arith}
@@ -16,7 +16,7 @@ use Rattle.reply_samples.specs.declared.Sample.{Sample}
 use Rattle.reply_samples.specs.RingModel.{ringSlots, addedAt, nextSlot, addedFrom, isSlot, addedReply}
 use Rattle.reply_samples.proofs.LoopSteps.{added-length}
 
--- among W places the next is one more, and 0 after the last
+-- among W slots the next is one more, and 0 after the last
 step : (W s : ℕ) → 0 < W → cond (ltb (s % W) (W - 1)) (s % W + 1) 0 ≡ (s + 1) % W
 step W s h = elim (le-or-lt (W - 1) (s % W)) [
   | inl l ↦ ap (λ (t : Bool). cond t (s % W + 1) 0) (le-ltb (s % W) (W - 1) l) ∙ sym (mod-self W) ∙ ap (λ (n : ℕ). n % W) (last W (s % W) h l (mod-lt s h)) ∙ mod-add-mod s W 1

@@ -1,4 +1,4 @@
-// A reply's samples, after `MessageConfig::samples` of simulation.rs: the filterbank's values turned by the carrier, and their addition into working memory that is used as a ring.
+// A reply's samples, after `MessageConfig::samples` of simulation.rs: the filterbank's values rotated by the carrier, and their addition into working memory that is used as a ring.
 // The public function is equal to definitions of specs/ on every input; what it is made of has what it asks tested before.
 ghost use mathlib.Core.Path.{_≡_};
 ghost use Prim.Native.Nat.{_≤_, _<_};
@@ -17,7 +17,7 @@ pub struct Sample {
     pub im: f32,
 }
 
-// A value of the filterbank times the amplitude, turned by the carrier's phase.
+// A value of the filterbank times the amplitude, rotated by the carrier's phase.
 fn sample_at(amplitude: f32, value: f32, phase: f64) -> Sample
     ensures { λ r. ⌜ r ≡ sampleAt amplitude value phase ⌝ }
 {
@@ -37,7 +37,7 @@ fn add_to(memory: &mut [f32], i: usize, x: f32)
     memory[i] = memory[i] + x;
 }
 
-// Adds a sample at a place of the memory.
+// Adds a sample at a slot of the memory.
 fn add_at(memory: &mut [f32], slot: usize, z: Sample)
     requires { ⌜ (length (now memory) ≡ 2252) × (slot < 1126) ⌝ }
     ensures { λ r. ⌜ (now (memory .exit) ≡ addedAt (now (memory .entry)) slot z) × (length (now (memory .exit)) ≡ 2252) ⌝ }
@@ -47,7 +47,7 @@ fn add_at(memory: &mut [f32], slot: usize, z: Sample)
     add_to(memory, i + 1, z.im);
 }
 
-// The place after a place of the ring.
+// The slot after a slot of the ring.
 fn next_slot(slot: usize) -> usize
     ensures { λ r. ⌜ (r ≡ nextSlot four slot) × (r < 1126) ⌝ }
 {
@@ -57,7 +57,7 @@ fn next_slot(slot: usize) -> usize
     0
 }
 
-// Adds values, turned by the carrier, from a place on.
+// Adds values, rotated by the carrier, from a slot on.
 fn add_from(values: &[f32], amplitude: f32, rate: f64, first: f64, memory: &mut [f32], slot: usize)
     requires { ⌜ (length (now memory) ≡ 2252) × (slot < 1126) ⌝ }
     ensures { λ _. ⌜ now (memory .exit) ≡ addedFrom four (now (memory .entry)) slot (rotated amplitude rate first (now (values .entry))) ⌝ }
@@ -76,7 +76,7 @@ fn add_from(values: &[f32], amplitude: f32, rate: f64, first: f64, memory: &mut 
     }
 }
 
-// Adds values of the filterbank, times the amplitude and turned by the carrier, into working memory from a place on, and answers how many they are.
+// Adds values of the filterbank, times the amplitude and rotated by the carrier, into working memory from a slot on, and answers how many they are.
 pub fn add_rotated(
     values: &[f32],
     amplitude: f32,

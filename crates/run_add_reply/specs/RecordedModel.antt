@@ -1,4 +1,4 @@
--- A mirror of code: a reply added into working memory and recorded, from its message and the bytes of its draw: what is left of the two.
+-- A model of code: a reply added into working memory and recorded, from its message and the bytes of its draw: what is left of the two.
 use Prim.Native.Nat.{ℕ, _%_}
 use mathlib.Core.List.{List}
 use lib.Ieee.{Float}
@@ -16,10 +16,10 @@ module _ (pending : MessageConfig) (delays : Delays) (first : ℕ) (rest : List 
   abbrev pub messageAt : MessageConfig
   messageAt = completedBy pending (drawAt rest .kind) (drawAt rest .picks)
 
-  -- its samples are added from the place of its first sample on
+  -- its samples are added from the slot of its first sample on
   unfoldable pub memoryWith : List Float → List Float → List Float → List Float
   memoryWith modeS modeAC memory = addedReply four memory (first % ringSlots four) (replySamples four modeS modeAC delays (drawAt rest .amplitude) messageAt)
 
-  -- its record is written from a place on, with the count of the samples added
+  -- its record is written from an offset on, with the count of the samples added
   unfoldable pub recordsWith : List Float → ℕ → List ℕ → List ℕ
   recordsWith memory at records = recordAt records at (recordBytes messageAt first (drawAt rest .kind) (addedCount four memory (first % ringSlots four) (replyCount four delays messageAt)))

@@ -8,7 +8,7 @@ use constants::RING_SLOTS_U64;
 use message_config::Delays;
 use message_config::MessageConfig;
 
-// The place of a sample in working memory.
+// The slot of a sample in working memory.
 fn ring(n: u64) -> usize
     ensures { λ r. ⌜ r ≡ n % ringSlots four ⌝ }
 {

@@ -1,4 +1,4 @@
--- A reply added place by place is the theory's `put`, and its record the theory's `entry`.
+-- A reply added slot by slot is the theory's `put`, and its record the theory's `entry`.
 use mathlib.Core.Path.{_≡_, refl, ap, _∙_}
 use mathlib.Core.Bool.{Bool, true, cond}
 use mathlib.Core.List.{List, [], _∷_, map, append-assoc}
@@ -42,7 +42,7 @@ module _ (f : Filters) (total : ℕ) where
   pub counts : (amplitude : Float) (c : MessageConfig) → length (map pairOf (replySamples four (f .modeS) (f .modeAC) (f .delays) amplitude c)) ≡ replyCount four (f .delays) c
   counts amplitude c = length-map (replySamples four (f .modeS) (f .modeAC) (f .delays) amplitude c) pairOf ∙ samples-counted four (f .modeS) (f .modeAC) (f .delays) amplitude c
 
--- ---- what the two calls leave, at a place of working memory and where there is room for a record
+-- ---- what the two calls leave, at a slot of working memory and where there is room for a record
 a-slot : (m : List Float) (slot : ℕ) → length m ≡ 2252 → slot < 1126 → isSlot four m slot ≡ true
 unfolding isSlot
 a-slot m slot e h = rw (eq-eqb (length m) 2252 e, lt-ltb slot 1126 h)

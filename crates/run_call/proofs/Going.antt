@@ -32,7 +32,7 @@ given-read Stop.the-variants.RecordsFull = refl
 pub tail-is : (rest : List ℕ) → take (length rest - 65) (drop 65 rest) ≡ drop 65 rest
 tail-is rest = take-all (length rest - 65) (drop 65 rest) (rw length-drop (omega arith))
 
--- each turn takes a draw or fills output
+-- each step takes a draw or fills output
 abbrev pub stepsLeft : ℕ → ℕ → Progress → ℕ
 stepsLeft rest output t = suc (rest / 65 + (output / 2 - t .samples))
 

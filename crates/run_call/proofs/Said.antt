@@ -1,4 +1,4 @@
--- What the plan of a turn tells of the buffers, and what doing it leaves of the rest of the call: each arm of `step`.
+-- What the plan of a step says of the buffers, and what doing it leaves of the rest of the call: each arm of `step`.
 use mathlib.Core.Path.{_≡_, refl, sym, ap, _∙_, subst}
 use mathlib.Core.Bool.{Bool, true, false}
 use mathlib.Core.List.{List}
@@ -42,7 +42,7 @@ use Rattle.run_call.specs.StateGenerator.{filtersOf, genOf}
 use Rattle.run_call.proofs.Adding.{added-put, counts, added-by, recorded-by}
 use Rattle.run_call.proofs.Writing.{samples-written-memory, samples-written-output}
 
--- what is lent, and the run, have sizes of 64 bits, so no count goes over
+-- the buffers, and the run, have sizes of 64 bits, so no count goes over
 pub record Sized (total taken rest output records : ℕ) : Type 0 where
   pub run-in : total < 2 ^ 64
   pub draws-in : 65 * taken + rest < 2 ^ 64
@@ -63,7 +63,7 @@ isStop (addReply time first) = false
 no-stop : (p : Plan Float) → isStop p ≡ false → (k : Bench.Stop) → p ≡ stopAt k → ⊥
 no-stop p e k h = let both : _≡_ {A = Bool} true false = sym (ap isStop h) ∙ e in let one : _≡_ {A = ℕ} 0 1 = cc in omega arith
 
--- a turn with its plan: the state, the prototypes, what is lent and left, the next draw's message, and what is known of them
+-- a step with its plan: the state, the prototypes, the buffers and left, the next draw's message, and what is known of them
 pub record Planned : Type 0 where
   pub s : State
   pub modeS : List Float
@@ -124,7 +124,7 @@ module _ (P : Planned) where
       let near = nearer G nan noise (lit< tt) (lit< tt) (λ time d k n. line-length (s .distributions) time (d .draw) k n) z within (planRead x) (says x h) (no-stop (planRead x) e) in
       subst (λ (u : Turns.Progress G nan). Went G noise nan z u) (sym k) (record { same = right x h ∙ after; within = near .within; less = near .less })
 
-  -- the turn that was made is the plan's
+  -- the progress that was made is the plan's
   by-plan : (x : Plan.Plan) → plan ≡ x → (r : Progress) (memory′ output′ : List Float) (records′ : List ℕ) → r ≡ progressAfterStep t plan → Step (progressAfterStep t x) memory′ output′ records′ → Step r memory′ output′ records′
   by-plan x h r memory′ output′ records′ k = subst (λ (y : Progress). Step y memory′ output′ records′) (sym (k ∙ ap (progressAfterStep t) h))
 

@@ -19,7 +19,7 @@ use Rattle.run_theory.specs.PlainBench as Bench
 use Rattle.refusals.specs.declared.Refusal as Refusal
 use Rattle.run_call_checks.specs.Checks.{wrongMemory}
 
--- the first turn of a call
+-- a call before its first step
 unfoldable pub initialBy : State → Progress
 initialBy s = record { written = s .written; time = s .time; latest = s .latest; ended = s .ended; taken = 0; samples = 0; records = 0; last = LastStep.the-variants.SamplesWritten }
 
@@ -32,7 +32,7 @@ ranBy s t w = record {
 }
 
 module _ (s : State) (modeS modeAC : List Float) where
-  -- of what the theory's call comes to
+  -- of what the theory's call yields
   unfoldable pub leftBy : Theory.Ended (genOf s modeS modeAC) nan → Left
   leftBy e = record {
     ran = record {
@@ -45,7 +45,7 @@ module _ (s : State) (modeS modeAC : List Float) where
     records = e .records;
   }
 
-  -- a call that is not refused: the steps from its first turn on
+  -- a call that is not refused: the steps from its first step on
   unfoldable pub callLeft : List Float → List ℕ → List Float → List Float → List ℕ → Left
   callLeft memory draws noise output records =
       leftBy
@@ -55,7 +55,7 @@ module _ (s : State) (modeS modeAC : List Float) where
 unfoldable pub refusedBy : State → Refusal.Refusal → Ran
 refusedBy s q = record { state = s; counts = record { taken = 0; samples = 0; noise = 0; records = 0 }; answer = Answer.the-variants.Refused q }
 
--- a refusal changes neither state nor any lent buffer
+-- a refusal changes neither state nor any buffer
 abbrev pub runBy : State → List Float → List Float → List ℕ → Left → Option Bench.Refusal → Left
 runBy s memory output records left none = left
 runBy s memory output records left (some q) = record { ran = refusedBy s (refusalGiven q); memory = memory; output = output; records = records }

@@ -13,13 +13,13 @@ use Rattle.run_steps.specs.declared.LastStep as LastStep
 use Rattle.run_steps.specs.PlanModel.{stopRead}
 use Rattle.run_call.specs.StateGenerator.{genOf}
 
--- the counts lie within what is lent
+-- the counts lie within the buffers
 pub record Inside (t : Progress) (noise output records : ℕ) : Type 0 where
   pub output-in : 2 * t .samples ≤ output
   pub noise-in : 2 * t .samples ≤ noise
   pub records-in : 66 * t .records ≤ records
 
--- a turn with working memory, the draw bytes that are left, and the two buffers
+-- progress with working memory, the draw bytes that are left, and the two buffers
 abbrev pub progressRead : (s : State) (modeS modeAC : List Float) → Progress → List Float → List ℕ → List Float → List ℕ → Theory.Progress (genOf s modeS modeAC) nan
 progressRead s modeS modeAC t memory rest output records = record {
   state = record { memory = memory; written = t .written; time = t .time; over = t .ended; mark = t .latest };
@@ -37,7 +37,7 @@ restAfter LastStep.the-variants.SamplesWritten rest = rest
 restAfter LastStep.the-variants.DrawTaken rest = drop 65 rest
 restAfter (LastStep.the-variants.StopReached w) rest = rest
 
--- what a step comes to, z before it and z′ after it: the rest of the call is as it was, and nearer to its end; or the call is at its stop
+-- what a step yields, z before it and z′ after it: the rest of the call is as it was, and nearer to its end; or the call is at its stop
 module _ (G : Generator) (noise : List (G .Value)) (o : G .Value) where
   pub record Went (z z′ : Theory.Progress G o) : Type 0 where
     pub same : Theory.restOf G o noise z ≡ Theory.restOf G o noise z′

@@ -1,4 +1,4 @@
-// Run calls: the checks, and the turns, each a stop, samples that are due, or a draw. Each function is tied to the theory of lists of calls.
+// Run calls: the checks, and the steps, each a stop, samples that are due, or a draw. Each function is tied to the theory of lists of calls.
 ghost use mathlib.Core.Path.{_≡_};
 ghost use Prim.Native.Nat.{_+_, _*_, _≤_, _<_, _^_};
 ghost use lib.ListN.{length};
@@ -51,7 +51,7 @@ pub struct Ran {
     pub answer: Answer,
 }
 
-// One turn: a stop, so many samples, or a draw.
+// One step: a stop, n samples, or a draw.
 fn step(
     s: State,
     t: Progress,
@@ -118,7 +118,7 @@ fn step(
     r
 }
 
-// The first turn of a call.
+// A call before its first step.
 fn initial_progress(s: State) -> Progress
     ensures { λ r. ⌜ r ≡ initialBy s ⌝ }
 {
@@ -163,7 +163,7 @@ fn stopped_at(s: State, t: Progress, w: Stop) -> Ran
     }
 }
 
-// The turns of a call, until one stops it. The draw bytes that are not taken are handed on as a part.
+// The steps of a call, until one stops it. The draw bytes that are not taken are handed on as a part.
 fn steps(
     s: State,
     mode_s: &[f32],
@@ -209,7 +209,7 @@ fn refused(s: State, q: Refusal) -> Ran
     }
 }
 
-// A run call: refused, or its turns until one stops it. A refusal changes neither the state nor any lent buffer.
+// A run call: refused, or its steps until one stops it. A refusal changes neither the state nor any buffer.
 pub fn run(
     s: State,
     mode_s: &[f32],

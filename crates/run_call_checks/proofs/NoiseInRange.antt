@@ -1,4 +1,4 @@
--- The search for the first noise value at fault, turn by turn, and the test that there is none.
+-- The search for the first noise value at fault, step by step, and the test that there is none.
 use mathlib.Core.Path.{_≡_, refl, sym, ap, subst, _∙_}
 use mathlib.Core.Bool.{Bool, true, false, cond, not}
 use mathlib.Core.List.{List, [], _∷_}
@@ -50,7 +50,7 @@ module _ (x : Float) (q : Bool) where
   unfolding outOfRange
   out-of-range-value e = sym (ap (λ (b : Bool). cond (not b) false q) e)
 
--- while all were quiet so far, a turn keeps the first fault of the rest
+-- while all were quiet so far, a step keeps the first fault of the rest
 pub in-range-on : (noise : List Float) (k : ℕ) (q q′ : Bool) → k < length noise → q′ ≡ cond (outOfRange (getD noise k nan)) false q → cond q (outOfRangeFrom k (drop k noise)) none ≡ cond q (outOfRangeFrom 0 noise) none → cond q′ (outOfRangeFrom (k + 1) (drop (k + 1) noise)) none ≡ cond q′ (outOfRangeFrom 0 noise) none
 unfolding outOfRange
 in-range-on noise k q q′ h e i = subst (λ (b : Bool). cond b (outOfRangeFrom (k + 1) (drop (k + 1) noise)) none ≡ cond b (outOfRangeFrom 0 noise) none) (sym e) (go (within (getD noise k nan) (ofBits binary32 0x4280_0000)) refl)

@@ -20,7 +20,7 @@ use Rattle.run_generator.specs.Instance.{instanceOf}
 abbrev pub wrongBuffers : ℕ → ℕ → Bool
 wrongBuffers output draws = eqb output 0 || not (eqb (output % 2) 0) || not (eqb (draws % 65) 0)
 
--- a first lent draw jumps back
+-- a first draw jumps back
 unfoldable pub jumpOf : Float → Float → List ℕ → Bool
 jumpOf time latest draws = cond (ltb (length draws) 65) false (lt (timeAfter time (drawAt draws)) latest)
 
@@ -29,6 +29,6 @@ unfoldable pub faultRead : DrawFault.DrawFault → Option Bench.Refusal
 faultRead DrawFault.the-variants.None = none
 faultRead (DrawFault.the-variants.At k field) = some (Bench.wrongDraw k field)
 
--- the generator of rates and distributions: the check of draws turns on nothing else
+-- the generator of rates and distributions: the check of draws depends on nothing else
 abbrev pub checkGenerator : MessagesPerSecond → Distributions → Generator
 checkGenerator rates all = instanceOf (record { rates = rates; distributions = all; delays = record { «mode_s» = nought; «mode_ac» = nought }; modeS = []; modeAC = [] }) 0

@@ -8,7 +8,7 @@ use Rattle.run_theory.specs.PlainBench as Bench
 use Rattle.run_generator.specs.Instance.{outOfRange}
 use Rattle.run_call_checks.specs.declared.NoiseFault as NoiseFault
 
--- the first noise value at fault, from place k on
+-- the first noise value at fault, from index k on
 unfoldable pub outOfRangeFrom : ℕ → List Float → Option Bench.Refusal
 outOfRangeFrom k [] = none
 outOfRangeFrom k (v ∷ vs) = cond (outOfRange v) (some (Bench.wrongNoise k)) (outOfRangeFrom (suc k) vs)

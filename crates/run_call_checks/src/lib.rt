@@ -42,7 +42,7 @@ pub fn lengths_wrong(
     draws % DRAW_LEN != 0
 }
 
-// A first lent draw jumps back.
+// A first draw jumps back.
 fn jumps_back(time: f64, latest: f64, draws: &[u8]) -> bool
     ensures { λ r. ⌜ r ≡ jumpOf time latest (now (draws .entry)) ⌝ }
 {
@@ -68,7 +68,7 @@ pub fn check_draws(
     draw_fields::first_fault(draws, rates, all)
 }
 
-// The place of the first noise value at fault, or none.
+// The index of the first noise value at fault, or none.
 pub enum NoiseFault {
     None,
     At(u64),

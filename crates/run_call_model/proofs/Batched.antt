@@ -1,4 +1,4 @@
--- The call as the code goes, on flat buffers, due samples at once, with a bound on its turns: `batched-result` and `batched-state` show it to be the call step by step, and the bound to be enough.
+-- The call as the code goes, on flat buffers, due samples at once, with a bound on its steps: `batched-result` and `batched-state` show it to be the call step by step, and the bound to be enough.
 use mathlib.Core.List.{List}
 use mathlib.Core.Option.{none}
 use mathlib.Core.Path.{_≡_, refl, sym, ap, _∙_}
@@ -20,7 +20,7 @@ use Rattle.run_call_model.proofs.Plan.{planOf, Written, Taken, PlanSays
 module _ (G : Generator) (o : G .Value) (noise : List (G .Value)) where
   open Generator G using (Draw, Time, entry, adds, drawAt, drawBytes, recordBytes)
 
-  -- the turn after a plan; a stop leaves the turn
+  -- the progress after a plan; a stop leaves it
   abbrev pub nextProgress : Progress G o → Plan Time → Progress G o
   nextProgress t (stopAt s) = t
   nextProgress t (drainMany n) = progressWithSamples G o noise t n (t .state .mark)
@@ -44,7 +44,7 @@ module _ (G : Generator) (o : G .Value) (noise : List (G .Value)) where
   batchedSteps (suc f) t = progressBy (λ t′. batchedSteps f t′) t (planOf G o noise t)
 
   module _ (draw-pos : 0 < drawBytes) (record-pos : 0 < recordBytes) (line-length : (t : Time) (d : Draw) (s n : ℕ) → length (entry t d s n) ≡ recordBytes) where
-    -- a turn that is no stop keeps the counts within what is lent, and comes nearer to the end
+    -- a step that is no stop keeps the counts within the buffers, and comes nearer to the end
     pub record Nearer (t t′ : Progress G o) : Type 0 where
       pub within : Within G o noise t′
       pub less : stepFuel G o noise t′ < stepFuel G o noise t

@@ -1,4 +1,4 @@
--- What a call's steps use up of what is lent: the counts of an answer are those of the draws taken, noise used, samples and records.
+-- What a call's steps use up of the buffers: the counts of an answer are those of the draws taken, noise used, samples and records.
 use mathlib.Core.List.{List, [], _∷_, _++_, append-nil, append-assoc}
 use mathlib.Core.Option.{Option}
 use mathlib.Core.Path.{_≡_, refl, sym, ap, _∙_}
@@ -15,7 +15,7 @@ use Rattle.run_call_model.proofs.FlatLists.{AllOf}
 module _ (G : Generator) where
   open Generator G using (Draw, Time, t0, after, adds, entry, recordBytes)
 
-  -- the bench took the first of the lent draws and used the first of the lent noise
+  -- the bench took the first of the draws and used the first of the noise
   pub record Moved (b : Bench G) (l : Remaining G) (r : Benched G) : Type 0 where
     pub tk : List Draw
     pub us : List (NoisePair G)
@@ -60,7 +60,7 @@ module _ (G : Generator) where
       (step-says G (ended G t0 (b .taken)) (length (b .used)) (timeOf G t0 (b .taken)) (l .draws) (l .noise) (l .room) (l .slots))
 
   module _ (o : G .Value) where
-    -- the machine wrote one sample for each noise pair and place in output, and one record for each slot
+    -- the machine wrote one sample for each noise pair and sample of output, and one record for each slot
     pub record Counted (l : Remaining G) (r : Ran G o) : Type 0 where
       pub draws : length (r .rest .draws) ≤ length (l .draws)
       pub noise : length (l .noise) ≡ length (r .samples) + length (r .rest .noise)

@@ -1,4 +1,4 @@
--- Flat lists, as they are lent: pairs, joins, draws cut from bytes, and buffers with something written at their start.
+-- Flat lists, as callers pass them: pairs, joins, draws cut from bytes, and buffers with something written at their start.
 use mathlib.Core.List.{List, [], _∷_, _++_, append-assoc}
 use mathlib.Core.Path.{_≡_, refl, sym, ap, _∙_}
 use Prim.Native.Nat.{ℕ, zero, suc, _+_, _-_, _*_, _/_, _≤_, _<_}
@@ -86,7 +86,7 @@ module _ {X : Type 0} where
   pub length-over : (xs buffer : List X) → length xs ≤ length buffer → length (over xs buffer) ≡ length buffer
   length-over xs buffer h = length-append xs (drop (length xs) buffer) ∙ omega (arith, length-drop (length xs) buffer)
 
--- ---- a buffer with xs written at a place
+-- ---- a buffer with xs written at an offset
 module _ {X : Type 0} where
   pub length-overwritten : (at : ℕ) (xs buffer : List X) → at + length xs ≤ length buffer → length (overwritten at xs buffer) ≡ length buffer
   length-overwritten at xs buffer h =

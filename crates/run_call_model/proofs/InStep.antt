@@ -115,7 +115,7 @@ module _ (G : Generator) (L : Laws G) (o : G .Value) where
           ∙ h .holds n le lt
           ∙ sym (hit-before G (sumAt G (replies G t0 (b .taken)) n) (replyOf G t d x) n (omega arith))
 
-  -- what the loop comes to, from a bench b
+  -- what the loop yields, from a bench b
   pub record Kept (b : Bench G) (rb : Benched G) (rz : Ran G o) : Type 0 where
     pub rest : rz .rest ≡ rb .rest
     pub stop : rz .stop ≡ rb .stop

@@ -16,7 +16,7 @@ module _ (G : Generator) (L : Laws G) where
   abbrev pub StandsFor : Option Time → Time → Type 0
   StandsFor p m = m ≡ latestOrFirst G p
 
-  -- both tell alike whether a time jumps back
+  -- both say alike whether a time jumps back
   test-alike : (p : Option Time) (t : Time) → L .Good t → jumpsBack G (some (latestOrFirst G p)) t ≡ jumpsBack G p t
   test-alike none t g = L .first-time t g
   test-alike (some m) t g = refl

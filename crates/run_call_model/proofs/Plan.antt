@@ -1,5 +1,5 @@
--- What the code chooses to do at each turn: a stop, so many samples at once, or a draw. `plan-right`: doing so leaves what the rest of the call comes to;
--- `plan-says`: what a plan tells of the buffers, so that the code may do it.
+-- What the code chooses to do at each step: a stop, n samples at once, or a draw. `plan-right`: doing so leaves what the rest of the call yields;
+-- `plan-says`: what a plan says of the buffers, so that the code may do it.
 use mathlib.Core.Bool.{Bool, true, false, cond}
 use mathlib.Core.List.{List}
 use mathlib.Core.Path.{_≡_, refl}
@@ -64,7 +64,7 @@ module _ (G : Generator) (o : G .Value) (noise : List (G .Value)) where
       plan G (t .state .over) (t .state .written) (length (t .rest)) (nextTime G o noise t) (nextKind G o noise t)
       (length (t .output) - 2 * t .samples) (length noise - 2 * t .samples) (length (t .records) - recordBytes * t .lines)
 
-  -- ---- what a plan tells
+  -- ---- what a plan says
   pub record Written (t : Progress G o) (n : ℕ) (m : Time) : Type 0 where
     pub some : 0 < n
     pub output-fits : 2 * (t .samples + n) ≤ length (t .output)
@@ -185,7 +185,7 @@ module _ (G : Generator) (o : G .Value) (noise : List (G .Value)) where
         go false e = drawn e (ltb (length (t .rest)) drawBytes) refl
 
     -- ---- doing it
-    -- the turn after a plan that is no stop, and what the call comes to after any
+    -- the progress after a plan that is no stop, and what the call yields after any
     abbrev pub afterPlan : Progress G o → Plan Time → Ended G o
     afterPlan t (stopAt s) = stopped G o t s
     afterPlan t (drainMany n) = restOf G o noise (progressWithSamples G o noise t n (t .state .mark))
@@ -208,6 +208,6 @@ module _ (G : Generator) (o : G .Value) (noise : List (G .Value)) where
           step-adds G o noise t (h .taken .going) draw-pos (h .taken .bytes) s (h .taken .is) (h .near) record-pos
           (line-length (nextTime G o noise t) (drawAt (t .rest)) s (length (adds (nextTime G o noise t) (drawAt (t .rest)) s))) (h .fits)
 
-      -- the plan is right: what the rest of the call comes to is what doing it and going on comes to
+      -- the plan is right: what the rest of the call yields is what doing it and going on yields
       pub plan-right : (t : Progress G o) → Within G o noise t → restOf G o noise t ≡ afterPlan t (planOf t)
       plan-right t w = by-says t (planOf t) (plan-says t w)

@@ -1,4 +1,4 @@
--- A call turn by turn, as the code goes: each turn of the code's loop leaves `restOf`, what the rest of the call comes to, as it is. No law of the generator is used but the length of a record.
+-- A call step by step, as the code goes: each step of the code's loop leaves `restOf`, what the rest of the call yields, as it is. No law of the generator is used but the length of a record.
 use mathlib.Core.Bool.{Bool, true, false, cond}
 use mathlib.Core.List.{List, [], _∷_, _++_}
 use mathlib.Core.Option.{none}
@@ -135,7 +135,7 @@ module _ (G : Generator) (o : G .Value) where
     abbrev pub nextSamples : Progress G o → ℕ → List (Sample G)
     nextSamples t n = written G o (t .state .memory) (t .state .written) (nextNoise t n)
 
-    -- the turn after n samples, m being the latest time
+    -- the progress after n samples, m being the latest time
     abbrev pub progressWithSamples : Progress G o → ℕ → Time → Progress G o
     progressWithSamples t n m = record {
       state = stateAfterSamples G o (t .state) n m;
@@ -211,7 +211,7 @@ module _ (G : Generator) (o : G .Value) where
       step-writes m d = ap (λ (r : Ran G o). finish G o noise t r) (steps-written m d) ∙ finish-samples-written m (allSteps G o (stateAfterSamples G o (t .state) n m) (leftOf G o noise (progressWithSamples t n m)))
 
     -- ---- draws
-    -- the turn after the next draw is taken, with its bytes behind and lines records more
+    -- the progress after the next draw is taken, with its bytes behind and lines records more
     abbrev pub progressWithDraw : Progress G o → Kind → ℕ → List Byte → Progress G o
     progressWithDraw t k lines records = record {
       state = stateAfterDraw G o (t .state) (drawAt (t .rest)) k;
@@ -339,7 +339,7 @@ module _ (G : Generator) (o : G .Value) where
   abbrev pub endResult : Ended G o → Result G
   endResult e = record { answer = answerOf e; output = e .output; records = e .records }
 
-  -- a call that is not refused comes to what the turns from its first on come to
+  -- a call that is not refused yields what the steps from its first on yield
   module _ (z : State G o) (c : Call G) where
     abbrev l : Remaining G
     l = remainingOf G c

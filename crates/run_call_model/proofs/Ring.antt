@@ -1,4 +1,4 @@
--- Working memory as a ring: reads after writes, places of samples less than a window apart differ, and what adding a reply does to each.
+-- Working memory as a ring: reads after writes, slots of samples less than a window apart differ, and what adding a reply does to each.
 use mathlib.Core.List.{List, [], _∷_}
 use mathlib.Core.Logic.{_≢_}
 use mathlib.Core.Path.{_≡_, refl, sym, ap, _∙_, subst}

@@ -1,4 +1,4 @@
--- Working memory as flat numbers: a reply added place by place, and a stretch that does not wrap: what samples written from it are, and what is left of it.
+-- Working memory as flat numbers: a reply added slot by slot, and a stretch that does not wrap: what samples written from it are, and what is left of it.
 -- A tight loop over numbers can state its contract by `mixed` and `replicate`.
 use mathlib.Core.Bool.{Bool, true, false, cond}
 use mathlib.Core.List.{List, [], _∷_, _++_, append-assoc}
@@ -19,7 +19,7 @@ use Rattle.run_call_model.proofs.FlatLists.{overwritten-snoc, overwritt
 use Rattle.run_call_model.proofs.Ring.{rd-other, length-wr}
 use Rattle.run_call_model.proofs.Batch.{written-append, cleared-add, length-cleared}
 
--- the place of the next sample, by a comparison
+-- the slot of the next sample, by a comparison
 pub next-slot : (w s : ℕ) → s % w < w → suc s % w ≡ cond (ltb (suc (s % w)) w) (suc (s % w)) 0
 next-slot w s h = suc-mod s w ∙ go (ltb (suc (s % w)) w) refl
   where
@@ -27,14 +27,14 @@ next-slot w s h = suc-mod s w ∙ go (ltb (suc (s % w)) w) refl
     go true e = mod-eq-of-lt (ltb-true (suc (s % w)) w e)
     go false e = ap (λ (n : ℕ). n % w) {x = suc (s % w)} {y = w} (omega (arith, ltb-false (suc (s % w)) w e)) ∙ mod-self w
 
--- the sample that is a window less a place further on stands at place 0
+-- the sample that is a window less a slot further on stands at slot 0
 pub slot-wraps : (w s : ℕ) → s % w < w → (s + (w - s % w)) % w ≡ 0
 slot-wraps w s h = sym (mod-add-mod s w (w - s % w)) ∙ ap (λ (n : ℕ). n % w) {x = s % w + (w - s % w)} {y = w} (omega arith) ∙ mod-self w
 
 module _ (G : Generator) (o : G .Value) where
   open Generator G using (Value, nought, plus, scaled)
 
-  -- ---- a reply added, place by place
+  -- ---- a reply added, slot by slot
   abbrev pub bump : List Value → ℕ → Value → List Value
   bump m i x = set m i (plus (getD m i o) x)
 
@@ -44,7 +44,7 @@ module _ (G : Generator) (o : G .Value) where
       ap (λ (y : Value). set (set m (2 * q) (plus (getD m (2 * q) o) (x .re))) (2 * q + 1) (plus y (x .im)))
       (sym (getD-set-other m (2 * q) (2 * q + 1) (plus (getD m (2 * q) o) (x .re)) o (omega arith)))
 
-  -- the place after q, by a comparison
+  -- the slot after q, by a comparison
   abbrev pub nextSlot : ℕ → ℕ
   nextSlot q = cond (ltb (suc q) (window G o)) (suc q) 0
 
@@ -59,7 +59,7 @@ module _ (G : Generator) (o : G .Value) where
       ∙ put-from xs (bump (bump m (2 * (s % window G o)) (x .re)) (2 * (s % window G o) + 1) (x .im)) (suc s) pos
       ∙ ap (λ (q : ℕ). putFrom (bump (bump m (2 * (s % window G o)) (x .re)) (2 * (s % window G o) + 1) (x .im)) q xs) (next-slot (window G o) s (mod-lt s pos))
 
-  -- ---- by place
+  -- ---- by slot
   reads : List Value → ℕ → List (NoisePair G) → List (Sample G)
   reads m p [] = []
   reads m p (v ∷ vs) = noisy G (rd G o m p) v ∷ reads m (suc p) vs
@@ -71,7 +71,7 @@ module _ (G : Generator) (o : G .Value) where
       ap (λ (x : Sample G). noisy G x v ∷ reads (wr G o m p a) (suc q) vs) (rd-other G o m p q a (λ e. omega arith))
       ∙ ap (λ (l : List (Sample G)). noisy G (rd G o m q) v ∷ l) (reads-wr vs m p (suc q) a (omega arith))
 
-  -- the next place of a stretch
+  -- the next slot of a stretch
   step-slot : (w p : ℕ) → w % window G o ≡ p → suc p < window G o → suc w % window G o ≡ suc p
   step-slot w p e h = suc-mod w (window G o) ∙ ap (λ (n : ℕ). suc n % window G o) e ∙ mod-eq-of-lt h
 
@@ -215,7 +215,7 @@ module _ (G : Generator) (o : G .Value) where
   mixed-snoc zero (x ∷ y ∷ xs) (v ∷ vs) h k = refl
   mixed-snoc (suc i) (x ∷ xs) (v ∷ vs) h k = ap (λ (l : List Value). plus x (scaled v) ∷ l) (mixed-snoc i xs vs (omega arith) (omega arith))
 
-  -- after i numbers of a stretch from place p on, output laid from `at` on and memory blanked: the next number goes to output, and its place in memory is blanked
+  -- after i numbers of a stretch from slot p on, output overwritten from `at` on and memory blanked: the next number goes to output, and its slot in memory is blanked
   module _ (m noise output : List Value) (p from at i : ℕ) (in-memory : p + i < length m) (in-noise : from + i < length noise) (in-output : at + i < length output) where
     pub stretch-output : set (overwritten at (mixed G o (drop p m) (take i (drop from noise))) output) (at + i) (plus (getD (overwritten p (replicate i nought) m) (p + i) o) (scaled (getD noise (from + i) o)))
         ≡ overwritten at (mixed G o (drop p m) (take (suc i) (drop from noise))) output
@@ -238,7 +238,7 @@ module _ (G : Generator) (o : G .Value) where
     pub stretch-memory : set (overwritten p (replicate i nought) m) (p + i) nought ≡ overwritten p (replicate (suc i) nought) m
     stretch-memory = overwritten-snoc p i (replicate i nought) m nought (length-replicate i nought) in-memory ∙ ap (λ (l : List Value). overwritten p l m) (replicate-snoc i nought)
 
-  -- memory after a stretch, as laid
+  -- memory after a stretch, as overwritten
   pub cleared-overwritten : (k j : ℕ) (m : List Value) (w : ℕ) → (w + k) % window G o + j ≤ window G o → length m ≡ 2 * window G o
       → cleared G o m w (k + j) ≡ overwritten (2 * ((w + k) % window G o)) (replicate (2 * j) nought) (cleared G o m w k)
   cleared-overwritten k j m w fits f =

@@ -7,7 +7,7 @@ use Rattle.run_call_model.specs.Machine.{window, rd, wr}
 module _ (G : Generator) (o : G .Value) where
   open Generator G using (Value, plus, scaled)
 
-  -- the samples written from memory m on, the next being sample w; and the memory after n of them, with their places cleared
+  -- the samples written from memory m on, the next being sample w; and the memory after n of them, with their slots cleared
   abbrev pub written : List Value → ℕ → List (NoisePair G) → List (Sample G)
   written m w [] = []
   written m w (v ∷ vs) = noisy G (rd G o m (w % window G o)) v ∷ written (wr G o m (w % window G o) (silence G)) (suc w) vs

@@ -1,5 +1,5 @@
 -- A model of the code, and not the specification's words: a run call on working memory of limit + hold samples as a flat list used as a ring, a count of samples written, the time, the end and the latest time.
--- From an opened run it comes to the plain bench (run_call_model/proofs/Demand3); it is defined on any state. Its fuel is enough (run_call_model/proofs/EnoughFuel, `machine-enough`).
+-- From an opened run it is the plain bench's (run_call_model/proofs/Demand3); it is defined on any state. Its fuel is enough (run_call_model/proofs/EnoughFuel, `machine-enough`).
 use mathlib.Core.Bool.{Bool, true, false, cond}
 use mathlib.Core.List.{List, [], _∷_}
 use mathlib.Core.Option.{Option, none, some}
@@ -27,7 +27,7 @@ module _ (G : Generator) (o : G .Value) where
   abbrev pub blank : List Value
   blank = replicate (2 * window) nought
 
-  -- the sample at a place
+  -- the sample at a slot
   abbrev pub rd : List Value → ℕ → Sample G
   rd m i = record { re = getD m (2 * i) o; im = getD m (2 * i + 1) o }
 
@@ -115,6 +115,6 @@ module _ (G : Generator) (o : G .Value) where
   machineAfter z [] = z
   machineAfter z (c ∷ cs) = machineAfter (machineRun z c .1) cs
 
-  -- what each call of a list comes to, from what opening left
+  -- what each call of a list yields, from what opening left
   abbrev pub runs : List (Call G) → List (Result G)
   runs cs = machineResults opened cs

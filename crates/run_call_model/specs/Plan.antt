@@ -1,4 +1,4 @@
--- A model of the code, and not the specification's words: what it chooses to do at each turn, a stop, so many samples at once, or a draw.
+-- A model of the code, and not the specification's words: what it chooses to do at each step, a stop, n samples at once, or a draw.
 use mathlib.Core.Bool.{Bool, true, false, cond}
 use Prim.Native.Nat.{ℕ, _-_, _/_, min}
 use lib.Dec.{eqb, leb, ltb}
@@ -33,7 +33,7 @@ module _ (G : Generator) where
   abbrev pub planEnded : ℕ → ℕ → ℕ → Plan Time
   planEnded written room noise = cond (leb total written) (stopAt done) (someOr drainMany (batch (total - written) room noise) room)
 
-  -- a reply by whose start so many samples are due
+  -- a reply by whose start n samples are due
   abbrev pub planReply : ℕ → Time → ℕ → ℕ → ℕ → ℕ → Plan Time
   planReply n time s room noise bytes =
       cond (ltb 0 n) (someOr (λ k. dueMany k time) (batch n room noise) room) (cond (ltb bytes recordBytes) (stopAt recordsFull) (addReply time s))

@@ -1,4 +1,4 @@
--- A model of the code, and not the specification's words: a call on flat buffers, turn by turn. `restOf t` is what the rest of a call comes to from a turn t on.
+-- A model of the code, and not the specification's words: a call on flat buffers, step by step. `restOf t` is what the rest of a call yields from progress t on.
 -- The buffers stay whole; the counts say where the next numbers go.
 use mathlib.Core.List.{List}
 use Prim.Native.Nat.{ℕ, suc, _+_, _-_, _*_, _/_, _≤_}
@@ -45,11 +45,11 @@ module _ (G : Generator) (o : G .Value) where
   stopped t s = record { state = t .state; taken = t .taken; samples = t .samples; lines = t .lines; output = t .output; records = t .records; stop = s }
 
   module _ (noise : List Value) where
-    -- what is left of what is lent
+    -- what is left of the buffers
     abbrev pub leftOf : Progress → Remaining G
     leftOf t = remainingWith (drawsOf G (t .rest)) (pairs (drop (2 * t .samples) noise)) (length (t .output) / 2 - t .samples) (length (t .records) / recordBytes - t .lines)
 
-    -- a turn and then what steps on what is left come to
+    -- progress and then what steps on what is left yield
     abbrev pub finish : Progress → Ran G o → Ended
     finish t r = record {
       state = r .state;
@@ -61,16 +61,16 @@ module _ (G : Generator) (o : G .Value) where
       stop = r .stop;
     }
 
-    -- what the rest of a call comes to
+    -- what the rest of a call yields
     unfoldable pub restOf : Progress → Ended
     restOf t = finish t (allSteps (t .state) (leftOf t))
 
-    -- the counts lie within what is lent
+    -- the counts lie within the buffers
     pub record Within (t : Progress) : Type 0 where
       pub output-in : 2 * t .samples ≤ length (t .output)
       pub noise-in : 2 * t .samples ≤ length noise
       pub records-in : recordBytes * t .lines ≤ length (t .records)
 
-    -- a bound on the turns that are left, since each takes a draw or fills output. It is enough (run_call_model/proofs/Batched, `batched-steps-are`).
+    -- a bound on the steps that are left, since each takes a draw or fills output. It is enough (run_call_model/proofs/Batched, `batched-steps-are`).
     abbrev pub stepFuel : Progress → ℕ
     stepFuel t = suc (length (t .rest) / drawBytes + (length (t .output) / 2 - t .samples))

@@ -1,4 +1,4 @@
--- The test of what is lent, from facts and to facts.
+-- The test of the buffers, from facts and to facts.
 use mathlib.Core.Bool.{Bool, true, false, _&&_, false≢true}
 use mathlib.Core.List.{List}
 use mathlib.Core.Path.{_≡_, refl, sym, ap, _∙_}
@@ -37,7 +37,7 @@ fits-not memory noise output k n no-fit = go (fitsOf memory noise output k n) re
     go true e = absurd (no-fit (fits-for memory noise output k n e))
     go false e = refl
 
--- what is lent after both cases
+-- the buffers after both cases
 pub unchanged : (noise : List Float) (w k n : ℕ) (l : DueBuffers) → false ≡ fitsOf (length (l .memory)) (length noise) (length (l .output)) k n → l ≡ dueOf noise w k n l
 unfolding dueOf
 unchanged noise w k n l e = rw (sym e)

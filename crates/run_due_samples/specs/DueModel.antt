@@ -12,7 +12,7 @@ use Rattle.run_call_model.specs.Batch.{written, cleared, mixed}
 use Rattle.constants.specs.Rate.{four, workingMemory}
 use Rattle.run_theory.specs.FloatGenerator.{noDraws, generator}
 
--- a generator without draws: samples that are due do not turn on them
+-- a generator without draws: samples that are due do not depend on them
 abbrev pub gen : Generator
 gen = generator noDraws four 0
 

@@ -1,4 +1,4 @@
-// Samples that are due, written at once from working memory: the memory's numbers with their noise go to output, and their places are cleared.
+// Samples that are due, written at once from working memory: the memory's numbers with their noise go to output, and their slots are cleared.
 ghost use mathlib.Core.Path.{_≡_};
 ghost use Prim.Native.Nat.{_+_, _*_, _/_, _%_, _≤_, _<_, min};
 ghost use lib.ListN.{length, drop, take};
@@ -64,7 +64,7 @@ fn least(a: usize, b: usize) -> usize
     if a < b { a } else { b }
 }
 
-// The place of a sample in the memory.
+// The slot of a sample in the memory.
 fn ring(n: u64) -> usize
     ensures { λ r. ⌜ r ≡ n % 1126 ⌝ }
 {
@@ -94,7 +94,7 @@ fn write_all(
     }
 }
 
-// Memory has its length, and noise and output hold so many samples and n more.
+// Memory has its length, and noise and output hold k samples and n more.
 fn fits(memory: usize, noise: usize, output: usize, samples: usize, n: usize) -> bool
     ensures { λ r. ⌜ r ≡ fitsOf memory noise output samples n ⌝ }
 {
@@ -111,7 +111,7 @@ fn fits(memory: usize, noise: usize, output: usize, samples: usize, n: usize) ->
     true
 }
 
-// Writes n samples that are due, after so many of the call. Where what is lent does not hold them, nothing is changed.
+// Writes n samples that are due, after k samples of the call. Where the buffers do not hold them, nothing is changed.
 pub fn write_due(
     memory: &mut [f32],
     noise: &[f32],

@@ -1,4 +1,4 @@
--- The message of a draw in range is in range, by filters in range (`message-in-range`). So every number that a draw comes to is what `NeverNan` of `message_config` says (`draw-finite`, `reply-finite`).
+-- The message of a draw in range is in range, by filters in range (`message-in-range`). So every number that follows from a draw is what `NeverNan` of `message_config` says (`draw-finite`, `reply-finite`).
 use Prim.Native.Nat.{ℕ, _^_, _<_}
 use mathlib.Core.Path.{_≡_}
 use lib.Dec.{lit≤}

@@ -1,4 +1,4 @@
--- A draw that bytes can hold is its fields: two with the same fields are the same (`same-draw`), so asking that the numbers are values of their formats tells no more draws apart.
+-- A draw that bytes can hold is its fields: two with the same fields are the same (`same-draw`), so asking that the numbers are values of their formats distinguishes no more draws.
 use mathlib.Core.Path.{_≡_, ap, subst}
 use lib.Dec.{T, T-prop}
 use lib.Ieee.{binary32, binary64, fits}

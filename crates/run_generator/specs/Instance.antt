@@ -58,6 +58,6 @@ draws f = record {
   drawAt = λ s. record { draw = drawAt s; held = read-held s };
 }
 
--- the generator of a run of so many samples
+-- the generator of a run of n samples
 abbrev pub instanceOf : Filters → ℕ → Generator
 instanceOf f total = generator (draws f) four total

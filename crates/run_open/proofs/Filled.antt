@@ -1,4 +1,4 @@
--- What opening fills: an opened run's prototypes and working memory; a refusal leaves what was lent.
+-- What opening fills: an opened run's prototypes and working memory; a refusal leaves the buffers.
 use Prim.Native.Nat.{ℕ}
 use mathlib.Core.Path.{_≡_, refl, sym, ap, _∙_}
 use mathlib.Core.Bool.{Bool, cond}
@@ -18,7 +18,7 @@ use Rattle.run_open_checks.specs.Opening.{OpenBuffers, openedOf, preparedOf, is
 use Rattle.run_open_checks.proofs.Decided.{run-fits}
 
 module _ (level : Float) (tapsS tapsAC : List Float) where
-  -- an opened run fills what was lent, a refusal leaves it
+  -- an opened run fills the buffers, a refusal leaves them
   module _ (bytes : List ℕ) (l : OpenBuffers) (modeS modeAC memory p q : List Float) (f : p ≡ modeSPrototype four tapsS) (g : q ≡ modeACPrototype four tapsAC) where
     pub filled : (b : Bool) (o : Opened) → o ≡ openedOf four level tapsS tapsAC bytes l → b ≡ isRun o
         → modeS ≡ cond b (over p (l .modeS)) (l .modeS) → modeAC ≡ cond b (over q (l .modeAC)) (l .modeAC) → memory ≡ cond b (zeros (length (l .memory))) (l .memory)

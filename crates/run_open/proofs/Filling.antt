@@ -1,4 +1,4 @@
--- Loops that write a list over another and that clear one: the first part is as it is to be, one place more each turn.
+-- Loops that write a list over another and that clear one: the first part is as it is to be, one value more each step.
 use Prim.Native.Nat.{ℕ, suc, _+_, _<_, _≤_, min}
 use mathlib.Core.Path.{_≡_, sym, ap, _∙_}
 use mathlib.Core.List.{List, _∷_, [], _++_, append-nil}
@@ -12,7 +12,7 @@ use Rattle.run_theory.specs.FloatGenerator.{nought}
 use Rattle.run_theory.specs.Zeros.{zeros}
 use Rattle.run_open.specs.FillModel.{over}
 
--- one turn of a copy, and what it comes to
+-- one step of a copy, and what it yields
 pub copy-next : (from to whole : List Float) (k : ℕ) (d : Float) → k < length from → k < length whole → to ≡ take k from ++ drop k whole → set to k (getD from k d) ≡ take (k + 1) from ++ drop (k + 1) whole
 copy-next from to whole k d h g e =
     ap (λ (l : List Float). set l k (getD from k d)) e

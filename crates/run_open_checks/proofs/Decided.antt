@@ -68,7 +68,7 @@ module _ (sps : ℕ) (level : Float) (prototype : List Float) where
   unfolding modeACDelay
   mode-ac-none e = rw e
 
--- a run is told from a refusal
+-- a run is distinguished from a refusal
 pub a-run : (r : Opened) (s : State) → r ≡ Run s → true ≡ isRun r
 unfolding isRun
 a-run r s e = sym (ap isRun e)
@@ -146,7 +146,7 @@ module _ (level : Float) (tapsS tapsAC : List Float) where
       pub settings-given : {r : Opened} (total : ℕ) (all : Distributions) → x ≡ Checked.the-variants.Accepted total all → r ≡ tapsOf four level tapsS tapsAC (s .rates) total all → r ≡ openedFor four level tapsS tapsAC bytes modeS modeAC memory
       settings-given total all e k = k ∙ settings-pass total all e
 
-    -- a run is opened only where what is lent fits
+    -- a run is opened only where the buffers fit
     pub run-fits : (o : Opened) → o ≡ openedFor four level tapsS tapsAC bytes modeS modeAC memory → isRun o ≡ true → Fits (length bytes) modeS modeAC memory
     unfolding isRun
     run-fits o e t = fits-for (length bytes) modeS modeAC memory (go (buffersFit four (length bytes) modeS modeAC memory) refl)

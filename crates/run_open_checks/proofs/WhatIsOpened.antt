@@ -1,4 +1,4 @@
--- What an opened run tells, beside that no refusal has a cause (`FirstCause`): its delays and distributions are in range and it has at most 2^52 samples (`opened-in-range`); and it stands where the theory of lists of calls begins (`opened-first`).
+-- What an opened run gives, beside that no refusal has a cause (`FirstCause`): its delays and distributions are in range and it has at most 2^52 samples (`opened-in-range`); and it stands where the theory of lists of calls begins (`opened-first`).
 use Prim.Native.Nat.{ℕ, _^_, _≤_}
 use mathlib.Core.Path.{_≡_, refl, sym, subst}
 use mathlib.Core.Bool.{true}
@@ -28,7 +28,7 @@ use Rattle.run_open_checks.specs.FirstCause.{Answered, refused-9, refuse
 use Rattle.run_open_checks.proofs.FirstCause.{answered, within-16}
 
 module _ (level : Float) (tapsS tapsAC : List Float) (bytes : List ℕ) (l : OpenBuffers) where
-  -- what a run's range turns on, and that its state is the first one
+  -- what a run's range depends on, and that its state is the first one
   pub record Accepts (state : State) : Type 0 where
     pub total : ℕ
     pub all : Distributions

@@ -20,7 +20,7 @@ use Rattle.run_open_checks.specs.declared.Opened.{Opened}
 use Rattle.run_open_checks.specs.declared.Opened.the-variants.{Run, Refused}
 use Rattle.run_open_checks.specs.Opening.{OpenBuffers, firstState}
 
--- the lengths of what opening is lent
+-- the lengths of opening's buffers
 pub record Fits (settings modeS modeAC memory : ℕ) : Type 0 where
   pub settings-is : settings ≡ settingsLength
   pub mode-s-is : modeS ≡ 1792

@@ -23,7 +23,7 @@ use Rattle.settings.specs.Accepted.{acceptedOf}
 use Rattle.run_open_checks.specs.declared.Opened as Opened
 use Rattle.run_open_checks.specs.declared.Prepared.{Prepared}
 
--- what opening is lent to write: the two prototypes and working memory
+-- the buffers that opening writes: the two prototypes and working memory
 pub record OpenBuffers : Type 0 where
   pub modeS : List Float
   pub modeAC : List Float
@@ -81,7 +81,7 @@ module _ (sps : ℕ) (level : Float) (tapsS tapsAC : List Float) where
   settingsThen rates (Checked.the-variants.Accepted total all) = tapsOf rates total all
   settingsThen rates (Checked.the-variants.Refused refusal) = Opened.the-variants.Refused refusal
 
-  -- what opening answers, lent prototypes and working memory of these lengths: refusal 9, "working memory not 2,252 f32, a prototype not 1,792 f32", and settings of another length than 119 bytes, before any of them is read (docs/DECISIONS.md); then the others
+  -- what opening answers, given prototypes and working memory of these lengths: refusal 9, "working memory not 2,252 f32, a prototype not 1,792 f32", and settings of another length than 119 bytes, before any of them is read (docs/DECISIONS.md); then the others
   unfoldable pub openedFor : List ℕ → ℕ → ℕ → ℕ → Opened.Opened
   openedFor bytes modeS modeAC memory =
       cond (buffersFit sps (length bytes) modeS modeAC memory) (settingsThen (settingsOf bytes .rates) (acceptedOf sps (settingsOf bytes))) (Opened.the-variants.Refused Refusal.the-variants.Length)

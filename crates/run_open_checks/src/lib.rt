@@ -1,4 +1,4 @@
-// What opening a run answers: refusal 9 for the lengths of what is lent, refusals 1 to 6, or the first state; and the prototypes. It writes nothing: `run_open` does.
+// What opening a run answers: refusal 9 for the lengths of the buffers, refusals 1 to 6, or the first state; and the prototypes. It writes nothing: `run_open` does.
 ghost use mathlib.Core.Path.{_≡_};
 ghost use Rattle.constants.specs.Rate.{four};
 ghost use Rattle.pulse_shape.specs.Prototype.{modeSPrototype, modeACPrototype};
@@ -163,7 +163,7 @@ fn check_open(
     }
 }
 
-// What opening answers, lent prototypes and working memory of these lengths, and the prototypes that a run is opened with: refusal 9, then 1 to 6, or the state. The prototypes cross 0.5.
+// What opening answers, given prototypes and working memory of these lengths, and the prototypes that a run is opened with: refusal 9, then 1 to 6, or the state. The prototypes cross 0.5.
 pub fn prepare(
     settings: &[u8],
     taps_s: &[f32],

@@ -1,4 +1,4 @@
--- The turn that `after_samples` and `after_draw` make of their sums, and that `after_step` makes by its plan.
+-- The progress that `after_samples` and `after_draw` make of their sums, and that `after_step` makes by its plan.
 use mathlib.Core.Path.{_≡_, sym, ap, _∙_}
 use mathlib.Core.Bool.{Bool}
 use Prim.Native.Nat.{ℕ, _+_, _%_, _^_}

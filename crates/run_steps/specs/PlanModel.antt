@@ -1,4 +1,4 @@
--- What comes next in a run call, read as the mirror of the code in `run_theory` has it.
+-- What comes next in a run call, read as the model in `run_call_model` has it.
 use Prim.Native.Nat.{ℕ}
 use mathlib.Core.Bool.{Bool, true, false}
 use lib.IntN.{ℤ, pos, negsuc}
@@ -15,7 +15,7 @@ use Rattle.message_config.specs.Config.{configStart}
 use Rattle.run_steps.specs.declared.Stop as Stop
 use Rattle.run_steps.specs.declared.Plan as Plan
 
--- a run of so many samples, without draws: what is due does not turn on them
+-- a run of n samples, without draws: what is due does not depend on them
 abbrev pub counted : ℕ → Generator
 counted total = generator noDraws four total
 

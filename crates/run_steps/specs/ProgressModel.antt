@@ -1,4 +1,4 @@
--- The turn of a run call after its plan was carried out. Counts are modulo 2^64, which no call reaches.
+-- The progress of a run call after its plan was carried out. Counts are modulo 2^64, which no call reaches.
 use Prim.Native.Nat.{ℕ, _+_, _%_, _^_}
 use mathlib.Core.Bool.{Bool, true, cond}
 use lib.Ieee.{Float, lt}
@@ -7,7 +7,7 @@ use Rattle.run_steps.specs.declared.Plan as Plan
 use Rattle.run_steps.specs.declared.Progress.{Progress}
 use Rattle.run_steps.specs.declared.LastStep as LastStep
 
--- the turn after n samples, after a draw with so many records more, and at a stop
+-- the progress after n samples, after a draw with n records more, and at a stop
 unfoldable pub progressAfterSamples : Progress → ℕ → Float → Progress
 progressAfterSamples t n latest =
     record { written = (t .written + n) % 2 ^ 64; time = t .time; latest = latest; ended = t .ended; taken = t .taken; samples = (t .samples + n) % 2 ^ 64; records = t .records; last = LastStep.the-variants.SamplesWritten }

@@ -24,7 +24,7 @@ pub enum Stop {
     RecordsFull,
 }
 
-// What comes next: a stop; so many samples after the end draw, or by the start of the next draw, at its time; or a draw at its time, ignored, ending the run, or a reply from its start on.
+// What comes next: a stop; n samples after the end draw, or by the start of the next draw, at its time; or a draw at its time, ignored, ending the run, or a reply from its start on.
 pub enum Plan {
     Halt(Stop),
     Drain(usize),
@@ -157,7 +157,7 @@ fn classify(
     reply(written, time, first, room, noise, bytes)
 }
 
-// What comes next, given the message of the next draw and how much is left of what is lent: the draw bytes, the numbers of output and noise, and the bytes for records.
+// What comes next, given the message of the next draw and how much is left of the buffers: the draw bytes, the numbers of output and noise, and the bytes for records.
 pub fn choose(
     ended: bool,
     written: u64,
@@ -200,7 +200,7 @@ pub enum LastStep {
     StopReached(Stop),
 }
 
-// The turn after so many samples, with the latest time after them.
+// The progress after n samples, with the latest time after them.
 fn after_samples(t: Progress, n: usize, latest: f64) -> Progress
     ensures { λ r. ⌜ r ≡ progressAfterSamples t n latest ⌝ }
 {
@@ -225,7 +225,7 @@ fn later(a: f64, b: f64) -> f64
     a
 }
 
-// The turn after a draw was taken at its time, with so many records more.
+// The progress after a draw was taken at its time, with n records more.
 fn after_draw(t: Progress, time: f64, ended: bool, lines: usize) -> Progress
     ensures { λ r. ⌜ r ≡ progressAfterDraw t time ended lines ⌝ }
 {
@@ -256,7 +256,7 @@ fn after_stop(t: Progress, w: Stop) -> Progress
     }
 }
 
-// The turn after a plan was carried out.
+// The progress after a plan was carried out.
 pub fn after_step(t: Progress, p: Plan) -> Progress
     ensures { λ r. ⌜ r ≡ progressAfterStep t p ⌝ }
 {

@@ -1,4 +1,4 @@
--- Refusals 9, 7 and 8 of a run call are each given for their cause only, and for the first cause in the order of SPECIFICATION 3.2: what `run` answers, on any state and lent anything,
+-- Refusals 9, 7 and 8 of a run call are each given for their cause only, and for the first cause in the order of SPECIFICATION 3.2: what `run` answers, on any state and with any buffers,
 -- is what `Answered` allows (`answered`), and where a refusal has its cause, it is that refusal (`only`).
 use mathlib.Core.Bool.{Bool, true, false, cond, _||_}
 use mathlib.Core.List.{List}

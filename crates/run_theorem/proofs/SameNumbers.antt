@@ -1,4 +1,4 @@
--- A refusal of the plain bench, as the code answers it, has the number and values of SPECIFICATION 3.1, and a stop its number: the tables of the two agree (`same-numbers`, `same-stops`). So the code's words in `Seen` tell what the bench tells.
+-- A refusal of the plain bench, as the code answers it, has the number and values of SPECIFICATION 3.1, and a stop its number: the tables of the two agree (`same-numbers`, `same-stops`). So the code's words in `Seen` say what the bench says.
 use mathlib.Core.Path.{_≡_, refl}
 use mathlib.Core.List.{_∷_}
 use Rattle.run_theory.specs.PlainBench as Bench

@@ -56,7 +56,7 @@ module _ (G : Generator) where
   reachesDone [] = false
   reachesDone (r ∷ rs) = doneIn (r .answer) || reachesDone rs
 
-  -- the draws taken and the noise values used, joined in order: of those lent, what the answers count
+  -- the draws taken and the noise values used, joined in order: of what was passed, what the answers count
   abbrev pub allTaken : List (Call G) → List (Result G) → List Draw
   allTaken [] rs = []
   allTaken (c ∷ cs) [] = []

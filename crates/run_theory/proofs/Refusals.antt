@@ -89,7 +89,7 @@ module _ (G : Generator) where
       go true p q ih = let z : _≡_ {A = ℕ} 0 1 = cc in absurd (omega arith)
       go false p q ih = (p, ih q)
 
-  -- ---- lent draws, with the jump back
+  -- ---- draws, with the jump back
   -- draws that are not refused are in range and do not jump back, and conversely
   pub accepted-draws : (t : Time) (m : Option Time) (ds : List Draw) → drawRefusal G t m ds ≡ none → Accepted G t m ds
   accepted-draws t m [] e = record { in-range = tt; no-jump = tt }

@@ -1,4 +1,4 @@
--- What the five steps come to says of the call and the state.
+-- What the five steps yield says of the call and the state.
 use mathlib.Core.Bool.{Bool, true, false, cond}
 use mathlib.Core.List.{List, [], _∷_}
 use mathlib.Core.Path.{_≡_, refl, ap}

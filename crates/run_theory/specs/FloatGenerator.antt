@@ -27,7 +27,7 @@ pub record Draws : Type 1 where
   pub outOfRange : Float → Bool
   pub drawAt : List ℕ → Draw
 
--- no draws, for what does not turn on them
+-- no draws, for what does not depend on them
 abbrev pub noDraws : Draws
 noDraws = record { Draw = ℕ; gap = λ d. nought; start = λ t d. negative; adds = λ t d s. []; entry = λ t d s n. []; fault = λ d. none; outOfRange = λ v. false; drawAt = λ bytes. 0 }
 

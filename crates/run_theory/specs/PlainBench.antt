@@ -19,7 +19,7 @@ stopNumber wantsNoise = 2
 stopNumber wantsDraws = 3
 stopNumber recordsFull = 4
 
--- why a run call is refused: what it was lent has a wrong length; a draw and its field; the place of a noise value
+-- why a run call is refused: a buffer has a wrong length; a draw and its field; the index of a noise value
 pub data Refusal : Type 0 where
   wrongLength : Refusal
   wrongDraw : ℕ → ℕ → Refusal
@@ -36,7 +36,7 @@ pub data Answer : Type 0 where
   refused : Refusal → Answer
   ran : ℕ → ℕ → ℕ → ℕ → Stop → Answer
 
--- ---- flat lists, as they are lent
+-- ---- flat lists, as callers pass them
 -- numbers two by two; a last one with no partner is left over
 abbrev pub pairs : {X : Type 0} → List X → List (Pair X)
 pairs [] = []
@@ -53,21 +53,21 @@ abbrev pub join : {X : Type 0} → List (List X) → List X
 join [] = []
 join (l ∷ ls) = l ++ join ls
 
--- a lent buffer after xs were written at its start: what is beyond is unchanged
+-- a buffer after xs were written at its start: what is beyond is unchanged
 abbrev pub over : {X : Type 0} → List X → List X → List X
 over xs buffer = xs ++ drop (length xs) buffer
 
 module _ (G : Generator) where
   open Generator G using (Value, Byte, Draw, Time, t0, after, before, fault, outOfRange, drawBytes, recordBytes, drawAt, hold, total)
 
-  -- what a run call is lent, beside what opening was lent: draw bytes, noise values, output and record bytes
+  -- the buffers of a run call, beside those of opening: draw bytes, noise values, output and record bytes
   pub record Call : Type 0 where
     pub draws : List Byte
     pub noise : List Value
     pub output : List Value
     pub records : List Byte
 
-  -- what a run call comes to: its answer, and the two buffers after it
+  -- what a run call yields: its answer, and the two buffers after it
   pub record Result : Type 0 where
     pub answer : Answer
     pub output : List Value
@@ -100,28 +100,28 @@ module _ (G : Generator) where
   firstFault k [] = none
   firstFault k (d ∷ ds) = orElse (atDraw k (fault d)) (firstFault (suc k) ds)
 
-  -- a time is before the latest time of a lent draw by whose start a sample was written
+  -- a time is before the latest time of a draw by whose start a sample was written
   abbrev pub jumpsBack : Option Time → Time → Bool
   jumpsBack none t = false
   jumpsBack (some m) t = before t m
 
-  -- Refusal 7 of lent draws: a first one that jumps back is refused at its gap, field 0.
+  -- Refusal 7 of draws: a first one that jumps back is refused at its gap, field 0.
   abbrev pub drawRefusal : Time → Option Time → List Draw → Option Refusal
   drawRefusal t m [] = none
   drawRefusal t m (d ∷ ds) = cond (jumpsBack m (after t d)) (some (wrongDraw 0 0)) (firstFault 0 (d ∷ ds))
 
-  -- Refusal 8: the first place, from place k on, of a noise value not finite or too large.
+  -- Refusal 8: the first index, from index k on, of a noise value not finite or too large.
   abbrev pub firstOutOfRange : ℕ → List Value → Option Refusal
   firstOutOfRange k [] = none
   firstOutOfRange k (v ∷ vs) = cond (outOfRange v) (some (wrongNoise k)) (firstOutOfRange (suc k) vs)
 
-  -- A run call checks 9, then every lent draw, then every lent noise value. Of the state it reads the time of the draws taken and the latest time.
+  -- A run call checks 9, then every draw, then every noise value. Of the state it reads the time of the draws taken and the latest time.
   abbrev pub refusalOf : Time → Option Time → Call → Option Refusal
   refusalOf t m c =
       cond (wrongLengths c) (some wrongLength) (orElse (drawRefusal t m (drawsOf (c .draws))) (firstOutOfRange 0 (c .noise)))
 
   -- ---- the five steps
-  -- what is left of what is lent: draws, noise pairs, samples that output can hold, and records that the record bytes can hold
+  -- what is left of the buffers: draws, noise pairs, samples that output can hold, and records that the record bytes can hold
   pub record Remaining : Type 0 where
     pub draws : List Draw
     pub noise : List (NoisePair G)
@@ -131,7 +131,7 @@ module _ (G : Generator) where
   abbrev pub remainingOf : Call → Remaining
   remainingOf c = record { draws = drawsOf (c .draws); noise = pairs (c .noise); room = length (c .output) / 2; slots = length (c .records) / recordBytes }
 
-  -- what the steps come to: a stop; a sample written after the end draw; a sample written by the start of the next draw, with that draw's time; a draw taken.
+  -- what the steps yield: a stop; a sample written after the end draw; a sample written by the start of the next draw, with that draw's time; a draw taken.
   -- Each but the stop goes with the noise pair or draw that it uses and with what is then left.
   pub data Step : Type 0 where
     halt : Stop → Step
@@ -156,7 +156,7 @@ module _ (G : Generator) where
   step4 d ends ds vs room slots = taking d ends (record { draws = ds; noise = vs; room = room; slots = slots })
   step4 d (reply s) ds vs room slots = step5 d s ds vs room slots
 
-  -- the next lent draw does not end the run, and its start minus 32 exceeds the samples written; a negative one never does
+  -- the next draw does not end the run, and its start minus 32 exceeds the samples written; a negative one never does
   abbrev pub dueBy : ℕ → Kind → Bool
   dueBy written ignored = false
   dueBy written ends = false
@@ -175,7 +175,7 @@ module _ (G : Generator) where
 
   -- ---- the bench
   -- State of the plain bench: the draws taken, the noise used (two values for each sample written),
-  -- and the latest time of a lent draw by whose start a sample was written.
+  -- and the latest time of a draw by whose start a sample was written.
   pub record Bench : Type 0 where
     pub taken : List Draw
     pub used : List (NoisePair G)
@@ -194,7 +194,7 @@ module _ (G : Generator) where
   latestOrFirst none = t0
   latestOrFirst (some m) = m
 
-  -- what a bench comes to after the steps, what is left of what was lent, and the stop
+  -- what a bench is after the steps, what is left of the buffers, and the stop
   pub record Benched : Type 0 where
     pub bench : Bench
     pub rest : Remaining
@@ -253,7 +253,7 @@ module _ (G : Generator) where
   abbrev pub benchRun : Bench → Call → Given × Bench
   benchRun b c = benchCall b c (refusalOf (timeOf G t0 (b .taken)) (b .mark) c)
 
-  -- a list of calls: what each comes to, and the bench after all
+  -- a list of calls: what each yields, and the bench after all
   abbrev pub benchResults : Bench → List Call → List Result
   benchResults b [] = []
   benchResults b (c ∷ cs) = resultOf c (benchRun b c .0) ∷ benchResults (benchRun b c .1) cs

@@ -18,13 +18,13 @@ module _ (G : Generator) where
   FaultAt zero f (d ∷ ds) = fault d ≡ some f
   FaultAt (suc k) f (d ∷ ds) = InRange G d × FaultAt k f ds
 
-  -- the noise value at place p is the first that is not finite or too large
+  -- the noise value at index p is the first that is not finite or too large
   abbrev pub OutOfRangeAt : ℕ → List Value → Type 0
   OutOfRangeAt p [] = ⊥
   OutOfRangeAt zero (v ∷ vs) = outOfRange v ≡ true
   OutOfRangeAt (suc p) (v ∷ vs) = (outOfRange v ≡ false) × OutOfRangeAt p vs
 
-  -- the first lent draw jumps back: draw 0, field 0
+  -- the first draw jumps back: draw 0, field 0
   abbrev pub JumpAt : Time → Option Time → List Draw → ℕ → ℕ → Type 0
   JumpAt t m [] k f = ⊥
   JumpAt t m (d ∷ ds) k f = (jumpsBack G m (after t d) ≡ true) × (k ≡ 0) × (f ≡ 0)

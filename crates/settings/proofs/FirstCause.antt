@@ -100,7 +100,7 @@ module _ (sps : ℕ) (s : Settings) where
   only c (refused-4-2 {n} {o} {p} P f g e) = passes n P ∙ clock-refused sps n s o f p g e
   only c (accepted {n} {d} P f g e) = passes n P ∙ all-accepted sps n s (d .carrier) f (d .phase) g (d .clock) e
 
--- ---- what acceptance tells
+-- ---- what acceptance says
 pub accepted-passes : (sps : ℕ) (s : Settings) (n : ℕ) (d : Distributions) → acceptedOf sps s ≡ Accepted n d → NoEarlierCause sps s n
 accepted-passes sps s n d e = go (subst (Answered sps s) e (answered sps s))
   where

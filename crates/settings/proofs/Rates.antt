@@ -1,4 +1,4 @@
--- The first rate at fault: one turn of the code's search and its end, and what is found (`found`) and what finds it (`finds-none`, `finds`).
+-- The first rate at fault: one step of the code's search and its end, and what is found (`found`) and what finds it (`finds-none`, `finds`).
 use Prim.Native.Nat.{ℕ, zero, suc, _+_, _<_}
 use mathlib.Core.Path.{_≡_, refl, sym, ap, _∙_}
 use mathlib.Core.Bool.{Bool, true, false, not, cond}

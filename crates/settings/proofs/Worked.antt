@@ -30,7 +30,7 @@ minus = 0xbff0_0000_0000_0000
 abbrev pub asked : ℕ → List ℕ
 asked kind = (kind ∷ []) ++ bytesOf 8 0 ++ bytesOf 8 0
 
--- what is answered to 0 s and so many nanoseconds, six rates and a seventh, and the kinds of the three distributions
+-- what is answered to 0 s and n nanoseconds, six rates and a seventh, and the kinds of the three distributions
 abbrev pub answer : ℕ → ℕ → ℕ → ℕ → ℕ → ℕ → Checked
 answer nanoseconds rate last carrier phase clock =
     acceptedOf four

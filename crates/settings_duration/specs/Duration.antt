@@ -1,4 +1,4 @@
--- The samples of a duration, at so many samples per pulse, and what a duration answers.
+-- The samples of a duration, by the samples per pulse, and what a duration answers.
 use Prim.Native.Nat.{ℕ, _+_, _*_, _/_, _^_}
 use mathlib.Core.Bool.{Bool, true, false}
 use lib.Dec.{ltb, leb}

@@ -1,4 +1,4 @@
--- The parts that a call is lent are the rest of the draws and of the room, and what it leaves joins the records (`called`).
+-- The parts that a call is given are the rest of the draws and of the room, and what it leaves joins the records (`called`).
 use Prim.Native.Nat.{ℕ, _+_, _-_, _*_, _/_, _%_, _^_, _≤_, _<_, min}
 use mathlib.Core.Path.{_≡_, refl, sym, ap, _∙_}
 use mathlib.Core.Bool.{Bool, true, false}
@@ -18,7 +18,7 @@ use Rattle.run_call.specs.CallModel.{runLeft}
 use Rattle.tape_verdict.specs.declared.Feed.{Feed}
 use Rattle.tape_feed.specs.FeedModel.{Fed, feedAfter, fedAfter, calledOf, fedThen, fedOf}
 
--- ---- places
+-- ---- offsets
 pub inside-place : (k size len : ℕ) → 0 < size → k ≤ len / size → size * k ≤ len
 inside-place k size len h g = let p : k * size ≤ len = le-div-iff-mul-le h .0 g in omega (arith, mul-comm k size)
 
@@ -48,7 +48,7 @@ module _ {A : Type 0} where
       go true t = ap (λ (k : ℕ). take k l) {x = a} {y = n} (omega (arith, leb-true n (length l) t))
       go false t = take-all a l (omega (arith, leb-false n (length l) t)) ∙ sym (take-all n l (omega (arith, leb-false n (length l) t)))
 
-  -- a part from a place on, as the code lends it
+  -- a part from an offset on, as the code passes it
   part-from : (n a : ℕ) (l : List A) → a ≡ min n (length l) → take (length l - a) (drop a l) ≡ drop n l
   part-from n a l e = take-all (length l - a) (drop a l) (simp length-drop (omega arith)) ∙ drop-within n a l e
 

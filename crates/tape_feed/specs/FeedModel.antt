@@ -1,4 +1,4 @@
--- A run that is fed its noise chunk by chunk, as the code does it: each chunk is a run call, lent the draws that are not taken and the room behind the records written.
+-- A run that is fed its noise chunk by chunk, as the code does it: each chunk is a run call, given the draws that are not taken and the room behind the records written.
 use Prim.Native.Nat.{ℕ, _+_, _*_, _%_, _^_}
 use mathlib.Core.List.{List, _++_}
 use lib.ListN.{take, drop}
@@ -9,7 +9,7 @@ use Rattle.run_call.specs.Buffers.{Left}
 use Rattle.run_call.specs.CallModel.{runLeft}
 use Rattle.tape_verdict.specs.declared.Feed.{Feed}
 
--- a run so far, and what is lent to it for writing
+-- a run so far, and its buffers for writing
 pub record Fed : Type 0 where
   pub feed : Feed
   pub memory : List Float

@@ -34,7 +34,7 @@ fn after(f: Feed, r: Ran) -> Feed
     }
 }
 
-// One run call on a chunk of noise, lent the draws that are not taken and the room behind the records.
+// One run call on a chunk of noise, given the draws that are not taken and the room behind the records.
 fn call(
     f: Feed,
     mode_s: &[f32],

@@ -1,4 +1,4 @@
--- A row of values, one more each turn: read (`read-next`), and written (`write-next`).
+-- A row of values, one more each step: read (`read-next`), and written (`write-next`).
 use Prim.Native.Nat.{ℕ, zero, suc, _+_, _*_, _≤_, _<_}
 use mathlib.Core.Path.{_≡_, refl, sym, ap, _∙_}
 use mathlib.Core.List.{List, [], _∷_, _++_, append-assoc, append-nil}

@@ -1,4 +1,4 @@
--- A tape's beginning depends on the bytes before its noise alone (`head-of-prefix`), and the first 12,135 tell how many those are (`length-of-prefix`): reading a tape as it comes is the same as having it whole.
+-- A tape's beginning depends on the bytes before its noise alone (`head-of-prefix`), and the first 12,135 say how many those are (`length-of-prefix`): reading a tape as it comes is the same as having it whole.
 use Prim.Native.Nat.{ℕ, zero, suc, _+_, _-_, _*_, _≤_, min}
 use mathlib.Core.Path.{_≡_, refl, sym, ap, _∙_, subst}
 use mathlib.Core.Bool.{Bool, true, false, cond, _&&_}
@@ -81,7 +81,7 @@ module _ (s : List ℕ) (m : ℕ) where
         read-first (countThen (take m s) at least most size) Counted.the-variants.Wrong at h
         ∙ ap (λ (x : Counted.Counted). cond (inside 4 s at) x Counted.the-variants.Wrong) (counts (leb (leAt 4 s at) most) refl)
 
--- ---- a section's count is the number at its place
+-- ---- a section's count is the number at its offset
 module _ (tape : List ℕ) (at : ℕ) where
   IsCount : Counted.Counted → Type 0
   IsCount (Counted.the-variants.Of n) = n ≡ leAt 4 tape at
@@ -177,7 +177,7 @@ module _ (tape : List ℕ) (m : ℕ) (low : 12135 ≤ m) (high : leAt 4 tape 121
         (λ i. record { head = beginning-same i; left = leftThen four (take m tape) lent (beginning-same i) })
         ∙ (λ i. record { head = beginningOf four tape lent; left = left-same (beginningOf four tape lent) i })
 
--- ---- the length that the first bytes tell
+-- ---- the length that the first bytes say
 length-low : (q : Counted.Counted) → 12135 ≤ lengthThen four q
 unfolding lengthThen
 length-low (Counted.the-variants.Of n) = omega arith
@@ -204,7 +204,7 @@ head-of-prefix tape lent = go (leb 12135 (length tape)) refl
         let h = leb-false 12135 (length tape) e in
         ap (λ (l : List ℕ). headOf four l lent) (take-all (headLength four tape) tape (omega (arith, length-low (sectionAt tape 12131 0 400 0))))
 
--- and the first 12,135 bytes tell how many those are
+-- and the first 12,135 bytes say how many those are
 pub length-of-prefix : (tape : List ℕ) (k : ℕ) → 12135 ≤ k → headLength four (take k tape) ≡ headLength four tape
 unfolding headLength
 length-of-prefix tape k h = ap (lengthThen four) (section-first tape k 12131 0 400 0 h (λ g. omega arith))

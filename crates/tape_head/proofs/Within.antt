@@ -1,4 +1,4 @@
--- A run that a tape begins has at most 400 draws, all on the tape before the noise (`head-within`); a tape that is refused leaves what was lent (`refused-leaves`).
+-- A run that a tape begins has at most 400 draws, all on the tape before the noise (`head-within`); a tape that is refused leaves the buffers (`refused-leaves`).
 use Prim.Native.Nat.{ℕ, _+_, _*_, _≤_}
 use mathlib.Core.Path.{_≡_, refl, sym, ap, _∙_, subst}
 use mathlib.Core.Bool.{Bool, true, false, cond}

@@ -58,7 +58,7 @@ module _ (sps : ℕ) (tape : List ℕ) where
   unfoldable pub settingsBytes : List ℕ
   settingsBytes = take settingsLength (drop 4 tape)
 
-  -- opening, lent the taps of a tape
+  -- opening, given the taps of a tape
   unfoldable pub openedFrom : OpenBuffers → Opened.Opened
   openedFrom lent = openedOf sps half tapsS tapsAC settingsBytes lent
 
@@ -85,7 +85,7 @@ unfoldable pub begins : Beginning.Beginning → Bool
 begins (Beginning.the-variants.Run s n count) = true
 begins (Beginning.the-variants.Refused number) = false
 
--- a tape's beginning, and what is left in what opening is lent
+-- a tape's beginning, and what is left in the buffers of opening
 pub record Begun : Type 0 where
   pub head : Beginning.Beginning
   pub left : OpenBuffers

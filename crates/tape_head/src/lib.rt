@@ -83,7 +83,7 @@ fn read_taps(tape: &[u8]) -> [f32; TAPS_LEN]
     taps
 }
 
-// What opening answers, lent the taps of a tape and buffers of these lengths, and its prototypes.
+// What opening answers, given the taps of a tape and buffers of these lengths, and its prototypes.
 fn prepared(tape: &[u8], mode_s: usize, mode_ac: usize, memory: usize) -> Prepared
     requires { ⌜ 12131 ≤ length (now tape) ⌝ }
     ensures { λ r. ⌜ r ≡ preparedOf four half (tapsS four (now (tape .entry))) (tapsAC four (now (tape .entry))) (settingsBytes four (now (tape .entry))) «mode_s» «mode_ac» memory ⌝ }
@@ -143,7 +143,7 @@ fn is_begun(answer: Beginning) -> bool
     }
 }
 
-// A tape up to its noise. The prototypes and working memory are those that opening is lent: a run fills them, a refusal leaves them.
+// A tape up to its noise. The prototypes and working memory are those that opening is given: a run fills them, a refusal leaves them.
 pub fn head(tape: &[u8], mode_s: &mut [f32], mode_ac: &mut [f32], memory: &mut [f32]) -> Beginning
     ensures { λ r. ⌜ record { head = r; left = record { modeS = now («mode_s» .exit); modeAC = now («mode_ac» .exit); memory = now (memory .exit) } } ≡ headOf four (now (tape .entry)) (record { modeS = now («mode_s» .entry); modeAC = now («mode_ac» .entry); memory = now (memory .entry) }) ⌝ }
 {

@@ -13,7 +13,7 @@ use tape_sections::LONGEST_HEAD_LEN;
 use tape_sections::MAX_RECORDS_LEN;
 use tape_verdict::Outcome;
 
-// A copy of the bytes lent for records: a run that is not done leaves those as they were.
+// A copy of the bytes given for records: a run that is not done leaves those as they were.
 fn copied(bytes: [u8; MAX_RECORDS_LEN]) -> [u8; MAX_RECORDS_LEN]
     ensures { λ r. ⌜ (r ≡ bytes) × (recordsLent ≡ length r) ⌝ }
 {
@@ -29,7 +29,7 @@ fn keep(wanted: bool, bytes: [u8; MAX_RECORDS_LEN], records: &mut [u8; MAX_RECOR
     }
 }
 
-// Runs the tape. Of a run that is done the records stand at the start of the bytes lent for them; on a refusal, and where the samples are not taken, those bytes are as they were.
+// Runs the tape. Of a run that is done the records stand at the start of the bytes given for them; on a refusal, and where the samples are not taken, those bytes are as they were.
 pub fn run_tape(samples: bool, records: &mut [u8; MAX_RECORDS_LEN]) -> Outcome
     ensures { λ r. ⌜ Reported r (now (records .entry)) (now (records .exit)) ⌝ }
 {

@@ -1,4 +1,4 @@
--- What the code's tests of a section decide, and what a section's answer tells.
+-- What the code's tests of a section decide, and what a section's answer says.
 use Prim.Native.Nat.{ℕ, _+_, _-_, _*_, _≤_, _<_, _^_}
 use mathlib.Core.Path.{_≡_, refl, sym, ap, _∙_, subst}
 use mathlib.Core.Bool.{Bool, true, false, cond, _&&_}
@@ -51,7 +51,7 @@ module _ (tape : List ℕ) (at least most size : ℕ) where
       → Counted.the-variants.Wrong ≡ sectionAt tape at least most size
   section-wrong n {b} h e t y = sym (section-counted n b h e t ∙ ap (λ (x : Bool). cond x (Counted.the-variants.Of n) Counted.the-variants.Wrong) y)
 
--- ---- what a section's answer tells
+-- ---- what a section's answer says
 InSection : List ℕ → ℕ → ℕ → ℕ → ℕ → Counted.Counted → Type 0
 InSection tape at least most size (Counted.the-variants.Of n) = (least ≤ n) × (n ≤ most) × (at + 4 + size * n ≤ length tape)
 InSection tape at least most size Counted.the-variants.Wrong = Unit {0}

@@ -25,11 +25,11 @@ drawsOffset sps = tapsOffset + 4 + 4 * tapsCount sps
 abbrev pub noiseOffset : ℕ → ℕ → ℕ
 noiseOffset sps n = drawsOffset sps + 4 + 65 * n
 
--- a count n at a place, and so many values of a size behind it
+-- a count n at an offset, and n values of a size behind it
 unfoldable pub countThen : List ℕ → ℕ → ℕ → ℕ → ℕ → ℕ → Counted.Counted
 countThen tape at least most size n = cond (leb least n && leb n most && leb (at + 4 + size * n) (length tape)) (Counted.the-variants.Of n) Counted.the-variants.Wrong
 
--- the section whose count is at a place: its count is from least to most, and its values lie on the tape
+-- the section whose count is at an offset: its count is from least to most, and its values lie on the tape
 unfoldable pub sectionAt : List ℕ → ℕ → ℕ → ℕ → ℕ → Counted.Counted
 sectionAt tape at least most size = readAt 4 (countThen tape at least most size) Counted.the-variants.Wrong tape at
 

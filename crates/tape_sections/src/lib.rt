@@ -54,7 +54,7 @@ pub enum Counted {
     Wrong,
 }
 
-// Whether a count is from least to most, and so many values of a size lie in the room behind it.
+// Whether a count is from least to most, and n values of a size lie in the room behind it.
 fn fits(n: u64, least: u64, most: u64, size: u64, room: u64) -> bool
     requires { ⌜ (size < 0x1_0000_0000) × (n < 0x1_0000_0000) ⌝ }
     ensures { λ r. ⌜ r ≡ (leb least n && leb n most && leb (size * n) room) ⌝ }
@@ -68,7 +68,7 @@ fn fits(n: u64, least: u64, most: u64, size: u64, room: u64) -> bool
     size * n <= room
 }
 
-// The count at a place, where it is from least to most and so many values of a size lie behind it.
+// The count at an offset, where it is from least to most and n values of a size lie behind it.
 pub fn section(tape: &[u8], at: usize, least: u64, most: u64, size: u32) -> Counted
     ensures { λ r. ⌜ r ≡ sectionAt (now (tape .entry)) at least most size ⌝ }
 {

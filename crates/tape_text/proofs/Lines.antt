@@ -93,7 +93,7 @@ lines-more (suc k) r =
     ∙ sym (append-assoc (lineOf r) (linesOf k (drop 66 r)) (lineOf (drop (66 * k) (drop 66 r))))
     ∙ ap (λ (l : List ℕ). lineOf r ++ linesOf k (drop 66 r) ++ lineOf l) (drop-drop (66 * k) 66 r ∙ ap (λ (n : ℕ). drop n r) {x = 66 + 66 * k} {y = 66 * suc k} (omega arith))
 
--- after k turns: the lines of k records are put, and the rest of the records is at hand
+-- after k steps: the lines of k records are put, and the rest of the records is at hand
 pub record Going (records : List ℕ) (n : ℕ) (s : List ℕ) (at : ℕ) (out rest : List ℕ) (end k : ℕ) : Type 0 where
   pub count : k ≤ n
   pub same : length out ≡ length s

@@ -57,7 +57,7 @@ samplesWord = 115 ∷ 97 ∷ 109 ∷ 112 ∷ 108 ∷ 101 ∷ 115 ∷ 32 ∷ []
 abbrev pub refusedWord : List ℕ
 refusedWord = 114 ∷ 101 ∷ 102 ∷ 117 ∷ 115 ∷ 101 ∷ 100 ∷ 32 ∷ []
 
--- of a run, with its records, so many of 66 bytes (no more than there are, nor than 400), and the samples written
+-- of a run, with its records, n of 66 bytes (no more than there are, nor than 400), and the samples written
 unfoldable pub runText : List ℕ → ℕ → ℕ → List ℕ
 runText records count samples = header ++ linesOf (min count (min (length records / 66) 400)) records ++ samplesWord ++ number samples 10
 
@@ -65,7 +65,7 @@ runText records count samples = header ++ linesOf (min count (min (length record
 unfoldable pub refusedText : ℕ → List ℕ
 refusedText n = refusedWord ++ number n 10
 
--- text put at a place of a buffer: what the buffer holds after it, and where the text ends
+-- text put at an offset of a buffer: what the buffer holds after it, and where the text ends
 pub record Put (text before : List ℕ) (at : ℕ) (after : List ℕ) (end : ℕ) : Type 0 where
   pub held : after ≡ overwritten before at text
   pub ends : end ≡ at + length text

@@ -1,4 +1,4 @@
-// The text that the tape program prints, put into a lent buffer. Each public function is equal to a definition of specs/ on every input.
+// The text that the tape program prints, put into a buffer. Each public function is equal to a definition of specs/ on every input.
 ghost use mathlib.Core.Path.{_≡_};
 ghost use Prim.Native.Nat.{_+_, _*_, _/_, _≤_, _<_};
 ghost use lib.ListN.{length, getD, take};
@@ -26,7 +26,7 @@ fn hex_digit(d: u8) -> u8
     87 + d
 }
 
-// Bytes put at a place; where they end.
+// Bytes put at an offset; where they end.
 fn put_bytes(from: &[u8], out: &mut [u8], at: usize) -> usize
     requires { ⌜ at + length (now from) ≤ length (now out) ⌝ }
     ensures { λ r. ⌜ Put (now (from .entry)) (now (out .entry)) at (now (out .exit)) r ⌝ }
@@ -39,7 +39,7 @@ fn put_bytes(from: &[u8], out: &mut [u8], at: usize) -> usize
     at + k
 }
 
-// A number in decimal and a byte after it, put at a place; where they end.
+// A number in decimal and a byte after it, put at an offset; where they end.
 fn put_number(n: u64, after: u8, out: &mut [u8], at: usize) -> usize
     requires { ⌜ at + 21 ≤ length (now out) ⌝ }
     ensures { λ r. ⌜ Put (number n after) (now (out .entry)) at (now (out .exit)) r × (r ≤ at + 21) ⌝ }
@@ -51,7 +51,7 @@ fn put_number(n: u64, after: u8, out: &mut [u8], at: usize) -> usize
     end + 1
 }
 
-// A byte in hexadecimal, put at a place.
+// A byte in hexadecimal, put at an offset.
 fn put_hex_byte(b: u8, out: &mut [u8], at: usize)
     requires { ⌜ at + 2 ≤ length (now out) ⌝ }
     ensures { λ _. ⌜ now (out .exit) ≡ overwritten (now (out .entry)) at (hex (b ∷ [])) ⌝ }
@@ -62,7 +62,7 @@ fn put_hex_byte(b: u8, out: &mut [u8], at: usize)
     out[at + 1] = low;
 }
 
-// The first n bytes of a list in hexadecimal, put at a place.
+// The first n bytes of a list in hexadecimal, put at an offset.
 fn put_hex(bytes: &[u8], n: usize, out: &mut [u8], at: usize)
     requires { ⌜ (n ≤ length (now bytes)) × (at + 2 * n ≤ length (now out)) ⌝ }
     ensures { λ _. ⌜ now (out .exit) ≡ overwritten (now (out .entry)) at (hex (take n (now (bytes .entry)))) ⌝ }
@@ -97,7 +97,7 @@ fn put_message(rec: &[u8], out: &mut [u8], at: usize) -> usize
     put_hex_line(&rec[52..], n, out, at)
 }
 
-// The line of the record at the start of the bytes, put at a place; where it ends.
+// The line of the record at the start of the bytes, put at an offset; where it ends.
 fn put_line(rec: &[u8], out: &mut [u8], at: usize) -> usize
     requires { ⌜ (66 ≤ length (now rec)) × (at + 92 ≤ length (now out)) ⌝ }
     ensures { λ r. ⌜ Put (lineOf (now (rec .entry))) (now (out .entry)) at (now (out .exit)) r × (r ≤ at + 92) ⌝ }
@@ -108,7 +108,7 @@ fn put_line(rec: &[u8], out: &mut [u8], at: usize) -> usize
     put_message(rec, out, c)
 }
 
-// The lines of n records, put at a place; where they end.
+// The lines of n records, put at an offset; where they end.
 fn put_lines(records: &[u8], n: usize, out: &mut [u8], at: usize) -> usize
     requires { ⌜ (66 * n ≤ length (now records)) × (at + 92 * n ≤ length (now out)) ⌝ }
     ensures { λ r. ⌜ Put (linesOf n (now (records .entry))) (now (out .entry)) at (now (out .exit)) r × (r ≤ at + 92 * n) ⌝ }
@@ -124,7 +124,7 @@ fn put_lines(records: &[u8], n: usize, out: &mut [u8], at: usize) -> usize
     end
 }
 
-// What is printed of a run with its records, so many of them; its length.
+// What is printed of a run with its records, n of them; its length.
 pub fn run_text(records: &[u8], count: usize, samples: u64, out: &mut [u8; TEXT_LEN]) -> usize
     ensures { λ r. ⌜ (r ≡ length (runText (now (records .entry)) count samples)) × (now (out .exit) ≡ overwritten (now (out .entry)) 0 (runText (now (records .entry)) count samples)) ⌝ }
     ensures { λ r. ⌜ Counts r (now (out .exit)) ⌝ }

@@ -1,4 +1,4 @@
--- A bench that is fed a tape: each call is lent every draw that is not taken, the next noise, room for more samples than that noise has, and room for a record of each of those draws.
+-- A bench that is fed a tape: each call is given every draw that is not taken, the next noise, room for more samples than that noise has, and room for a record of each of those draws.
 -- Then no call stops for room (`fed-on`), and however the noise was cut the bench is Done exactly where the tape has the end draw and noise for every sample (`fed-end`), with the plain run of the whole tape written (`fed-done`).
 use Prim.Native.Nat.{ℕ, zero, suc, _+_, _-_, _≤_, _<_}
 use mathlib.Core.Bool.{Bool, true, false, cond, _&&_}
@@ -70,7 +70,7 @@ module _ (G : Generator) (L : Laws G) where
   few-slots ends = omega arith
   few-slots (reply s) = omega arith
 
-  -- what a call comes to: why it stopped, and that the draws that are left will not be refused
+  -- what a call yields: why it stopped, and that the draws that are left will not be refused
   record Stopped (r : Benched G) : Type 0 where
     why : StopsFor (ended G t0 (r .bench .taken)) (length (r .bench .used)) (r .rest .draws) (r .rest .noise) (r .stop)
     reached : Reached G L (r .bench)

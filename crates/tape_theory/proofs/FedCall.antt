@@ -110,7 +110,7 @@ module _ (G : Generator) where
     length-lines : (ds : List Draw) → length (plainLines G ds) ≡ recordBytes * length (plainRecords G ds)
     length-lines ds = length-join recordBytes (plainRecords G ds) (all-lines t0 ds)
 
--- ---- a tape: what its run was opened with, its draws' bytes, and the record bytes that are lent, with room for a record of each draw
+-- ---- a tape: what its run was opened with, its draws' bytes, and the record bytes that are given, with room for a record of each draw
 pub record Tape : Type 1 where
   pub state : State
   pub modeS : List Float

@@ -1,4 +1,4 @@
--- Feeding a run its noise in any chunks makes a list of run calls from where it stands, each given state, prototypes and memory as the last left them (`fed-runs`), and the run comes to what those calls leave (`fed-all`).
+-- Feeding a run its noise in any chunks makes a list of run calls from where it stands, each given state, prototypes and memory as the last left them (`fed-runs`), and the run yields what those calls leave (`fed-all`).
 -- So an opened run, fed in any chunks, is a list of calls of which `run_theorem/specs/OpenedRuns` speaks (`fed-opened`).
 use Prim.Native.Nat.{ℕ}
 use mathlib.Core.Path.{_≡_, refl, sym, ap, _∙_}
@@ -31,7 +31,7 @@ module _ (modeS modeAC : List Float) (draws : List ℕ) where
   refused-stays [] q d e = refl
   refused-stays (c ∷ cs) q d e = ap (λ (x : Fed). fedAll modeS modeAC draws (keep x) cs) (ap (fedThen modeS modeAC draws (c .noise) (lend c d)) e) ∙ refused-stays cs q d e
 
-  -- the run comes to what the calls leave
+  -- the run yields what the calls leave
   pub fed-all : (cs : List Chunk) (a : Answer.Answer) (d : Held) → d .feed .answer ≡ a → fedAll modeS modeAC draws d cs ≡ feedLefts modeS modeAC draws d (lefts modeS modeAC draws cs a d)
   unfolding fedAll lefts feedLefts leftFor heldAfter keep lend fedOf fedThen calledOf fedAfter feedAfter
   fed-all [] a d e = refl

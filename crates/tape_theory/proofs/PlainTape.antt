@@ -113,7 +113,7 @@ module _ (tape : List ℕ) (lent : Opening.OpenBuffers) where
     unfolding headOf leftThen
     memory-is = ap (λ (b : Beginning.Beginning). leftThen four tape lent b .memory) run
 
-    -- with these record bytes lent for it
+    -- with these record bytes given for it
     abbrev lentTape : (records : List ℕ) → 66 * (length (drawBytes n) / 65) ≤ length records → Tape
     lentTape records room =
         let h = head-within tape lent s n count run in

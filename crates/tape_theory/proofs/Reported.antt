@@ -1,5 +1,5 @@
 -- What a head and the section that is fed behind it give is right to report (`reported-refused`, `reported-run`); what a report says in the plain run's terms (`reported-plainly`); that only a run that is done writes records (`others-leave`), 400 at most (`few-reported`);
--- and that what the program lends to opening, with settings of their length, has the lengths that opening asks for (`lent-fits`).
+-- and that what the program passes to opening, with settings of their length, has the lengths that opening asks for (`lent-fits`).
 use Prim.Native.Nat.{ℕ, zero, suc, _+_, _*_, _/_, _≤_}
 use mathlib.Core.Bool.{Bool, true, false, cond}
 use mathlib.Core.List.{List}
@@ -49,7 +49,7 @@ row-is : (n : ℕ) → rowOf n ≡ zeros n
 unfolding ofBits
 row-is n = refl
 
--- a head that is lent such rows is opened with what the program lends
+-- a head that is given such rows is opened with what the program lends
 pub opened-with : (b : Begun) (tape : List ℕ) (modeS modeAC memory : List Float) → b ≡ headOf four tape (record { modeS = modeS; modeAC = modeAC; memory = memory }) → modeS ≡ rowOf 1792 → modeAC ≡ rowOf 1792 → memory ≡ rowOf 2252 → b ≡ headOf four tape lentByProgram
 unfolding lentByProgram
 opened-with b tape modeS modeAC memory e p q r = e ∙ (λ i. headOf four tape (record { modeS = (p ∙ row-is 1792) i; modeAC = (q ∙ row-is 1792) i; memory = (r ∙ row-is 2252) i }))

@@ -44,7 +44,7 @@ module _ (modeS modeAC : List Float) (draws : List ℕ) (d : Held) where
   fed-more [] c g = refl
   fed-more (b ∷ cs) c g = fed-more cs c (keep (fedOf modeS modeAC draws (b .noise) (lend b g)))
 
-  -- a run fed so far, with this many turns to come and values left of a section, unless that is cut short
+  -- a run fed so far, with this many steps to come and values left of a section, unless that is cut short
   pub record Going (count turns left : ℕ) (short : Bool) (f : Held) : Type 0 where
     chunks : List Chunk
     fed : f ≡ fedAll modeS modeAC draws d chunks
@@ -74,17 +74,17 @@ module _ (modeS modeAC : List Float) (draws : List ℕ) (d : Held) where
       go [] e h k = absurd h
       go (c ∷ cs) e h k = (c, cs, h, e, k)
 
--- ---- as a program reads a section: want values at a time, 16,384 at most, and a turn more only where the section was not short and some are left
+-- ---- as a program reads a section: want values at a time, 16,384 at most, and a step more only where the section was not short and some are left
 pub no-more : {a b : ℕ} → a ≡ b → a ≤ b
 no-more e = omega arith
 
--- the values left fall, or there is a turn less
+-- the values left fall, or there is a step less
 pub fewer-left : (left want turns next want′ turns′ : ℕ) (short : Bool) → want ≤ left → 0 < turns → next ≤ cond short 0 (left - want) → turns′ ≡ min want′ 1 → 2 * next + turns′ + (1 - want′) < 2 * left + turns + (1 - want)
 fewer-left left want turns next want′ turns′ true h m e t = omega (arith, e, t)
 fewer-left left want turns next want′ turns′ false h m e t = omega (arith, e, t)
 
--- a turn, by the values read, whether the samples were taken, and what is then left: a chunk that is not the last has an even number of values;
--- where the section is not cut short, as many values as were wanted; a section that goes on is not cut short; and where there is no turn more, nothing is left
+-- a step, by the values read, whether the samples were taken, and what is then left: a chunk that is not the last has an even number of values;
+-- where the section is not cut short, as many values as were wanted; a section that goes on is not cut short; and where there is no step more, nothing is left
 pub record Turned (n want left left′ turns′ : ℕ) (short′ : Bool) : Type 0 where
   pub even : 0 < turns′ → n % 2 ≡ 0
   pub read : short′ ≡ false → (n ≡ want) × (want + left′ ≡ left)

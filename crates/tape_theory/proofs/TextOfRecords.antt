@@ -1,4 +1,4 @@
--- The lines of records do not turn on what stands behind them: the text of a run with its records at the start of a buffer is that of its records alone (`run-text-over`).
+-- The lines of records do not depend on what stands behind them: the text of a run with its records at the start of a buffer is that of its records alone (`run-text-over`).
 use Prim.Native.Nat.{ℕ, zero, suc, _+_, _*_, _/_, _≤_, _<_, min}
 use mathlib.Core.Bool.{cond}
 use mathlib.Core.List.{List, [], _∷_, _++_, append-assoc}

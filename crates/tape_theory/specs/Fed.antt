@@ -21,7 +21,7 @@ pub record Held : Type 0 where
 unfoldable pub begun : State → List Float → List ℕ → Held
 begun s memory records = record { feed = startOf s; memory = memory; records = records }
 
--- a chunk of noise, and the output that is lent for it
+-- a chunk of noise, and the output that is given for it
 pub record Chunk : Type 0 where
   pub noise : List Float
   pub output : List Float
@@ -38,7 +38,7 @@ module _ (modeS modeAC : List Float) (draws : List ℕ) where
   fedAll d [] = d
   fedAll d (c ∷ cs) = fedAll (keep (fedOf modeS modeAC draws (c .noise) (lend c d))) cs
 
-  -- what the call for a chunk is lent: the draws that are not taken, the chunk, and the room behind the records
+  -- what the call for a chunk is given: the draws that are not taken, the chunk, and the room behind the records
   unfoldable pub lentFor : Held → Chunk → CallBuffers
   lentFor d c = record { draws = drop (65 * d .feed .taken) draws; noise = c .noise; output = c .output; records = drop (66 * d .feed .records) (d .records) }
 

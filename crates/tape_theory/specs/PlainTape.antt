@@ -51,7 +51,7 @@ module _ (G : Generator) where
 
 -- of a run with this state and these prototypes, on all draws and noise of its tape, with or without bytes left over behind them
 module _ (s : State) (modeS modeAC : List Float) where
-  -- its ending: the records stand at the start of the bytes lent for them
+  -- its ending: the records stand at the start of the bytes given for them
   unfoldable pub plainEnding : Bool → List (genOf s modeS modeAC .Draw) → List Float → List ℕ → Ending
   plainEnding left ds noise room = endingBy (plainVerdict (genOf s modeS modeAC) left ds noise) (over (plainLines (genOf s modeS modeAC) ds) room) (length (plainRecords (genOf s modeS modeAC) ds)) (s .total)
 
@@ -66,7 +66,7 @@ fedEnding left f = endingBy (verdictOf false (f .feed .answer) left) (f .records
 unfoldable pub fedText : Bool → Held → List ℕ
 fedText left f = endingText (fedEnding left f)
 
--- noise cut as the tape program cuts it: each chunk but the last has an even number of values, and each is lent an even output of more values than it has
+-- noise cut as the tape program cuts it: each chunk but the last has an even number of values, and each is given an even output of more values than it has
 abbrev pub Roomy : Chunk → Type 0
 Roomy c = (length (c .output) % 2 ≡ 0) × (length (c .noise) < length (c .output))
 
@@ -85,7 +85,7 @@ unfoldable pub FedCut : List Float → List Float → List ℕ → ℕ → Held 
 FedCut modeS modeAC draws count d short f =
     (c : Chunk) × (cs : List Chunk) × Cut (c ∷ cs) × (f ≡ fedAll modeS modeAC draws d (c ∷ cs)) × (short ≡ false → length (noiseIn (c ∷ cs)) ≡ count)
 
--- The claim on a run with this state, these prototypes and this working memory, and on the bytes of its tape's draws: lent record bytes with room for each draw, and fed its noise in any chunks so cut,
+-- The claim on a run with this state, these prototypes and this working memory, and on the bytes of its tape's draws: given record bytes with room for each draw, and fed its noise in any chunks so cut,
 -- it ends as the plain run does and prints its text, with or without bytes left over; and the samples that the chunks give are a first part of the plain run's on all draws and noise, and all of them where the run is Done.
 pub record PlainTape (s : State) (modeS modeAC memory : List Float) (draws : List ℕ) : Type 0 where
   pub ending : (records : List ℕ) → 66 * (length draws / 65) ≤ length records → (c : Chunk) (cs : List Chunk) → Cut (c ∷ cs)

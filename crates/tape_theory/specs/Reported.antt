@@ -1,4 +1,4 @@
--- What may be reported of a tape that is read from somewhere, with record bytes lent before and left after (`Reported`, the contract of `tape_run::run_tape`); and the same in the plain run's terms (`PlainlyReported`).
+-- What may be reported of a tape that is read from somewhere, with record bytes given before and left after (`Reported`, the contract of `tape_run::run_tape`); and the same in the plain run's terms (`PlainlyReported`).
 use Prim.Native.Nat.{ℕ, _*_}
 use mathlib.Core.Bool.{Bool, cond}
 use mathlib.Core.Path.{_≡_}
@@ -36,7 +36,7 @@ module _ (tape : List ℕ) where
   abbrev pub memoryLeft : List Float
   memoryLeft = headOf four tape lentByProgram .left .memory
 
--- the bytes lent for records: 66 for each draw that a tape may have
+-- the bytes given for records: 66 for each draw that a tape may have
 abbrev pub recordsLent : ℕ
 recordsLent = 66 * mostDraws
 

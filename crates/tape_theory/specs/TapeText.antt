@@ -20,7 +20,7 @@ use Rattle.tape_head.specs.Head.{tapsS, tapsAC, headOf}
 use Rattle.tape_theory.specs.Fed.{Chunk}
 use Rattle.tape_theory.specs.PlainTape.{plainText}
 
--- what the program lends to opening
+-- what the program passes to opening
 unfoldable pub lentByProgram : OpenBuffers
 lentByProgram = record { modeS = zeros (prototypeLength four); modeAC = zeros (prototypeLength four); memory = zeros (workingMemory four) }
 

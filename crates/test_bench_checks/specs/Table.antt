@@ -16,7 +16,7 @@ use Rattle.message_classify.specs.declared.Class.the-variants.{OfType, TisB, No
 use Rattle.message_classify.specs.Classing.{classBy}
 use Rattle.pulse_length.specs.Length.{modeSNumSamples, modeACNumSamples}
 
--- what a line speaks of: a number, a refusal by its number, the places of pulses, a class by its number, or none
+-- what a line speaks of: a number, a refusal by its number, the positions of pulses, a class by its number, or none
 pub data Value : Type 0 where
   number : ℕ → Value
   refusal : ℕ → Value

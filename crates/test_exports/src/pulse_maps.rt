@@ -9,7 +9,7 @@ ghost use Rattle.test_exports.specs.Pulses.{samplesNumber};
 use constants::MAX_POSITIONS;
 use settings_duration::InSamples;
 
-// How many places there are; where pulses stand goes to `on`, and the length in samples to `samples`.
+// How many positions there are; where pulses stand goes to `on`, and the length in samples to `samples`.
 #[no_mangle]
 pub extern "C" fn port_mode_s_pulses(
     message: &[u8; 14],

@@ -16,7 +16,7 @@ pub extern "C" fn port_filter_taps(prototype: &[f32], phase: f64, out: &mut [f32
     *out = taps;
 }
 
-// The sum at a place, of the first `len` places as `pad_pulses` lays them.
+// The sum at a position, of the first `len` positions as `pad_pulses` pads them.
 #[no_mangle]
 pub extern "C" fn port_pulse_sum(
     taps: &[f32; 7],

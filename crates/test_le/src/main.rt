@@ -71,7 +71,7 @@ fn read_f64(r: ReadF64) {
     }
 }
 
-// A line of the ten reads at a place.
+// A line of the ten reads at an offset.
 fn reads(s: &[u8], at: usize) {
     text(b"read");
     digits(at as u64, 16);
@@ -129,7 +129,7 @@ fn write_f64(at: usize, v: f64) {
     wrote(fits, &d);
 }
 
-// A line of the five writes at a place, of the values read at another.
+// A line of the five writes at an offset, of the values read at another.
 fn writes(s: &[u8], from: usize, at: usize) {
     text(b"write");
     digits(from as u64, 16);
@@ -142,7 +142,7 @@ fn writes(s: &[u8], from: usize, at: usize) {
     text(b"\n");
 }
 
-// Every place up to one past the end, each with the writes at the first twelve places and one past.
+// Every offset up to one past the end, each with the writes at the first twelve offsets and one past.
 fn forward(s: &[u8])
     requires { ⌜ length (now s) ≤ 256 ⌝ }
 {
@@ -154,7 +154,7 @@ fn forward(s: &[u8])
     }
 }
 
-// The last places that a usize can name.
+// The last offsets that a usize can name.
 fn backward(s: &[u8]) {
     let mut k: usize = 0;
     while k < 9 {

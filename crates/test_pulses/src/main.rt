@@ -1,4 +1,4 @@
-// Runs the bench checks of durations, lengths, Mode A/C data and pulses, every Mode A/C map beside a second one written out place by place, and
+// Runs the bench checks of durations, lengths, Mode A/C data and pulses, every Mode A/C map beside a second one written out position by position, and
 // Mode S maps. Its stdout is what the Rust's own functions give (`harness vectors`, differential/).
 ghost use Prim.Native.Nat.{_<_};
 use libc::STDOUT_FILENO;
@@ -49,7 +49,7 @@ fn say_position(k: usize, on: bool) {
     }
 }
 
-// The places where pulses stand.
+// The positions where pulses stand.
 fn say_positions(p: Pulses) {
     let on = p.on;
     let mut k: usize = 0;
@@ -60,7 +60,7 @@ fn say_positions(p: Pulses) {
     io::write_all(STDOUT_FILENO, b"\n");
 }
 
-// The places of a map that its reply takes, 1 for a pulse and 0 for none.
+// The positions of a map that its reply takes, 1 for a pulse and 0 for none.
 fn say_map(p: Pulses) {
     let on = p.on;
     let len = p.len;
@@ -85,7 +85,7 @@ fn equal(a: [bool; 240], b: [bool; 240]) -> bool {
     true
 }
 
-// A number that depends on every place of a map, and on those before it by h.
+// A number that depends on every position of a map, and on those before it by h.
 fn digest(h: u64, p: Pulses) -> u64
     requires { ⌜ h < 4294967291 ⌝ }
     ensures { λ r. ⌜ r < 4294967291 ⌝ }
@@ -106,7 +106,7 @@ fn has(digit: u16, worth: u16) -> bool
     digit / worth % 2 == 1
 }
 
-// The Mode A/C map, each place written out as the Rust has it.
+// The Mode A/C map, each position written out as the Rust has it.
 fn second_map(data: u16, spi: bool) -> [bool; 240] {
     let a = data / 512 % 8;
     let b = data / 64 % 8;

@@ -213,7 +213,7 @@ fn replay() -> bool {
     true
 }
 
-// A proved loop has to end: the turns are counted down, from more than there are records.
+// A proved loop has to end: the steps are counted down, from more than there are records.
 fn main() {
     let mut turns: u64 = 100000;
     while turns > 0 && replay() {

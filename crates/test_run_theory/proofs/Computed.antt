@@ -1,4 +1,4 @@
--- A list of nine calls computed: refusals, draws lent and replaced, a jump back, Done, and a call after Done.
+-- A list of nine calls computed: refusals, draws given and replaced, a jump back, Done, and a call after Done.
 -- Every number is what an independent reading of SPECIFICATION 9 and 10 gives.
 use mathlib.Core.List.{List, [], _∷_}
 use mathlib.Core.Path.{_≡_, refl}
@@ -13,13 +13,13 @@ abbrev pub calls : List (Call small)
 calls =
     -- an ignored draw whose time counts, a reply at sample 1, and one by whose start a sample is due and for which no record bytes are left
     record { draws = 1 ∷ 2 ∷ 70 ∷ 1 ∷ 1 ∷ 10 ∷ 1 ∷ 0 ∷ 20 ∷ []; noise = (1 ∷ []) ∷ (2 ∷ []) ∷ (3 ∷ []) ∷ []; output = (99 ∷ []) ∷ (99 ∷ []) ∷ (99 ∷ []) ∷ (99 ∷ []) ∷ []; records = 7 ∷ 7 ∷ 7 ∷ 7 ∷ [] }
-    -- refused: the delay of draw 1; the noise value at place 1; draw bytes of a wrong length
+    -- refused: the delay of draw 1; the noise value at index 1; draw bytes of a wrong length
     ∷ record { draws = 1 ∷ 0 ∷ 20 ∷ 1 ∷ 3 ∷ 0 ∷ []; noise = (1 ∷ []) ∷ (2 ∷ []) ∷ []; output = (99 ∷ []) ∷ (99 ∷ []) ∷ (99 ∷ []) ∷ (99 ∷ []) ∷ []; records = 7 ∷ 7 ∷ 7 ∷ [] }
     ∷ record { draws = 1 ∷ 0 ∷ 20 ∷ []; noise = (1 ∷ []) ∷ (1 ∷ 1 ∷ []) ∷ []; output = (99 ∷ []) ∷ (99 ∷ []) ∷ (99 ∷ []) ∷ (99 ∷ []) ∷ []; records = 7 ∷ 7 ∷ 7 ∷ [] }
     ∷ record { draws = 1 ∷ 0 ∷ []; noise = (1 ∷ []) ∷ (2 ∷ []) ∷ []; output = (99 ∷ []) ∷ (99 ∷ []) ∷ (99 ∷ []) ∷ (99 ∷ []) ∷ []; records = 7 ∷ 7 ∷ 7 ∷ [] }
     -- that draw is taken; by the start of the next, at time 7, one sample is written, and a noise value is left over
     ∷ record { draws = 1 ∷ 0 ∷ 20 ∷ 4 ∷ 0 ∷ 30 ∷ []; noise = (1 ∷ []) ∷ (2 ∷ []) ∷ (3 ∷ []) ∷ []; output = (99 ∷ []) ∷ (99 ∷ []) ∷ (99 ∷ []) ∷ (99 ∷ []) ∷ []; records = 7 ∷ 7 ∷ 7 ∷ 7 ∷ 7 ∷ [] }
-    -- lent again, two more are written by its start; it is still untaken
+    -- passed again, two more are written by its start; it is still untaken
     ∷ record { draws = 4 ∷ 0 ∷ 30 ∷ []; noise = (3 ∷ []) ∷ (4 ∷ []) ∷ (5 ∷ []) ∷ (6 ∷ []) ∷ (7 ∷ []) ∷ (8 ∷ []) ∷ (9 ∷ []) ∷ []; output = (99 ∷ []) ∷ (99 ∷ []) ∷ (99 ∷ []) ∷ (99 ∷ []) ∷ []; records = 7 ∷ 7 ∷ 7 ∷ [] }
     -- replaced by a draw at time 6, which jumps back
     ∷ record { draws = 3 ∷ 2 ∷ 40 ∷ []; noise = (7 ∷ []) ∷ (8 ∷ []) ∷ []; output = (99 ∷ []) ∷ (99 ∷ []) ∷ []; records = 7 ∷ 7 ∷ 7 ∷ [] }

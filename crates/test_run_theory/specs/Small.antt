@@ -20,7 +20,7 @@ faultOf d = cond (ltb 50 (d .gap)) (some 0) (cond (ltb 2 (d .delay)) (some 1) no
 abbrev pub startOf : ℕ → ℕ → Start
 startOf t d = cond (leb d t) (from (t - d)) negative
 
--- with so many samples in the run
+-- with n samples in the run
 abbrev pub smallOf : ℕ → Generator
 smallOf total = record {
   Value = List ℕ;

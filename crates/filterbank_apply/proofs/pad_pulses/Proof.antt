@@ -1,4 +1,4 @@
--- `pad_pulses` meets its contract: each turn lays one pulse more.
+-- `pad_pulses` meets its contract: each step copies one pulse more.
 use borrow.Author.Needs.{needs}
 use Prim.Native.Nat.{_≤_, _-_}
 use mathlib.Core.Path.{_≡_}

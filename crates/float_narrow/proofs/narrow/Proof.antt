@@ -9,7 +9,7 @@ use borrow.Author.Needs.{needs}
 use Rattle.float_narrow.proofs.narrow.Statement.{statement}
 use Rattle.float_narrow.proofs.narrow.Tie as tie
 
--- what owning an `f64` tells: the format holds it
+-- what owning an `f64` says: the format holds it
 held : (c : tie.Start) → T (fits binary64 (c .args .x))
 held c = subst T (sym (c .good .0 .1)) tt
 

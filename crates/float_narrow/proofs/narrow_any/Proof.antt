@@ -11,7 +11,7 @@ use Rattle.float_narrow.proofs.NarrowOrder.{with-sign}
 use Rattle.float_narrow.proofs.narrow_any.Statement.{statement}
 use Rattle.float_narrow.proofs.narrow_any.Tie as tie
 
--- what owning an `f64` tells: the format holds it
+-- what owning an `f64` says: the format holds it
 held : (c : tie.Start) → T (fits binary64 (c .args .x))
 held c = subst T (sym (c .good .0 .1)) tt
 

@@ -1,4 +1,4 @@
--- `holds` meets its contract. A place is tested without a sum.
+-- `holds` meets its contract. An offset is tested without a sum.
 use mathlib.Core.Path.{sym}
 use Prim.Native.Nat.{_+_}
 use borrow.Author.Tests.{lt-leb}

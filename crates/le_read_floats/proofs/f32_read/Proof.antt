@@ -1,4 +1,4 @@
--- `f32_read` meets its contract. A NaN is told by one comparison.
+-- `f32_read` meets its contract. A NaN is found by one comparison.
 use mathlib.Core.Path.{sym}
 use lib.Ieee.{binary32}
 use Rattle.le_read_floats.specs.declared.ReadF32.the-variants.{Value, Nan}

@@ -1,4 +1,4 @@
--- `f64_read` meets its contract. A NaN is told by one comparison.
+-- `f64_read` meets its contract. A NaN is found by one comparison.
 use mathlib.Core.Path.{sym}
 use lib.Ieee.{binary64}
 use Rattle.le_read_floats.specs.declared.ReadF64.the-variants.{Value, Nan}

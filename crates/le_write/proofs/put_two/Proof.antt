@@ -1,4 +1,4 @@
--- `put_two` meets its contract. Two bytes stored are two bytes laid.
+-- `put_two` meets its contract. Two bytes stored are two bytes written.
 use lib.ListN.{length-set}
 use Rattle.le_read.proofs.Halves.{overwritten-two}
 use borrow.Author.Needs.{needs}

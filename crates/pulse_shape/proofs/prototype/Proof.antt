@@ -1,4 +1,4 @@
--- `prototype` meets its contract: each place is filled with its value.
+-- `prototype` meets its contract: each index is filled with its value.
 use borrow.Author.Needs.{needs}
 use Prim.Native.Nat.{_≤_, _-_}
 use mathlib.Core.Path.{_≡_}

@@ -1,4 +1,4 @@
--- `trapezoid` meets its contract, whatever the length and the edges: each place is filled with its value.
+-- `trapezoid` meets its contract, whatever the length and the edges: each index is filled with its value.
 use borrow.Author.Needs.{needs}
 use Prim.Native.Nat.{_≤_, _-_}
 use mathlib.Core.Path.{_≡_, refl}

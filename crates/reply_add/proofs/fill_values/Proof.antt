@@ -1,4 +1,4 @@
--- `fill_values` meets its contract. The invariant: what is written and what is left to write come to all values.
+-- `fill_values` meets its contract. The invariant: what is written and what is left to write make all values.
 use borrow.Author.Needs.{needs}
 use Prim.Native.Nat.{_≤_, _-_, _*_}
 use mathlib.Core.Path.{_≡_}

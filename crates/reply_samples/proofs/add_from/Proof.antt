@@ -1,4 +1,4 @@
--- `add_from` meets its contract. The invariant: what is added from here on comes to the whole.
+-- `add_from` meets its contract. The invariant: what is added from here on makes the whole.
 use borrow.Author.Needs.{needs}
 use Prim.Native.Nat.{_<_, _-_}
 use mathlib.Core.Path.{_≡_, refl}

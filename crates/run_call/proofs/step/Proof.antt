@@ -1,4 +1,4 @@
--- `step` meets its contract: each arm by what its plan tells.
+-- `step` meets its contract: each arm by what its plan says.
 use lib.ListN.{length}
 use Rattle.run_call.proofs.Said.{Sized, Planned, halted, drained, dued, skipped, ended-by, added}
 use borrow.Author.Needs.{needs}
@@ -9,7 +9,7 @@ use Rattle.run_call.proofs.step.Tie as tie
 sized : (b : tie.Start) → Sized (b .args .s .total) (b .args .t .taken) (length (b .args .rest .now)) (length (b .args .output .now)) (length (b .args .records .now))
 sized b = record { run-in = b .pre .3; draws-in = b .pre .2; output-in = omega (arith, b); records-in = omega (arith, b) }
 
--- the turn with its plan, seen from where its turn is made
+-- the step with its plan, seen from where its step is made
 abbrev planned : tie.After-after-step → Planned
 planned z =
     let n = z .before .before .before in

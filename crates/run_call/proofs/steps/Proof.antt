@@ -1,4 +1,4 @@
--- `steps` meets its contract: at each turn the rest of the call is the whole call (`Going`), and what the step gave says which of three ways it goes on.
+-- `steps` meets its contract: at each step the rest of the call is the whole call (`Going`), and what the step gave says which of three ways it goes on.
 use mathlib.Core.Path.{sym, _∙_}
 use lib.ListN.{length}
 use Rattle.run_call.proofs.Going.{Going, starts, stepsLeft, Gave, tail-is, samples-written-less, samples-written-again, draw-taken-bytes, draw-taken-less, draw-taken-again, stop-reached-samples, stopped-left}

@@ -1,4 +1,4 @@
--- `clear_stretch` meets its contract. The invariant: so many places are cleared.
+-- `clear_stretch` meets its contract. The invariant: n slots are cleared.
 use Prim.Native.Nat.{_-_, _≤_}
 use mathlib.Core.Path.{_≡_}
 use lib.ListN.{length, length-set}

@@ -1,4 +1,4 @@
--- `mix_stretch` meets its contract. The invariant: so many numbers are written.
+-- `mix_stretch` meets its contract. The invariant: n numbers are written.
 use Prim.Native.Nat.{_-_, _≤_}
 use mathlib.Core.Path.{_≡_}
 use lib.ListN.{length, drop, take, length-set}

@@ -1,4 +1,4 @@
--- `write_all` meets its contract: each turn writes one stretch more (`Writing`).
+-- `write_all` meets its contract: each step writes one stretch more (`Writing`).
 use mathlib.Core.Path.{refl, sym, _∙_}
 use Prim.Native.Nat.{_-_}
 use Rattle.run_due_samples.proofs.Stretches.{Writing, starts, goes-on, all-written}

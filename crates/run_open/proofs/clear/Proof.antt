@@ -1,4 +1,4 @@
--- `clear` meets its contract: so many places are 0.0.
+-- `clear` meets its contract: the first k values are 0.0.
 use Prim.Native.Nat.{_-_, _≤_}
 use mathlib.Core.Path.{_≡_}
 use lib.ListN.{length, take, length-set}

@@ -1,4 +1,4 @@
--- `copy` meets its contract: so many places are written over.
+-- `copy` meets its contract: the first k values are written over.
 use Prim.Native.Nat.{_-_, _≤_, min}
 use mathlib.Core.Path.{_≡_, refl}
 use mathlib.Core.List.{_++_}

@@ -1,4 +1,4 @@
--- `tape_floats::float_bytes` meets its contract: after k turns the bytes of the first k values are there.
+-- `tape_floats::float_bytes` meets its contract: after k steps the bytes of the first k values are there.
 use borrow.Author.Needs.{needs}
 use Prim.Native.Nat.{ℕ, _-_, _≤_, _/_, min}
 use mathlib.Core.Path.{_≡_, sym, ap, _∙_}

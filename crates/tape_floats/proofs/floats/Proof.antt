@@ -1,4 +1,4 @@
--- `tape_floats::floats` meets its contract: after k turns the first k values are there.
+-- `tape_floats::floats` meets its contract: after k steps the first k values are there.
 use borrow.Author.Needs.{needs}
 use Prim.Native.Nat.{ℕ, _-_, _≤_, _/_, min}
 use mathlib.Core.Path.{_≡_, refl, sym, ap, _∙_}

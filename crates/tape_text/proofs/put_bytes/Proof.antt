@@ -1,4 +1,4 @@
--- `tape_text::put_bytes` meets its contract: after k turns the first k bytes are laid.
+-- `tape_text::put_bytes` meets its contract: after k steps the first k bytes are written.
 use borrow.Author.Needs.{needs}
 use Prim.Native.Nat.{_-_, _≤_}
 use mathlib.Core.Path.{_≡_, ap, _∙_}

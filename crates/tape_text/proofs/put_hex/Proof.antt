@@ -1,4 +1,4 @@
--- `tape_text::put_hex` meets its contract: after k turns the first k bytes are there in hexadecimal.
+-- `tape_text::put_hex` meets its contract: after k steps the first k bytes are there in hexadecimal.
 use borrow.Author.Needs.{needs}
 use Prim.Native.Nat.{ℕ, _-_, _≤_}
 use mathlib.Core.Path.{_≡_, sym, ap, _∙_}

@@ -1,4 +1,4 @@
--- `backward` meets its contract. Nine places are counted.
+-- `backward` meets its contract. Nine offsets are counted.
 use Prim.Native.Nat.{_-_, _≤_}
 use borrow.Author.Needs.{needs}
 use Rattle.test_le.proofs.backward.Statement.{statement}

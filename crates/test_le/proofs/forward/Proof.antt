@@ -1,4 +1,4 @@
--- `forward` meets its contract. The places are counted up to one past the end.
+-- `forward` meets its contract. The offsets are counted up to one past the end.
 use Prim.Native.Nat.{_+_, _-_, _≤_}
 use lib.ListN.{length}
 use borrow.Author.Needs.{needs}

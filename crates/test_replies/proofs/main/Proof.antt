@@ -1,4 +1,4 @@
--- `test_replies::main` ends: its turns are counted down.
+-- `test_replies::main` ends: its steps are counted down.
 use Prim.Native.Nat.{_≤_}
 use borrow.Author.Needs.{needs}
 use Rattle.test_replies.proofs.main.Statement.{statement}

@@ -1,4 +1,4 @@
--- `test_replies::print_parities` is safe: the part lent is as long as was asked.
+-- `test_replies::print_parities` is safe: the part passed on is as long as was asked.
 use mathlib.Core.Path.{sym}
 use lib.Seq.{length-take-le}
 use borrow.Author.Needs.{needs}
