@@ -316,6 +316,16 @@ fn values_of(q: Refusal) -> Values
             field: 0,
         },
         Refusal::Length => Values { value: 0, field: 0 },
+        Refusal::StretchLength => Values { value: 0, field: 0 },
+        Refusal::Level => Values { value: 0, field: 0 },
+        Refusal::TriggerLevel => Values { value: 0, field: 0 },
+        Refusal::SamplesPerPulse => Values { value: 0, field: 0 },
+        Refusal::Log => Values { value: 0, field: 0 },
+        Refusal::Feeds => Values { value: 0, field: 0 },
+        Refusal::Record(index) => Values {
+            value: index,
+            field: 0,
+        },
     }
 }
 

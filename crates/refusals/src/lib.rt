@@ -1,4 +1,4 @@
-// The refusals of opening a run and of run calls. specs/ gives the number and values of SPECIFICATION 3.1 for each.
+// The refusals of the library's calls. specs/ gives the number and values of SPECIFICATION 3.1 for each.
 ghost use mathlib.Core.Path.{_≡_};
 ghost use Rattle.refusals.specs.Number.{numberOf};
 
@@ -21,6 +21,20 @@ pub enum Refusal {
     Noise(u64),
     // The length of a buffer.
     Length,
+    // The output or noise of one reply alone, of another length than its duration asks for.
+    StretchLength,
+    // A level above 200.0 dB.
+    Level,
+    // A trigger level out of range.
+    TriggerLevel,
+    // Samples per pulse other than 4 or 8.
+    SamplesPerPulse,
+    // A log out of order, or a length of a message in it.
+    Log,
+    // The number of feeds, or a delay or gain.
+    Feeds,
+    // The first record at fault.
+    Record(u64),
 }
 
 // The number (SPECIFICATION 3.1).
@@ -37,5 +51,12 @@ pub fn number(r: Refusal) -> u64
         Refusal::Draw(_, _) => 7,
         Refusal::Noise(_) => 8,
         Refusal::Length => 9,
+        Refusal::StretchLength => 12,
+        Refusal::Level => 13,
+        Refusal::TriggerLevel => 14,
+        Refusal::SamplesPerPulse => 15,
+        Refusal::Log => 16,
+        Refusal::Feeds => 17,
+        Refusal::Record(_) => 18,
     }
 }
