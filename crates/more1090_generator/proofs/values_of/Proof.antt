@@ -33,6 +33,27 @@ enum-known-q-4 c = search needs
 enum-told-5 : tie.Need-enum-told-5
 enum-told-5 c = search needs
 
+enum-told-6 : tie.Need-enum-told-6
+enum-told-6 c = search needs
+
+enum-told-7 : tie.Need-enum-told-7
+enum-told-7 c = search needs
+
+enum-told-8 : tie.Need-enum-told-8
+enum-told-8 c = search needs
+
+enum-told-9 : tie.Need-enum-told-9
+enum-told-9 c = search needs
+
+enum-told-10 : tie.Need-enum-told-10
+enum-told-10 c = search needs
+
+enum-told-11 : tie.Need-enum-told-11
+enum-told-11 c = search needs
+
+enum-known-q-5 : tie.Need-enum-known-q-5
+enum-known-q-5 c = search needs
+
 returns : tie.Need-returns
 unfolding valuesFlat valuesOf
 returns c = sym (ap valuesFlat (c .enum-told .given .1))
@@ -69,6 +90,34 @@ returns-9 : tie.Need-returns-9
 unfolding valuesFlat valuesOf
 returns-9 c = sym (ap valuesFlat (c .enum-told5 .given .1))
 
+returns-10 : tie.Need-returns-10
+unfolding valuesFlat valuesOf
+returns-10 c = sym (ap valuesFlat (c .enum-told6 .given .1))
+
+returns-11 : tie.Need-returns-11
+unfolding valuesFlat valuesOf
+returns-11 c = sym (ap valuesFlat (c .enum-told7 .given .1))
+
+returns-12 : tie.Need-returns-12
+unfolding valuesFlat valuesOf
+returns-12 c = sym (ap valuesFlat (c .enum-told8 .given .1))
+
+returns-13 : tie.Need-returns-13
+unfolding valuesFlat valuesOf
+returns-13 c = sym (ap valuesFlat (c .enum-told9 .given .1))
+
+returns-14 : tie.Need-returns-14
+unfolding valuesFlat valuesOf
+returns-14 c = sym (ap valuesFlat (c .enum-told10 .given .1))
+
+returns-15 : tie.Need-returns-15
+unfolding valuesFlat valuesOf
+returns-15 c = sym (ap valuesFlat (c .enum-told11 .given .1))
+
+returns-16 : tie.Need-returns-16
+unfolding valuesFlat valuesOf
+returns-16 c = sym (ap valuesFlat (c .before .q5 .given .1))
+
 pub values-of-spec : {M : Type 1} → statement M
 values-of-spec =
     tie.close
@@ -82,6 +131,13 @@ values-of-spec =
     enum-known-q-3
     enum-known-q-4
     enum-told-5
+    enum-told-6
+    enum-told-7
+    enum-told-8
+    enum-told-9
+    enum-told-10
+    enum-told-11
+    enum-known-q-5
     returns
     returns-2
     returns-3
@@ -90,4 +146,11 @@ values-of-spec =
     returns-6
     returns-7
     returns-8
-    returns-9)
+    returns-9
+    returns-10
+    returns-11
+    returns-12
+    returns-13
+    returns-14
+    returns-15
+    returns-16)
