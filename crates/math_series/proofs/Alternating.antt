@@ -1,9 +1,8 @@
 -- The series, term by term, are the nested fractions.
-use mathlib.Core.Path.{_≡_, refl, sym, ap, _∙_, subst}
+use mathlib.Core.Path.{_≡_, sym, ap, _∙_, subst}
 use Prim.Native.Nat.{ℕ, zero, suc, _+_, _-_, _*_, _≤_}
-use native.Mathlib.Nat.{zero-add, zero-mul, mul-zero, add-zero, mul-one, one-mul, add-mul, mul-add, mul-assoc, mul-comm, mul-left-comm, add-assoc, add-comm, add-left-comm}
+use native.Mathlib.Nat.{zero-add, zero-mul, mul-zero, add-zero, add-mul}
 use native.Mathlib.Omega.{arith}
-use Rattle.math.specs.Carrier.{factorial}
 use Rattle.math_series.specs.Fraction.{Fraction, over, nought, one, opposite, _⊕_, _⊗_}
 use Rattle.math_series.specs.Series.{power, alternating, inverseFactorial, sineTerm, cosineTerm, sumOf, sineSeries, cosineSeries}
 use Rattle.math_series.proofs.Ratio.{Ratio, _≤r_, _-r_, _*r_}
@@ -47,7 +46,7 @@ pub plain-times : (x y : Ratio) → plain (x *r y) ≈ (plain x ⊗ plain y)
 plain-times x y = record { same = go (x .num) (x .den) (y .num) (y .den) }
   where
     go : (a b c d : ℕ) → a * c * (b * d) + (a * 0 + 0 * c) * (b * d) ≡ (a * c + 0 * 0) * (b * d) + 0 * (b * d)
-    go a b c d = simp (mul-zero, zero-mul, add-zero, zero-add)
+    go a b c d = simp (mul-zero, zero-mul, add-zero)
 
 module _ (inverse : ℕ → Ratio) (falls : (n : ℕ) → inverse (suc n) ≤r inverse n) (w : Ratio) (W : w ≤r R.one) where
   pub plain-nested : (j n : ℕ) → plain (nested inverse j n w) ≈ nest (λ (m : ℕ). plain (inverse m)) j n (plain w)

@@ -6,7 +6,7 @@ use native.Mathlib.Omega.{arith}
 use mathlib.Core.Bool.{Bool, true, false}
 use lib.Dec.{T, lit≤}
 use lib.Pow.{pow-pos}
-use lib.Ieee.{Float, fin, binary64, neg, le, fits}
+use lib.Ieee.{Float, neg, le}
 use lib.Ieee.Scale.{finite}
 use Rattle.float_rounding.proofs.Val.{Val}
 use Rattle.float_rounding.proofs.Size.{within-finite}
@@ -18,26 +18,26 @@ use Rattle.math.proofs.Constants.{quarterUnits, piUnits, pi-val}
 use Rattle.math.proofs.InRange.{within-of-tests}
 use Rattle.math.proofs.Reduction.{reduced-within}
 use Rattle.math.proofs.Sums.{unity, sineUnits, cosineUnits, sine-val, sine-le, cosine-val, cosine-le}
-use Rattle.math_series.specs.Fraction.{Fraction, over, nought, opposite, _⊕_, _⊗_, _⊑_, Within, signed, value}
+use Rattle.math_series.specs.Fraction.{Fraction, nought, opposite, _⊕_, _⊗_, _⊑_, Within, value}
 use Rattle.math_series.specs.Series.{inverseFactorial, sineSeries, cosineSeries}
-use Rattle.math_series.specs.CarrierTruth.{largestRest, seriesDistance, narrowDistance, CarrierTruth, sineBy, cosineBy, SampleTruth, Claim}
-use Rattle.math_series.proofs.Ratio.{Ratio, _*r_, _+r_, _≤r_}
+use Rattle.math_series.specs.CarrierTruth.{largestRest, seriesDistance, narrowDistance, sineBy, cosineBy, Claim}
+use Rattle.math_series.proofs.Ratio.{_*r_, _+r_}
 use Rattle.math_series.proofs.Ratio as R
-use Rattle.math_series.proofs.Rounded.{ratio, inUnits, half}
-use Rattle.math_series.proofs.Nested.{nothing, nested, bound, more, sineInverse, cosineInverse, sine-falls, cosine-falls, square, square-one, sine-near, cosine-near}
-use Rattle.math_series.proofs.Signed.{_≈_, ≈-refl, ≈-sym, ≈-trans, ⊗-cong, ⊑-trans, within-same, within-wider, within-trans, within-opposite}
-use Rattle.math_series.proofs.Alternating.{nest, nest-cong, plain, plain-nested, sine-nest, cosine-nest}
-use Rattle.math_series.proofs.Valued.{withSign, value-is, value-neg, sign-times, sign-square, plain-le, sign-within}
-use Rattle.math_series.proofs.Narrowed.{narrow-finite, narrow-within}
+use Rattle.math_series.proofs.Rounded.{inUnits, half}
+use Rattle.math_series.proofs.Nested.{nothing, nested, bound, more, sineInverse, cosineInverse, sine-falls, cosine-falls, square-one, sine-near, cosine-near}
+use Rattle.math_series.proofs.Signed.{_≈_, ≈-refl, ≈-sym, ≈-trans, ⊗-cong, computed, within-same, within-wider, within-trans, within-opposite}
+use Rattle.math_series.proofs.Alternating.{nest-cong, plain, plain-nested, sine-nest, cosine-nest}
+use Rattle.math_series.proofs.Valued.{withSign, value-is, value-neg, sign-times, sign-square, sign-within}
+use Rattle.math_series.proofs.Narrowed.{at-most-finite, narrow-finite, narrow-within}
 
 -- ---- the distances, computed
 sine-distance : plain ((bound sineInverse 6 0 +r (nothing *r R.one)) +r half 1022) ⊑ seriesDistance
 unfolding bound sineInverse factorial
-sine-distance = record { le = lit≤ tt }
+sine-distance = computed (plain ((bound sineInverse 6 0 +r (nothing *r R.one)) +r half 1022)) seriesDistance refl
 
 cosine-distance : plain (bound cosineInverse 7 0) ⊑ seriesDistance
 unfolding bound cosineInverse factorial
-cosine-distance = record { le = lit≤ tt }
+cosine-distance = computed (plain (bound cosineInverse 7 0)) seriesDistance refl
 
 -- ---- ten or more terms
 more-is : (j i : ℕ) → more j i ≡ j + i
@@ -61,9 +61,6 @@ terms N j J h = ap suc (more-is j (N - suc j)) ∙ count N j J h
 module _ (r : Float) (s : Bool) (n : ℕ) (v : Val r s n) (small : n ≤ quarterUnits) (N : ℕ) (ten : 10 ≤ N) where
   n-one : n ≤ unity
   n-one = le-trans small (lit≤ {m = quarterUnits} {n = unity} tt)
-
-  w : Ratio
-  w = square n small 0
 
   r-is : value r ≈ withSign s (inUnits n)
   r-is = value-is r s n (2 ^ 1074) (pow-pos 1074) v
@@ -104,7 +101,7 @@ rest-within : (r : Float) (s : Bool) (n : ℕ) → Val r s n → n ≤ quarterUn
 rest-within r s n v h = within-same (≈-sym (value-is r s n (2 ^ 1074) (pow-pos 1074) v)) (zero-sign s) (within-wider rest-distance (sign-within s (inUnits n) nothing (inUnits quarterUnits) near))
   where
     rest-distance : plain (inUnits quarterUnits) ⊑ largestRest
-    rest-distance = record { le = lit≤ tt }
+    rest-distance = computed (plain (inUnits quarterUnits)) largestRest refl
 
     zero-sign : (s : Bool) → withSign s nothing ≈ nought
     zero-sign true = record { same = refl }
@@ -114,11 +111,8 @@ rest-within r s n v h = within-same (≈-sym (value-is r s n (2 ^ 1074) (pow-pos
     near = record { above = record { le = size-le n (2 ^ 1074) quarterUnits h }; below = record { le = none n (2 ^ 1074) quarterUnits } }
       where
         size-le : (n u q : ℕ) → n ≤ q → n * (1 * u) ≤ (0 * u + q * 1) * u
-        size-le n u q h = le-trans (le-of-eq (ap (λ (t : ℕ). n * t) (one-mul u))) (mul-le u (le-trans h (le-of-eq (grown u q))))
+        size-le n u q h = le-trans (le-of-eq (ap (λ (t : ℕ). n * t) (one-mul u))) (mul-le-mul-right u (le-trans h (le-of-eq (grown u q))))
           where
-            mul-le : {a b : ℕ} (k : ℕ) → a ≤ b → a * k ≤ b * k
-            mul-le k h = mul-le-mul-right k h
-
             grown : (u q : ℕ) → q ≡ 0 * u + q * 1
             grown u q = sym (ap (λ (t : ℕ). t + q * 1) (zero-mul u) ∙ zero-add (q * 1) ∙ mul-one q)
 
@@ -126,13 +120,15 @@ rest-within r s n v h = within-same (≈-sym (value-is r s n (2 ^ 1074) (pow-pos
         none n u q = le-trans (le-of-eq (zero-mul (u * u))) zero-le
 
 -- ---- by quadrant, narrowed
-pub record Sampled (x : Float) (y : Fraction) : Type 0 where
-  pub narrowed-finite : T (finite (narrow x))
-  pub narrowed : Within narrowDistance (value (narrow x)) (value x)
-  pub near : Within (narrowDistance ⊕ seriesDistance) (value (narrow x)) y
+record Sampled (x : Float) (y : Fraction) : Type 0 where
+  is-finite : T (finite x)
+  near : Within seriesDistance (value x) y
+  narrow-is-finite : T (finite (narrow x))
+  narrowed : Within narrowDistance (value (narrow x)) (value x)
+  sampled-near : Within (narrowDistance ⊕ seriesDistance) (value (narrow x)) y
 
 sampled : (x : Float) (y : Fraction) → AtMost 1 x → Within seriesDistance (value x) y → Sampled x y
-sampled x y w h = record { narrowed-finite = narrow-finite x w; narrowed = narrow-within x w; near = within-trans {y = value x} (narrow-within x w) h }
+sampled x y w h = record { is-finite = at-most-finite 1 x w; near = h; narrow-is-finite = narrow-finite x w; narrowed = narrow-within x w; sampled-near = within-trans {y = value x} (narrow-within x w) h }
 
 opposed : (x : Float) (y : Fraction) → AtMost 1 x → Within seriesDistance (value x) y → Sampled (neg x) (opposite y)
 opposed x y w h = sampled (neg x) (opposite y) (at-most-neg x 1 w) (within-same (≈-sym (value-neg x)) (≈-refl (opposite y)) (within-opposite h))
@@ -158,8 +154,7 @@ carrier-truth p F lo hi N ten =
     let c-size = cosine-le r (t .0) (t .1) (t .2) one in
     let s-near = s-within r (t .0) (t .1) (t .2) (t .3) N ten in
     let c-near = c-within r (t .0) (t .1) (t .2) (t .3) N ten in
-    let turned = by-quadrant (reduced p .q) (sineSum r) (cosineSum r) (sineSeries N (value r)) (cosineSeries N (value r)) (at-most-within (sineSum r) unity 1 (le-of-eq (sym (one-mul unity))) (t .0, sineUnits (t .1), s-val, s-size)) (at-most-within (cosineSum r) unity 1 (le-of-eq (sym (one-mul unity))) (false, cosineUnits (t .1), c-val, c-size)) s-near c-near in
-    (
+    let turned = by-quadrant (reduced p .q) (sineSum r) (cosineSum r) (sineSeries N (value r)) (cosineSeries N (value r)) (at-most-within (sineSum r) unity 1 (le-of-eq (sym (one-mul unity))) (t .0, sineUnits (t .1), s-val, s-size)) (at-most-within (cosineSum r) unity 1 (le-of-eq (sym (one-mul unity))) (false, cosineUnits (t .1), c-val, c-size)) s-near c-near in (
       record {
         r-finite = within-finite r quarterUnits t;
         r-small = rest-within r (t .0) (t .1) (t .2) (t .3);
@@ -169,11 +164,17 @@ carrier-truth p F lo hi N ten =
         c-near = c-near;
       },
       record {
-        sin-finite = turned .0 .narrowed-finite;
-        sin-narrowed = turned .0 .narrowed;
+        sin-finite = turned .0 .is-finite;
         sin-near = turned .0 .near;
-        cos-finite = turned .1 .narrowed-finite;
-        cos-narrowed = turned .1 .narrowed;
+        cos-finite = turned .1 .is-finite;
         cos-near = turned .1 .near;
-      }
+      },
+      record {
+        sin-finite = turned .0 .narrow-is-finite;
+        sin-narrowed = turned .0 .narrowed;
+        sin-near = turned .0 .sampled-near;
+        cos-finite = turned .1 .narrow-is-finite;
+        cos-narrowed = turned .1 .narrowed;
+        cos-near = turned .1 .sampled-near;
+      },
     )

@@ -5,4 +5,5 @@ mod Signed
 mod Alternating
 mod Valued
 mod Narrowed
+mod Examples
 pub mod CarrierTruth

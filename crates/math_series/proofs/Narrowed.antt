@@ -1,10 +1,10 @@
 -- A float of at most 1 in size, narrowed to `f32`, is at most 2^-25 away: half a unit in the last place below 1, and 1 itself is exact.
 use mathlib.Core.Path.{_≡_, refl, sym, ap, _∙_, subst}
-use mathlib.Core.Logic.{_⊎_, inl, inr}
+use mathlib.Core.Logic.{inl, inr}
 use Prim.Native.Nat.{ℕ, _+_, _-_, _*_, _/_, _^_, _≤_, _<_}
-use native.Mathlib.Nat.{le-trans, le-of-eq, lt-of-le-of-lt, lt-of-lt-of-le, eq-or-lt-of-le, mul-one, one-mul, zero-mul, mul-comm, mul-assoc, mul-le-mul-left, mul-lt-mul-of-pos-right, mul-pos, div-lt-iff-lt-mul}
+use native.Mathlib.Nat.{le-trans, le-of-eq, lt-of-lt-of-le, eq-or-lt-of-le, one-mul, mul-comm, mul-assoc, mul-le-mul-left, mul-le-mul-right, mul-lt-mul-of-pos-right, mul-pos, div-lt-iff-lt-mul}
 use native.Mathlib.Omega.{arith}
-use mathlib.Core.Bool.{Bool, true, false}
+use mathlib.Core.Bool.{Bool, false}
 use lib.Dec.{T, lit<, lit≤}
 use lib.Pow.{pow-pos, pow-mono}
 use lib.Ieee.{Float, nan, inf, fin, binary32, up, down, size, round}
@@ -17,11 +17,11 @@ use lib.Ieee.Scale.{grid, overflow, finite, round-under}
 use Rattle.float_rounding.proofs.Half.{closest-off}
 use Rattle.float_rounding.proofs.AtMost.{AtMost, rounds-whole, round-at-most}
 use Rattle.float_narrow.specs.Narrow.{narrow}
-use Rattle.math_series.specs.Fraction.{Fraction, over, _⊕_, _⊑_, Within, signed, value}
+use Rattle.math_series.specs.Fraction.{_⊑_, Within, signed, value}
 use Rattle.math_series.specs.CarrierTruth.{narrowDistance}
 use Rattle.math_series.proofs.Ratio.{Ratio, Near}
 use Rattle.math_series.proofs.Rounded.{ratio, round-above, round-below}
-use Rattle.math_series.proofs.Signed.{_≈_, ≈-sym, within-same, within-wider}
+use Rattle.math_series.proofs.Signed.{≈-refl, ≈-sym, computed, within-same, within-wider}
 use Rattle.math_series.proofs.Alternating.{plain}
 use Rattle.math_series.proofs.Valued.{value-is, sign-within}
 
@@ -56,7 +56,7 @@ near-narrow a c C h =
     record { above = record { le = round-above (2 ^ 149) (g32 a c) a c (2 ^ 125) (e .0) }; below = record { le = round-below (2 ^ 149) (g32 a c) a c (2 ^ 125) (e .1) } }
 
 -- ---- finite
-at-most-finite : (l : ℕ) (x : Float) → AtMost l x → T (finite x)
+pub at-most-finite : (l : ℕ) (x : Float) → AtMost l x → T (finite x)
 at-most-finite l nan w = w
 at-most-finite l (inf s) w = w
 at-most-finite l (fin s m e) w = tt
@@ -75,29 +75,23 @@ same-near x d = record { above = record { le = go (x .num) (x .den) (d .num) (d 
     plus a b = omega arith
 
     go : (a b c d : ℕ) → a * (b * d) ≤ (a * d + c * b) * b
-    go a b c d = le-trans (le-of-eq (ap (λ (t : ℕ). a * t) (mul-comm b d) ∙ sym (mul-assoc a d b))) (mul-le-right b (plus (a * d) (c * b)))
-      where
-        mul-le-right : {m n : ℕ} (k : ℕ) → m ≤ n → m * k ≤ n * k
-        mul-le-right {m} {n} k h = le-trans (le-of-eq (mul-comm m k)) (le-trans (mul-le-mul-left k h) (le-of-eq (mul-comm k n)))
+    go a b c d = le-trans (le-of-eq (ap (λ (t : ℕ). a * t) (mul-comm b d) ∙ sym (mul-assoc a d b))) (mul-le-mul-right b (plus (a * d) (c * b)))
 
 half-is : plain half32 ⊑ narrowDistance
-half-is = record { le = lit≤ tt }
+half-is = computed (plain half32) narrowDistance refl
 
 rounded-within : (s : Bool) (a c : ℕ) (C : 0 < c) → a ≤ c → Within narrowDistance (value (round binary32 s a c)) (signed s a c C)
 rounded-within s a c C h = elim (eq-or-lt-of-le h) [
   | inr l ↦
       within-wider half-is
-      (within-same (≈-sym (value-is (round binary32 s a c) s (g32 a c) (2 ^ 149) (pow-pos 149) (round-value s a c (round-under binary32 a c (round-finite false a c C h))))) (within-refl (signed s a c C))
+      (within-same (≈-sym (value-is (round binary32 s a c) s (g32 a c) (2 ^ 149) (pow-pos 149) (round-value s a c (round-under binary32 a c (round-finite false a c C h))))) (≈-refl (signed s a c C))
       (sign-within s (ratio (g32 a c) (2 ^ 149) (pow-pos 149)) (ratio a c C) half32 (near-narrow a c C l)))
   | inl e ↦
       within-wider half-is
-      (within-same (≈-sym (value-is (round binary32 s a c) s a c C (round-exact binary32 s a c 1 149 C (lit< tt) (lit< tt) (whole a c e)))) (within-refl (signed s a c C))
+      (within-same (≈-sym (value-is (round binary32 s a c) s a c C (round-exact binary32 s a c 1 149 C (lit< tt) (lit< tt) (whole a c e)))) (≈-refl (signed s a c C))
       (sign-within s (ratio a c C) (ratio a c C) half32 (same-near (ratio a c C) half32)))
 ]
   where
-    within-refl : (x : Fraction) → x ≈ x
-    within-refl x = record { same = refl }
-
     whole : (a c : ℕ) → a ≡ c → a * 2 ^ 149 ≡ 1 * 2 ^ 149 * c
     whole a c e = mul-comm a (2 ^ 149) ∙ ap (λ (t : ℕ). t * a) (sym (one-mul (2 ^ 149))) ∙ ap (λ (t : ℕ). 1 * 2 ^ 149 * t) e
 

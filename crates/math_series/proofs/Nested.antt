@@ -1,7 +1,7 @@
 -- The Horner sums of `math`, in units of 2 ^ -1074, against the series as nested fractions: a n - w * (a (n + 1) - w * ( .. )).
-use mathlib.Core.Path.{_≡_, refl, sym, ap, _∙_, subst}
+use mathlib.Core.Path.{_≡_, refl, sym, ap, _∙_}
 use Prim.Native.Nat.{ℕ, zero, suc, _+_, _-_, _*_, _^_, _≤_, _<_, zero-le}
-use native.Mathlib.Nat.{le-refl, le-trans, le-of-eq, lt-of-lt-of-le, lt-of-le-of-lt, mul-one, one-mul, zero-mul, mul-zero, zero-add, add-zero, mul-comm, mul-assoc, mul-le-mul-right, mul-le-mul-left, mul-le-mul, mul-lt-mul-of-pos-right, mul-pos, sub-le, sub-zero, zero-lt-suc}
+use native.Mathlib.Nat.{le-trans, le-of-eq, lt-of-lt-of-le, lt-of-le-of-lt, mul-one, one-mul, zero-mul, zero-add, add-zero, mul-comm, mul-assoc, mul-le-mul-right, mul-le-mul-left, mul-le-mul, mul-pos, sub-le, sub-zero, zero-lt-suc}
 use native.Mathlib.Omega.{arith}
 use lib.Dec.{lit<, lit≤}
 use lib.Pow.{pow-pos}
@@ -10,7 +10,7 @@ use Rattle.math.specs.Carrier.{factorial}
 use Rattle.math.proofs.Sums.{unity, times, hornerUnits, sineCount, cosineCount, sineUnits, cosineUnits}
 use Rattle.math.proofs.Constants.{quarterUnits}
 use Rattle.math_series.specs.Series.{factorial-pos}
-use Rattle.math_series.proofs.Ratio.{Ratio, _≤r_, _+r_, _-r_, _*r_, ≤r-refl, ≤r-trans, +r-mono, *r-mono, Near, near-trans, near-weaken, near-times, near-minus, one}
+use Rattle.math_series.proofs.Ratio.{Ratio, _≤r_, _+r_, _-r_, _*r_, ≤r-refl, ≤r-trans, *r-mono, Near, near-trans, near-weaken, near-times, near-minus, one}
 use Rattle.math_series.proofs.Rounded.{ratio, inUnits, half, near-round, near-of-both, product-under, step}
 
 abbrev pub nothing : Ratio

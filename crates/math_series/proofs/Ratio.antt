@@ -1,7 +1,7 @@
--- Fractions that are not negative, their order, and how an error goes through a sum, a difference and a product. Nothing here is about floats. Assumes nothing.
-use mathlib.Core.Path.{_≡_, refl, sym, ap, _∙_, subst}
-use Prim.Native.Nat.{ℕ, zero, suc, _+_, _-_, _*_, _^_, _≤_, _<_, zero-le}
-use native.Mathlib.Nat.{le-refl, le-trans, le-of-eq, mul-one, one-mul, zero-mul, mul-comm, mul-assoc, mul-left-comm, mul-right-comm, mul-le-mul-right, mul-le-mul-left, mul-le-mul, mul-mul-mul-comm, le-of-mul-le-mul-right, mul-pos, mul-sub, add-mul, mul-add, add-comm, add-assoc, add-left-comm}
+-- Fractions that are not negative, their order, and how a distance goes through a sum, a difference and a product. A difference below 0 is 0 here.
+use mathlib.Core.Path.{_≡_, sym, ap, _∙_}
+use Prim.Native.Nat.{ℕ, _+_, _-_, _*_, _≤_, _<_}
+use native.Mathlib.Nat.{le-refl, le-trans, le-of-eq, one-mul, mul-comm, mul-assoc, mul-left-comm, mul-le-mul-right, mul-le-mul, mul-mul-mul-comm, mul-pos, mul-sub, add-mul, mul-add, add-comm, add-assoc, add-left-comm}
 use native.Mathlib.Omega.{arith}
 use lib.Ieee.Positive.{through}
 
@@ -38,13 +38,16 @@ both : (a b c d : ℕ) → a ≤ b → c ≤ d → a + c ≤ b + d
 both a b c d h k = omega arith
 
 pub +r-mono : {x x' y y' : Ratio} → x ≤r x' → y ≤r y' → (x +r y) ≤r (x' +r y')
-+r-mono {x} {x'} {y} {y'} h k = record { le =
-    le-trans (le-of-eq (l (x .num) (x .den) (y .num) (y .den) (x' .den) (y' .den)))
-    (le-trans (both (x .num * x' .den * (y .den * y' .den)) (x' .num * x .den * (y .den * y' .den)) (y .num * y' .den * (x .den * x' .den)) (y' .num * y .den * (x .den * x' .den)) (mul-le-mul-right (y .den * y' .den) (h .le)) (mul-le-mul-right (x .den * x' .den) (k .le)))
-    (le-of-eq (sym (r (x' .num) (x' .den) (y' .num) (y' .den) (x .den) (y .den))))) }
++r-mono {x} {x'} {y} {y'} h k = record {
+  le =
+      le-trans (le-of-eq (l (x .num) (x .den) (y .num) (y .den) (x' .den) (y' .den)))
+      (le-trans (both (x .num * x' .den * (y .den * y' .den)) (x' .num * x .den * (y .den * y' .den)) (y .num * y' .den * (x .den * x' .den)) (y' .num * y .den * (x .den * x' .den)) (mul-le-mul-right (y .den * y' .den) (h .le)) (mul-le-mul-right (x .den * x' .den) (k .le)))
+      (le-of-eq (sym (r (x' .num) (x' .den) (y' .num) (y' .den) (x .den) (y .den)))));
+}
   where
     l : (a b c d b' d' : ℕ) → (a * d + c * b) * (b' * d') ≡ a * b' * (d * d') + c * d' * (b * b')
     l a b c d b' d' = simp ring
+
     r : (a b c d b' d' : ℕ) → (a * d + c * b) * (b' * d') ≡ a * b' * (d' * d) + c * d' * (b' * b)
     r a b c d b' d' = simp ring
 
@@ -82,24 +85,31 @@ minus-le x y z h = record { le = le-trans (le-of-eq (l (x .num) (x .den) (y .num
   where
     move : (a b c : ℕ) → a ≤ b + c → a - b ≤ c
     move a b c h = omega arith
+
     l : (a b c d n : ℕ) → (a * d - c * b) * n ≡ a * (d * n) - c * (n * b)
-    l a b c d n = mul-comm (a * d - c * b) n ∙ mul-sub n (a * d) (c * b) ∙ ap (λ (v : ℕ). v - n * (c * b)) (simp (mul-assoc, mul-comm, mul-left-comm)) ∙ ap (λ (v : ℕ). a * (d * n) - v) (simp (mul-assoc, mul-comm, mul-left-comm))
+    l a b c d n = mul-comm (a * d - c * b) n ∙ mul-sub n (a * d) (c * b) ∙ ap (λ (v : ℕ). v - n * (c * b)) (simp (mul-comm, mul-left-comm)) ∙ ap (λ (v : ℕ). a * (d * n) - v) (simp (mul-comm, mul-left-comm))
+
     r : (b c d m n : ℕ) → (c * n + m * d) * b ≡ c * (n * b) + m * (d * b)
     r b c d m n = simp ring
+
     t : (b d m : ℕ) → m * (d * b) ≡ m * (b * d)
     t b d m = ap (λ (v : ℕ). m * v) (mul-comm d b)
 
 -- b ≤ y + (b - y)
 pub minus-plus : (b y : Ratio) → b ≤r (y +r (b -r y))
-minus-plus b y = record { le =
-    le-trans (le-of-eq (l (b .num) (b .den) (y .den)))
-    (le-trans (mul-le-mul-right (y .den * b .den) (back (b .num * y .den) (y .num * b .den)))
-    (le-of-eq (r (b .den) (y .num) (y .den) (b .num * y .den - y .num * b .den)))) }
+minus-plus b y = record {
+  le =
+      le-trans (le-of-eq (l (b .num) (b .den) (y .den)))
+      (le-trans (mul-le-mul-right (y .den * b .den) (back (b .num * y .den) (y .num * b .den)))
+      (le-of-eq (r (b .den) (y .num) (y .den) (b .num * y .den - y .num * b .den))));
+}
   where
     back : (p q : ℕ) → p ≤ q + (p - q)
     back p q = omega arith
+
     l : (a b d : ℕ) → a * (d * (b * d)) ≡ a * d * (d * b)
     l a b d = simp (mul-assoc, mul-comm, mul-left-comm)
+
     r : (b c d m : ℕ) → (c * b + m) * (d * b) ≡ (c * (b * d) + m * d) * b
     r b c d m = simp ring
 
@@ -107,9 +117,6 @@ minus-plus b y = record { le =
 pub record Near (x y d : Ratio) : Type 0 where
   pub above : x ≤r (y +r d)
   pub below : y ≤r (x +r d)
-
-pub near-sym : {x y d : Ratio} → Near x y d → Near y x d
-near-sym n = record { above = n .below; below = n .above }
 
 -- x ≤ y + d and y ≤ z + e give x ≤ z + (e + d)
 chain : (x y z d e : Ratio) → x ≤r (y +r d) → y ≤r (z +r e) → x ≤r (z +r (e +r d))

@@ -1,7 +1,7 @@
 -- One rounding, and one step of a Horner sum whose coefficients alternate in sign, in units of 2 ^ -1074: how far each goes.
 use mathlib.Core.Path.{_≡_, sym, ap, _∙_}
-use Prim.Native.Nat.{ℕ, suc, _+_, _-_, _*_, _^_, _≤_, _<_}
-use native.Mathlib.Nat.{le-trans, le-of-eq, lt-of-lt-of-le, lt-of-le-of-lt, mul-comm, mul-assoc, mul-left-comm, mul-le-mul-right, mul-le-mul, mul-lt-mul-of-pos-right, mul-pos, mul-sub, sub-le, add-mul, mul-add}
+use Prim.Native.Nat.{ℕ, _+_, _-_, _*_, _^_, _≤_, _<_}
+use native.Mathlib.Nat.{le-trans, le-of-eq, lt-of-le-of-lt, mul-comm, mul-assoc, mul-left-comm, mul-le-mul-right, mul-le-mul, mul-lt-mul-of-pos-right, mul-pos, mul-sub, sub-le, add-mul}
 use lib.Dec.{lit<}
 use lib.Pow.{pow-pos}
 use Rattle.float_rounding.proofs.Units.{G}
@@ -27,7 +27,7 @@ round-above u g a c p h = le-trans (le-of-eq (l u g c)) (le-trans (mul-le-mul-ri
     l u g c = simp (mul-assoc, mul-comm, mul-left-comm)
 
     r : (u a c p : ℕ) → (a * u * 2 + c * p) * u ≡ (a * (2 * u) + p * c) * u
-    r u a c p = simp (add-mul, mul-add, mul-assoc, mul-comm, mul-left-comm)
+    r u a c p = simp (add-mul, mul-assoc, mul-comm, mul-left-comm)
 
 pub round-below : (u g a c p : ℕ) → a * u * 2 ≤ g * c * 2 + c * p → a * (u * (2 * u)) ≤ (g * (2 * u) + p * u) * c
 round-below u g a c p h = le-trans (le-of-eq (l u a)) (le-trans (mul-le-mul-right u h) (le-of-eq (r u g c p)))
@@ -36,7 +36,7 @@ round-below u g a c p h = le-trans (le-of-eq (l u a)) (le-trans (mul-le-mul-righ
     l u a = simp (mul-assoc, mul-comm, mul-left-comm)
 
     r : (u g c p : ℕ) → (g * c * 2 + c * p) * u ≡ (g * (2 * u) + p * u) * c
-    r u g c p = simp (add-mul, mul-add, mul-assoc, mul-comm, mul-left-comm)
+    r u g c p = simp (add-mul, mul-assoc, mul-comm, mul-left-comm)
 
 pub near-round : (a c t : ℕ) (C : 0 < c) → a * 2 ^ 1074 < 2 ^ (53 + t) * c → Near (inUnits (G a c)) (ratio a c C) (half t)
 near-round a c t C h =

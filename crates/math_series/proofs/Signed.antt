@@ -1,9 +1,10 @@
 -- Laws of signed fractions: when two are the same number, order, and how a distance is carried over.
-use mathlib.Core.Path.{_≡_, refl, sym, ap, _∙_}
+use mathlib.Core.Path.{_≡_, refl, sym, ap, _∙_, subst}
 use Prim.Native.Nat.{ℕ, _+_, _-_, _*_, _≤_, _<_}
 use native.Mathlib.Nat.{le-refl, le-trans, le-of-eq, le-antisymm, mul-one, one-mul, zero-mul, mul-zero, zero-add, add-zero, mul-comm, mul-assoc, mul-left-comm, mul-le-mul-right, le-of-mul-le-mul-right, add-mul, mul-add, add-comm, add-assoc, add-left-comm}
 use native.Mathlib.Omega.{arith}
-use mathlib.Core.Bool.{Bool, true, false}
+use mathlib.Core.Bool.{true}
+use lib.Dec.{T, leb, leb→le}
 use Rattle.math_series.specs.Fraction.{Fraction, over, nought, one, opposite, _⊕_, _⊗_, _⊑_, Within, signed}
 
 ruleset ring = (add-mul, mul-add, mul-assoc, mul-comm, mul-left-comm, add-assoc, add-comm, add-left-comm)
@@ -43,14 +44,20 @@ pub ⊑-trans : {x y z : Fraction} → x ⊑ y → y ⊑ z → x ⊑ z
 pub ⊑-refl : (x : Fraction) → x ⊑ x
 ⊑-refl x = record { le = le-refl (x .plus * x .den + x .minus * x .den) }
 
+-- closed fractions are compared by computing
+pub computed : (x y : Fraction) → leb (x .plus * y .den + y .minus * x .den) (y .plus * x .den + x .minus * y .den) ≡ true → x ⊑ y
+computed x y e = record { le = leb→le (x .plus * y .den + y .minus * x .den) (y .plus * x .den + x .minus * y .den) (subst T (sym e) tt) }
+
 both : (a b c d : ℕ) → a ≤ b → c ≤ d → a + c ≤ b + d
 both a b c d h k = omega arith
 
 pub ⊕-mono : {x x' y y' : Fraction} → x ⊑ x' → y ⊑ y' → (x ⊕ y) ⊑ (x' ⊕ y')
-⊕-mono {x} {x'} {y} {y'} h k = record { le =
-    le-trans (le-of-eq (l (x .plus) (x .den) (y .plus) (y .den) (x' .minus) (x' .den) (y' .minus) (y' .den)))
-    (le-trans (both ((x .plus * x' .den + x' .minus * x .den) * (y .den * y' .den)) ((x' .plus * x .den + x .minus * x' .den) * (y .den * y' .den)) ((y .plus * y' .den + y' .minus * y .den) * (x .den * x' .den)) ((y' .plus * y .den + y .minus * y' .den) * (x .den * x' .den)) (mul-le-mul-right (y .den * y' .den) (h .le)) (mul-le-mul-right (x .den * x' .den) (k .le)))
-    (le-of-eq (r (x' .plus) (x' .den) (y' .plus) (y' .den) (x .minus) (x .den) (y .minus) (y .den)))) }
+⊕-mono {x} {x'} {y} {y'} h k = record {
+  le =
+      le-trans (le-of-eq (l (x .plus) (x .den) (y .plus) (y .den) (x' .minus) (x' .den) (y' .minus) (y' .den)))
+      (le-trans (both ((x .plus * x' .den + x' .minus * x .den) * (y .den * y' .den)) ((x' .plus * x .den + x .minus * x' .den) * (y .den * y' .den)) ((y .plus * y' .den + y' .minus * y .den) * (x .den * x' .den)) ((y' .plus * y .den + y .minus * y' .den) * (x .den * x' .den)) (mul-le-mul-right (y .den * y' .den) (h .le)) (mul-le-mul-right (x .den * x' .den) (k .le)))
+      (le-of-eq (r (x' .plus) (x' .den) (y' .plus) (y' .den) (x .minus) (x .den) (y .minus) (y .den))));
+}
   where
     l : (a c e g b' c' f' g' : ℕ) → (a * g + e * c) * (c' * g') + (b' * g' + f' * c') * (c * g) ≡ (a * c' + b' * c) * (g * g') + (e * g' + f' * g) * (c * c')
     l a c e g b' c' f' g' = simp ring
@@ -94,11 +101,13 @@ pub ⊗-comm : (x y : Fraction) → (x ⊗ y) ≈ (y ⊗ x)
     go a b c d e f = simp ring
 
 ⊗-first : {x x' : Fraction} (y : Fraction) → x ≈ x' → (x ⊗ y) ≈ (x' ⊗ y)
-⊗-first {x} {x'} y e = record { same =
-    l (x .plus) (x .minus) (x .den) (x' .plus) (x' .minus) (x' .den) (y .plus) (y .minus) (y .den)
-    ∙ ap (λ (t : ℕ). (t * y .plus + (x' .plus * x .den + x .minus * x' .den) * y .minus) * y .den) (e .same)
-    ∙ ap (λ (t : ℕ). ((x' .plus * x .den + x .minus * x' .den) * y .plus + t * y .minus) * y .den) (sym (e .same))
-    ∙ sym (r (x .plus) (x .minus) (x .den) (x' .plus) (x' .minus) (x' .den) (y .plus) (y .minus) (y .den)) }
+⊗-first {x} {x'} y e = record {
+  same =
+      l (x .plus) (x .minus) (x .den) (x' .plus) (x' .minus) (x' .den) (y .plus) (y .minus) (y .den)
+      ∙ ap (λ (t : ℕ). (t * y .plus + (x' .plus * x .den + x .minus * x' .den) * y .minus) * y .den) (e .same)
+      ∙ ap (λ (t : ℕ). ((x' .plus * x .den + x .minus * x' .den) * y .plus + t * y .minus) * y .den) (sym (e .same))
+      ∙ sym (r (x .plus) (x .minus) (x .den) (x' .plus) (x' .minus) (x' .den) (y .plus) (y .minus) (y .den));
+}
   where
     l : (a b c d e f g h i : ℕ) → (a * g + b * h) * (f * i) + (d * h + e * g) * (c * i) ≡ ((a * f + e * c) * g + (d * c + b * f) * h) * i
     l a b c d e f g h i = simp ring
@@ -115,12 +124,6 @@ pub ⊗-assoc : (x y z : Fraction) → (x ⊗ y ⊗ z) ≈ (x ⊗ (y ⊗ z))
     go : (a b c d e f g h i : ℕ) → ((a * d + b * e) * g + (a * e + b * d) * h) * (c * (f * i)) + (a * (d * h + e * g) + b * (d * g + e * h)) * (c * f * i)
         ≡ (a * (d * g + e * h) + b * (d * h + e * g)) * (c * f * i) + ((a * d + b * e) * h + (a * e + b * d) * g) * (c * (f * i))
     go a b c d e f g h i = simp ring
-
-pub ⊗-one : (x : Fraction) → (x ⊗ one) ≈ x
-⊗-one x = record { same = go (x .plus) (x .minus) (x .den) }
-  where
-    go : (a b c : ℕ) → (a * 1 + b * 0) * c + b * (c * 1) ≡ a * (c * 1) + (a * 0 + b * 1) * c
-    go a b c = simp ring0
 
 pub ⊗-nought : (x : Fraction) → (x ⊗ nought) ≈ nought
 ⊗-nought x = record { same = go (x .plus) (x .minus) (x .den) }

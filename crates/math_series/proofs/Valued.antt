@@ -1,14 +1,14 @@
 -- A float's value as a signed fraction, and distances carried over from sizes to values.
 use mathlib.Core.Path.{_≡_, refl, sym, ap, _∙_, subst}
-use Prim.Native.Nat.{ℕ, _+_, _*_, _^_, _≤_, _<_, zero-le}
-use native.Mathlib.Nat.{le-trans, le-of-eq, zero-mul, mul-zero, add-zero, zero-add, mul-comm, mul-assoc}
-use mathlib.Core.Bool.{Bool, true, false, not}
+use Prim.Native.Nat.{ℕ, _+_, _*_, _<_}
+use native.Mathlib.Nat.{le-trans, le-of-eq, zero-mul, mul-zero, add-zero, zero-add}
+use mathlib.Core.Bool.{Bool, true, false}
 use lib.Ieee.{Float, nan, inf, fin, up, down, neg}
 use lib.Ieee.Exact.{HasValue}
 use lib.Ieee.Fits.{down-pos}
 use Rattle.math_series.specs.Fraction.{Fraction, over, opposite, _⊕_, _⊗_, _⊑_, Within, signed, value}
 use Rattle.math_series.proofs.Ratio.{Ratio, _≤r_, _+r_, _*r_, Near}
-use Rattle.math_series.proofs.Signed.{_≈_, ≈-refl, ≈-sym, ≈-trans, opposite-cong, ⊗-comm, ⊗-opposite, within-opposite}
+use Rattle.math_series.proofs.Signed.{_≈_, ≈-sym, ≈-trans, opposite-cong, ⊗-comm, ⊗-opposite, within-opposite}
 use Rattle.math_series.proofs.Alternating.{plain, plain-times}
 
 -- a size with a sign
@@ -51,12 +51,6 @@ sign-square true x = record { same = go (x .num) (x .den) }
     go a b = simp (mul-zero, zero-mul, add-zero, zero-add)
 
 -- ---- distances
-pub plain-le : {x y : Ratio} → x ≤r y → plain x ⊑ plain y
-plain-le {x} {y} h = record { le = le-trans (le-of-eq (e (x .num * y .den) (x .den))) (le-trans (h .le) (le-of-eq (sym (e (y .num * x .den) (y .den))))) }
-  where
-    e : (a b : ℕ) → a + 0 * b ≡ a
-    e a b = ap (λ (t : ℕ). a + t) (zero-mul b) ∙ add-zero a
-
 plain-sum : (x y d : Ratio) → x ≤r (y +r d) → plain x ⊑ plain y ⊕ plain d
 plain-sum x y d h = record { le = le-trans (le-of-eq (l (x .num * (y .den * d .den)) (y .den) (d .den) (x .den))) (le-trans (h .le) (le-of-eq (sym (r ((y .num * d .den + d .num * y .den) * x .den) (y .den * d .den))))) }
   where

@@ -46,15 +46,29 @@ cosineBy (suc zero) s c = opposite s
 cosineBy (suc (suc zero)) s c = opposite c
 cosineBy (suc (suc (suc q))) s c = s
 
--- what is shown of the `f32` sine and cosine by which a sample of phase p is multiplied: their distance from the `f64` ones, and from the series
+-- the two series of r, cut after N terms, by the quadrant q of p
+abbrev pub exactSine : Float → ℕ → Fraction
+exactSine p N = sineBy (reduced p .q) (sineSeries N (value (reduced p .r))) (cosineSeries N (value (reduced p .r)))
+
+abbrev pub exactCosine : Float → ℕ → Fraction
+exactCosine p N = cosineBy (reduced p .q) (sineSeries N (value (reduced p .r))) (cosineSeries N (value (reduced p .r)))
+
+-- what is shown of the answer of `math::sin_cos`
+pub record FunctionTruth (p : Float) (N : ℕ) : Type 0 where
+  pub sin-finite : T (finite (sinCos p .sin))
+  pub sin-near : Within seriesDistance (value (sinCos p .sin)) (exactSine p N)
+  pub cos-finite : T (finite (sinCos p .cos))
+  pub cos-near : Within seriesDistance (value (sinCos p .cos)) (exactCosine p N)
+
+-- what is shown of the `f32` sine and cosine by which a sample of phase p is multiplied: their distance from that answer, and from the series
 pub record SampleTruth (p : Float) (N : ℕ) : Type 0 where
   pub sin-finite : T (finite (narrow (sinCos p .sin)))
   pub sin-narrowed : Within narrowDistance (value (narrow (sinCos p .sin))) (value (sinCos p .sin))
-  pub sin-near : Within (narrowDistance ⊕ seriesDistance) (value (narrow (sinCos p .sin))) (sineBy (reduced p .q) (sineSeries N (value (reduced p .r))) (cosineSeries N (value (reduced p .r))))
+  pub sin-near : Within (narrowDistance ⊕ seriesDistance) (value (narrow (sinCos p .sin))) (exactSine p N)
   pub cos-finite : T (finite (narrow (sinCos p .cos)))
   pub cos-narrowed : Within narrowDistance (value (narrow (sinCos p .cos))) (value (sinCos p .cos))
-  pub cos-near : Within (narrowDistance ⊕ seriesDistance) (value (narrow (sinCos p .cos))) (cosineBy (reduced p .q) (sineSeries N (value (reduced p .r))) (cosineSeries N (value (reduced p .r))))
+  pub cos-near : Within (narrowDistance ⊕ seriesDistance) (value (narrow (sinCos p .cos))) (exactCosine p N)
 
 -- for every `f64` from -PI to PI and every cut after ten or more terms
 abbrev pub Claim : Type 0
-Claim = (p : Float) → T (fits binary64 p) → T (le (neg pi) p) → T (le p pi) → (N : ℕ) → 10 ≤ N → CarrierTruth p N × SampleTruth p N
+Claim = (p : Float) → T (fits binary64 p) → T (le (neg pi) p) → T (le p pi) → (N : ℕ) → 10 ≤ N → CarrierTruth p N × FunctionTruth p N × SampleTruth p N
