@@ -15,7 +15,8 @@
 
 /* Declares the proved function; defines the one that callers reach, a test and a jump; and the one that sets and restores. */
 #define GUARDED(type, name, parameters, arguments)                   \
-    __asm__(".globl more1090_" #name "\n"                            \
+    __asm__(".text\n"                                                \
+            ".globl more1090_" #name "\n"                            \
             ".type more1090_" #name ", @function\n"                  \
             "more1090_" #name ":\n"                                  \
             "    stmxcsr -4(%rsp)\n"                                 \
