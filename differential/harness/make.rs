@@ -334,11 +334,12 @@ fn faint(r: &mut Random) -> Tape {
     s.carrier = asked(0, r.pick(&[1e-38, -1e-36, 1e-34, 1e-32]), 0.0);
     s.phase = asked(0, r.pick(&[0.0, -0.0]), 0.0);
     s.clock = asked(1, MODE_AC_LIMIT, 0.0);
+    let taps = taps(r);
     let draws = draws(r, &s, samples);
     let noise = noise(r, samples).iter().map(|x| x * 1e-40).collect();
     Tape {
         settings: s,
-        taps: taps(r),
+        taps,
         draws,
         noise,
     }
