@@ -18,26 +18,38 @@ use Rattle.math.proofs.Constants.{quarterUnits, piUnits, pi-val}
 use Rattle.math.proofs.InRange.{within-of-tests}
 use Rattle.math.proofs.Reduction.{reduced-within}
 use Rattle.math.proofs.Sums.{unity, sineUnits, cosineUnits, sine-val, sine-le, cosine-val, cosine-le}
-use Rattle.math_series.specs.Fraction.{Fraction, nought, opposite, _⊕_, _⊗_, _⊑_, Within, value}
+use Rattle.math_series.specs.Fraction.{Fraction, over, nought, opposite, _⊕_, _⊗_, _⊑_, Within, value}
 use Rattle.math_series.specs.Series.{inverseFactorial, sineSeries, cosineSeries}
 use Rattle.math_series.specs.CarrierTruth.{largestRest, seriesDistance, narrowDistance, sineBy, cosineBy, Claim}
 use Rattle.math_series.proofs.Ratio.{_*r_, _+r_}
 use Rattle.math_series.proofs.Ratio as R
 use Rattle.math_series.proofs.Rounded.{inUnits, half}
 use Rattle.math_series.proofs.Nested.{nothing, nested, bound, more, sineInverse, cosineInverse, sine-falls, cosine-falls, square-one, sine-near, cosine-near}
-use Rattle.math_series.proofs.Signed.{_≈_, ≈-refl, ≈-sym, ≈-trans, ⊗-cong, computed, within-same, within-wider, within-trans, within-opposite}
+use Rattle.math_series.proofs.Signed.{_≈_, ≈-refl, ≈-sym, ≈-trans, ⊗-cong, ⊑-trans, computed, within-same, within-wider, within-trans, within-opposite}
 use Rattle.math_series.proofs.Alternating.{nest-cong, plain, plain-nested, sine-nest, cosine-nest}
 use Rattle.math_series.proofs.Valued.{withSign, value-is, value-neg, sign-times, sign-square, sign-within}
 use Rattle.math_series.proofs.Narrowed.{at-most-finite, narrow-finite, narrow-within}
 
--- ---- the distances, computed
-sine-distance : plain ((bound sineInverse 6 0 +r (nothing *r R.one)) +r half 1022) ⊑ seriesDistance
-unfolding bound sineInverse factorial
-sine-distance = computed (plain ((bound sineInverse 6 0 +r (nothing *r R.one)) +r half 1022)) seriesDistance refl
+-- ---- the distances, computed: those that the steps lead to, in parts of 2 ^ 60, and that they are less than those claimed
+abbrev sineReached : Fraction
+sineReached = over 53810 (2 ^ 60) (pow-pos 60)
 
-cosine-distance : plain (bound cosineInverse 7 0) ⊑ seriesDistance
+abbrev cosineReached : Fraction
+cosineReached = over 3208 (2 ^ 60) (pow-pos 60)
+
+sine-reached : plain ((bound sineInverse 6 0 +r (nothing *r R.one)) +r half 1022) ⊑ sineReached
+unfolding bound sineInverse factorial
+sine-reached = computed (plain ((bound sineInverse 6 0 +r (nothing *r R.one)) +r half 1022)) sineReached refl
+
+cosine-reached : plain (bound cosineInverse 7 0) ⊑ cosineReached
 unfolding bound cosineInverse factorial
-cosine-distance = computed (plain (bound cosineInverse 7 0)) seriesDistance refl
+cosine-reached = computed (plain (bound cosineInverse 7 0)) cosineReached refl
+
+sine-distance : sineReached ⊑ seriesDistance
+sine-distance = computed sineReached seriesDistance refl
+
+cosine-distance : cosineReached ⊑ seriesDistance
+cosine-distance = computed cosineReached seriesDistance refl
 
 -- ---- ten or more terms
 more-is : (j i : ℕ) → more j i ≡ j + i
@@ -84,14 +96,14 @@ module _ (r : Float) (s : Bool) (n : ℕ) (v : Val r s n) (small : n ≤ quarter
 
   pub s-within : Within seriesDistance (value (sineSum r)) (sineSeries N (value r))
   s-within =
-      within-wider sine-distance
+      within-wider (⊑-trans sine-reached sine-distance)
       (within-same (≈-sym (value-is (sineSum r) s (sineUnits n) (2 ^ 1074) (pow-pos 1074) (sine-val r s n v n-one))) (≈-sym sine-series)
       (sign-within s (inUnits (sineUnits n)) (inUnits n *r nested sineInverse N 0 (inUnits n *r inUnits n)) ((bound sineInverse 6 0 +r (nothing *r R.one)) +r half 1022)
       (subst (λ (m : ℕ). R.Near (inUnits (sineUnits n)) (inUnits n *r nested sineInverse m 0 (inUnits n *r inUnits n)) ((bound sineInverse 6 0 +r (nothing *r R.one)) +r half 1022)) (terms N 6 (lit≤ tt) ten) (sine-near n small (N - 7)))))
 
   pub c-within : Within seriesDistance (value (cosineSum r)) (cosineSeries N (value r))
   c-within =
-      within-wider cosine-distance
+      within-wider (⊑-trans cosine-reached cosine-distance)
       (within-same (≈-sym (value-is (cosineSum r) false (cosineUnits n) (2 ^ 1074) (pow-pos 1074) (cosine-val r s n v n-one))) (≈-sym cosine-series)
       (sign-within false (inUnits (cosineUnits n)) (nested cosineInverse N 0 (inUnits n *r inUnits n)) (bound cosineInverse 7 0)
       (subst (λ (m : ℕ). R.Near (inUnits (cosineUnits n)) (nested cosineInverse m 0 (inUnits n *r inUnits n)) (bound cosineInverse 7 0)) (terms N 7 (lit≤ tt) ten) (cosine-near n small (N - 8)))))
