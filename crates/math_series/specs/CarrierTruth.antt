@@ -24,7 +24,7 @@ seriesDistance = over 1 (2 ^ 40) (pow-pos 40)
 abbrev pub narrowDistance : Fraction
 narrowDistance = over 1 (2 ^ 25) (pow-pos 25)
 
--- what is shown of a phase p and N terms; r is what the reduction leaves, S and C are the Horner sums of r (SPECIFICATION 6.11)
+-- What is shown of a phase p and N terms. `reduced p .r` is r, the number that the reduction leaves; `sineSum` and `cosineSum` of it are S and C (SPECIFICATION 6.11).
 pub record CarrierTruth (p : Float) (N : ℕ) : Type 0 where
   pub r-finite : T (finite (reduced p .r))
   pub r-small : Within largestRest (value (reduced p .r)) nought
@@ -69,6 +69,6 @@ pub record SampleTruth (p : Float) (N : ℕ) : Type 0 where
   pub cos-narrowed : Within narrowDistance (value (narrow (sinCos p .cos))) (value (sinCos p .cos))
   pub cos-near : Within (narrowDistance ⊕ seriesDistance) (value (narrow (sinCos p .cos))) (exactCosine p N)
 
--- for every `f64` from -PI to PI and every cut after ten or more terms
+-- For every p of the format `f64` with -PI <= p <= PI, by the language's comparison, which no NaN passes, and every cut after ten or more terms.
 abbrev pub Claim : Type 0
 Claim = (p : Float) → T (fits binary64 p) → T (le (neg pi) p) → T (le p pi) → (N : ℕ) → 10 ≤ N → CarrierTruth p N × FunctionTruth p N × SampleTruth p N

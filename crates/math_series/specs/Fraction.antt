@@ -43,12 +43,13 @@ pub record Within (d x y : Fraction) : Type 0 where
   pub no-more : x ⊑ y ⊕ d
   pub no-less : y ⊑ x ⊕ d
 
--- m times 2^e, which is up e / down e, with its sign
+-- a / b with a sign, which is true for negative
 abbrev pub signed : Bool → (a b : ℕ) → 0 < b → Fraction
 signed false a b B = over a b B
 signed true a b B = opposite (over a b B)
 
--- what a finite float is worth. A NaN and an infinity are worth nothing; a claim on a value says beside it that the float is finite
+-- The value of a finite float: `fin s m e` is m times 2^e with the sign s, and 2^e is up e / down e. A NaN and an infinity have none, and are given 0 here: a
+-- claim on a value says beside it that the float is finite.
 unfoldable pub value : Float → Fraction
 value nan = nought
 value (inf s) = nought
