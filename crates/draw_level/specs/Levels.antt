@@ -1,4 +1,4 @@
--- Levels in tenths of a decibel (SPECIFICATION 7.11): the table for 0.0 to 19.9 dB, the f32 amplitude of a level, and what the level function answers.
+-- Levels in tenths of a decibel (SPECIFICATION 6.14): the table for 0.0 to 19.9 dB, the f32 amplitude of a level, and what the level function answers.
 use mathlib.Core.Bool.{false, cond}
 use mathlib.Core.List.{List, [], _∷_}
 use Prim.Native.Nat.{ℕ, suc, _*_, _/_, _%_, _^_, _≤_, _<_}

@@ -1,4 +1,4 @@
-// Levels in tenths of a decibel, and the f32 amplitude of each (SPECIFICATION 7.11).
+// Levels in tenths of a decibel, and the f32 amplitude of each (SPECIFICATION 6.14).
 ghost use mathlib.Core.Path.{_≡_};
 ghost use Prim.Native.Nat.{_<_, _≤_, _*_, _^_};
 ghost use lib.Ieee.Nearest.{closest};

@@ -5,6 +5,7 @@ use native.Mathlib.Nat.{le-trans, le-of-eq, le-antisymm, le-of-suc-le-suc, lt-of
 use native.Mathlib.Omega.{arith}
 use borrow.Author.Tests.{lt-ltb, le-ltb}
 use lib.Dec.{lit<, lit≤}
+use lib.Ieee.{round, ofBits}
 use Rattle.refusals.specs.declared.Refusal.the-variants.{Level}
 use Rattle.refusals.specs.Answer.{accepted, refused}
 use Rattle.draw_level.specs.Levels.{table, scale, entryOf, Entry, amplitudeOf, levelOf}
@@ -42,13 +43,18 @@ within n h =
     within-of n (n % 200) (n / 200) (entryOf (n % 200)) (sym (div-add-mod' n 200)) (entry-rule (n % 200) k) (entry-bounds (n % 200) k .0) (amplitudeOf n) (nearest n h)
 
 pub level-laws : LevelLaws
-unfolding table levelOf
+unfolding table entryOf amplitudeOf levelOf round ofBits
 level-laws = record {
   entries = refl;
   rule = entry-rule;
   only = λ k t h e. le-antisymm (no-more k t (entryOf k) e (entry-rule k h)) (no-more k (entryOf k) t (entry-rule k h) e);
   nearest = nearest;
   within = within;
+  bits-0 = refl;
+  bits-315 = refl;
+  bits-343 = refl;
+  bits-601 = refl;
+  bits-2000 = refl;
   accepts = λ n h. rw (le-ltb 2000 n h);
   refuses = λ n h. rw (lt-ltb 2000 n h);
 }

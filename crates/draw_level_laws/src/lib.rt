@@ -1,1 +1,1 @@
-// What holds of the table of levels and of every level's amplitude (SPECIFICATION 7.11). It has no code: the claim is specs/LevelLaws, its proof proofs/LevelLaws.
+// What holds of the table of levels and of every level's amplitude (SPECIFICATION 6.14). It has no code: the claim is specs/LevelLaws, its proof proofs/LevelLaws.
