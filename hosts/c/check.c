@@ -59,10 +59,8 @@ static more1090_run_result called(more1090_state state, size_t d, size_t n, size
 
 static void check_calls(void) {
     make_settings(settings);
-    level at;
-    expect("a level of 90 dB", MORE1090_OK, make_level(&at, 900));
-    make_draw(draws, 0, at);
-    make_draw(draws + MORE1090_DRAW_LEN, 1, at);
+    make_draw(draws, 0);
+    make_draw(draws + MORE1090_DRAW_LEN, 1);
     const more1090_state state =
         more1090_open(settings, MORE1090_SETTINGS_LEN, taps_s, MORE1090_MODE_S_TAPS_LEN, taps_ac, MORE1090_MODE_AC_TAPS_LEN, mode_s,
                       MORE1090_PROTOTYPE_LEN, mode_ac, MORE1090_PROTOTYPE_LEN, memory, MORE1090_MEMORY_LEN)
@@ -71,7 +69,7 @@ static void check_calls(void) {
     expect("no draws, no noise, no records", MORE1090_STOP_WANTS_DRAWS, called(state, 0, 0, 400, 0).stop);
     expect("no noise", MORE1090_STOP_WANTS_NOISE, called(state, sizeof draws, 0, 400, sizeof records).stop);
     expect("no output", MORE1090_ERR_LENGTH, called(state, sizeof draws, 2, 0, sizeof records).refusal);
-    expect("noise for one sample", 1, called(state, sizeof draws, 2, 400, 0).samples);
+    expect("noise for one sample", 1, called(state, sizeof draws, 2, 400, 0).samples_written);
     put_f64(draws, 20.0); /* a first reply that starts within 32 samples: its record comes before any sample */
     expect("no records", MORE1090_STOP_RECORDS_FULL, called(state, sizeof draws, 2, 400, 0).stop);
     expect("nothing", MORE1090_ERR_LENGTH,

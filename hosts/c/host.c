@@ -54,8 +54,7 @@ int main(int argc, char **argv) {
     static float mode_s[MORE1090_PROTOTYPE_LEN], mode_ac[MORE1090_PROTOTYPE_LEN], memory[MORE1090_MEMORY_LEN];
     uint8_t settings[MORE1090_SETTINGS_LEN], draws[DRAWS * MORE1090_DRAW_LEN], record[MORE1090_RECORD_LEN];
     float noise[NOISE], output[2 * SAMPLES];
-    level at;
-    const uint64_t too_high = make_level(&at, argc > 2 ? tenths_of(argv[2]) : LEVEL);
+    const uint64_t tenths = argc > 2 ? tenths_of(argv[2]) : LEVEL, too_high = set_level(draws, tenths);
     if (too_high != MORE1090_OK)
         return refused(too_high, 0);
     FILE *out = argc > 1 ? fopen(argv[1], "wb") : stdout;
@@ -77,8 +76,10 @@ int main(int argc, char **argv) {
         size_t left = DRAWS - ran.draws_taken, quiet = NOISE - ran.noise_used;
         memmove(draws, draws + ran.draws_taken * MORE1090_DRAW_LEN, left * MORE1090_DRAW_LEN);
         memmove(noise, noise + ran.noise_used, quiet * sizeof *noise);
-        for (; left < DRAWS; left++)
-            make_draw(draws + left * MORE1090_DRAW_LEN, n++, at);
+        for (; left < DRAWS; left++) {
+            make_draw(draws + left * MORE1090_DRAW_LEN, n++);
+            set_level(draws + left * MORE1090_DRAW_LEN, tenths);
+        }
         for (; quiet < NOISE; quiet++)
             noise[quiet] = noise_value();
         ran = more1090_run(ran.state, mode_s, MORE1090_PROTOTYPE_LEN, mode_ac, MORE1090_PROTOTYPE_LEN, memory, MORE1090_MEMORY_LEN, draws,

@@ -36,27 +36,16 @@ static void make_taps(float *taps, size_t length) {
         taps[length / 2 - 64 + k] = (float)((1 - cos(2 * acos(-1.0) * (k + 0.5) / 128)) / 128);
 }
 
-/* A level: C/N0 in dB Hz, for the record, and the amplitude. */
-typedef struct level {
-    double cn0;
-    float amplitude;
-} level;
-
-/* The level of so many tenths of a decibel; answers 0, or the refusal. */
-static uint64_t make_level(level *to, uint64_t tenths) {
-    to->cn0 = (double)tenths / 10;
-    return more1090_level(tenths, &to->amplitude);
-}
-
 /* The draw of reply n: 1 ms after the last one. Fields that are not set are 0. */
-static void make_draw(uint8_t *to, unsigned n, level at) {
+static void make_draw(uint8_t *to, unsigned n) {
     const uint8_t type = n % 7, overlay = 17;
+    const float amplitude = 0.02f;
     const uint16_t data = 01200; /* four octal digits */
     memset(to, 0, MORE1090_DRAW_LEN);
     to = put_f64(to, 8000.0);
     to = put(to, &type, 1);
-    to = put_f64(to, at.cn0);
-    to = put(to, &at.amplitude, 4);
+    to = put_f64(to, 81.9); /* dB Hz; for the record only */
+    to = put(to, &amplitude, 4);
     to = put_f64(to, 0.0); /* carrier: constant */
     to = put_f64(to, n % 6 - 2.5);
     to = put_f64(to, 0.0); /* clock: constant */
@@ -64,4 +53,13 @@ static void make_draw(uint8_t *to, unsigned n, level at) {
     for (int k = 0; k < 14; k++)
         *to++ = (uint8_t)(16 * n + k);
     put(to, &data, 2);
+}
+
+/* Gives a draw a level in tenths of a decibel, as C/N0 and as amplitude. Answers 0; or the refusal, and then leaves the draw. */
+static inline uint64_t set_level(uint8_t *draw, uint64_t tenths) {
+    float amplitude;
+    const uint64_t refusal = more1090_level(tenths, &amplitude);
+    if (refusal == MORE1090_OK)
+        put(put_f64(draw + 9, (double)tenths / 10), &amplitude, 4);
+    return refusal;
 }

@@ -15,13 +15,19 @@ const HIGHEST: u64 = 2000;
 /// The levels at which the Rust has another f32: the next one above (docs/DIFFERENCES.md).
 const OTHER_BITS: [u64; 7] = [51, 315, 343, 829, 1446, 1641, 1976];
 
+/// The levels whose fraction is half way between two f32.
+const TIES: [u64; 3] = [315, 343, 601];
+
 pub fn compare(t: &mut Tally, r: &mut Random, count: u64) {
     let entries: Vec<u128> = (0..200).map(entry).collect();
-    let mut other_bits = Vec::new();
+    let (mut other_bits, mut ties) = (Vec::new(), Vec::new());
     for tenths in 0..=HIGHEST {
         let (refusal, x) = ours(tenths, r.word() as u32);
-        let whole = (0, nearest(entries[tenths as usize % 200] * 10_u128.pow(tenths as u32 / 200)));
-        t.alike("level, by whole numbers", tenths, whole, (refusal, x));
+        let (whole, tie) = nearest(entries[tenths as usize % 200] * 10_u128.pow(tenths as u32 / 200));
+        t.alike("level, by whole numbers", tenths, (0, whole), (refusal, x));
+        if tie {
+            ties.push(tenths);
+        }
         let rust = by_the_rust(tenths);
         let (a, b) = (f64::from(f32::from_bits(x)), f64::from(rust));
         t.alike("level, within one part in 2^22 of the Rust's amplitude", tenths, true, (a - b).abs() * 4_194_304.0 <= b);
@@ -31,6 +37,7 @@ pub fn compare(t: &mut Tally, r: &mut Random, count: u64) {
         }
     }
     t.alike("levels with other bits than the Rust's", 0, OTHER_BITS.to_vec(), other_bits);
+    t.alike("levels that are ties", 0, TIES.to_vec(), ties);
     for (tenths, bits) in [(0, 0x3503126f), (51, 0x356bc817), (315, 0x3799f168), (343, 0x37d48020), (601, 0x3a017b70), (2000, 0x45989680)] {
         t.alike("level, as the specification has it", tenths, (0, bits), ours(tenths, 0));
     }
@@ -87,8 +94,8 @@ fn entry(k: u32) -> u128 {
     u128::from(t)
 }
 
-/// The bits of the f32 nearest to w / (2,048,000 * 2^30), a tie to the even one, for normal results.
-fn nearest(w: u128) -> u32 {
+/// The bits of the f32 nearest to w / (2,048,000 * 2^30), a tie to the even one, for normal results; and whether it is a tie.
+fn nearest(w: u128) -> (u32, bool) {
     let scale = 2_048_000_u128 << 30;
     // w / scale is from 2^(e - 64) to below twice that
     let mut e = 0;
@@ -98,9 +105,10 @@ fn nearest(w: u128) -> u32 {
     // its significand is w * 2^(87 - e) / scale
     let (over, under) = if e <= 87 { (w << (87 - e), scale) } else { (w, scale << (e - 87)) };
     let (q, rest) = (over / under, over % under);
-    let up = 2 * rest > under || 2 * rest == under && q % 2 == 1;
+    let tie = 2 * rest == under;
+    let up = 2 * rest > under || tie && q % 2 == 1;
     // the exponent's field is e - 64 + 127; a significand of 2^24 carries into it
-    (((e + 62) << 23) as u128 + q + u128::from(up)) as u32
+    ((((e + 62) << 23) as u128 + q + u128::from(up)) as u32, tie)
 }
 
 /// Whole numbers as digits of 32 bits, lowest first, with no zero digit at the end.
