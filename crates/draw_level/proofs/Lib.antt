@@ -1,5 +1,5 @@
 mod Table
 pub mod Rule
 pub mod Powers
-mod Round
-mod Amp
+mod Rounded
+mod Significand

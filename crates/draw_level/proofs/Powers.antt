@@ -1,8 +1,7 @@
 -- Powers of products, and of powers.
---
-use mathlib.Core.Path.{_≡_, refl, sym, ap, _∙_}
+use mathlib.Core.Path.{_≡_}
 use Prim.Native.Nat.{ℕ, zero, suc, _+_, _*_, _^_, _≤_, _<_}
-use native.Mathlib.Nat.{pow-zero, pow-suc, mul-one, mul-suc, mul-zero, mul-assoc, mul-comm, mul-left-comm, le-of-lt, lt-irrefl, lt-of-lt-of-le, lt-of-le-of-lt, lt-of-not-le}
+use native.Mathlib.Nat.{pow-zero, pow-suc, mul-suc, mul-zero, mul-assoc, mul-comm, mul-left-comm, lt-irrefl, lt-of-lt-of-le, lt-of-le-of-lt, lt-of-not-le}
 use native.Mathlib.Omega.{arith}
 use lib.Pow.{pow-add, pow-mono}
 

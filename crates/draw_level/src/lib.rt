@@ -15,7 +15,8 @@ const LEAST_SIGNIFICAND: u64 = 0x80_0000;
 
 const PAST_SIGNIFICAND: u64 = 0x100_0000;
 
-// The exponent field of twice a quotient whose entry times 5^0 over 125 is halved 0 times: the quotient is that times 2^-44.
+// An f32 with the exponent field E and the significand q is q * 2^(E - 150), and its bits are (E - 1) * 2^23 + q. An amplitude is
+// q * 2^(halvings + decades - 44), so E - 1 is this number more than halvings + decades.
 const EXPONENT: u64 = 105;
 
 // 2^30 times 10^(k / 200), rounded down, for k tenths.
@@ -289,8 +290,8 @@ fn nearest_even(a: u64, b: u64) -> u64
     }
 }
 
-// The amplitude of a level. 10^j is 5^j * 2^j and 2,048,000 is 125 * 2^14, so it is entry * 5^j / 125 times a power of two.
-// The significand is added and not joined: its highest bit makes up the exponent, and a carry goes into it.
+// The amplitude of a level. 10^j is 5^j * 2^j and 2,048,000 is 125 * 2^14, so it is entry * 5^j / 125 times a power of two, and
+// no number here goes past 64 bits. A significand that is rounded up to 2^24 carries into the exponent, as it should.
 fn amplitude(tenths: u64) -> f32
     requires { ⌜ tenths ≤ 2000 ⌝ }
     ensures { λ r. ⌜ r ≡ amplitudeOf tenths ⌝ }

@@ -1,14 +1,12 @@
 -- Theorem `level-laws`: the table's rule, and what holds of every level.
-use mathlib.Core.Path.{_≡_, refl, sym}
+use mathlib.Core.Path.{refl, sym}
 use Prim.Native.Nat.{ℕ, suc, _*_, _/_, _%_, _^_, _≤_, _<_}
 use native.Mathlib.Nat.{le-trans, le-of-eq, le-antisymm, le-of-suc-le-suc, lt-of-lt-of-le, lt-of-le-of-lt, lt-of-not-le, lt-irrefl, mul-one, mul-le-mul-left, mul-lt-mul-of-pos-right, one-le-pow, pow-le-pow-left, pow-le-pow-right, mod-lt, div-add-mod'}
 use native.Mathlib.Omega.{arith}
 use borrow.Author.Tests.{lt-ltb, le-ltb}
 use lib.Dec.{lit<, lit≤}
 use lib.Ieee.{round, ofBits}
-use Rattle.refusals.specs.declared.Refusal.the-variants.{Level}
-use Rattle.refusals.specs.Answer.{accepted, refused}
-use Rattle.draw_level.specs.Levels.{table, scale, entryOf, Entry, amplitudeOf, levelOf}
+use Rattle.draw_level.specs.Levels.{table, entryOf, Entry, amplitudeOf, levelOf}
 use Rattle.draw_level.proofs.Rule.{entry-rule, entry-bounds}
 use Rattle.draw_level_laws.specs.LevelLaws.{NearestEven, Within, LevelLaws}
 use Rattle.draw_level_laws.proofs.Nearest.{nearest-of}

@@ -1,5 +1,5 @@
 -- A quotient over the table's scale, rounded to f32, is the nearest one, ties to even.
-use mathlib.Core.Path.{_≡_, refl, sym, ap, _∙_}
+use mathlib.Core.Path.{_≡_, sym, ap, _∙_}
 use mathlib.Core.Bool.{false}
 use Prim.Native.Nat.{ℕ, suc, _+_, _-_, _*_, _/_, _%_, _^_, _≤_, _<_, compare, Ordering, Ordering·lt, Ordering·eq, Ordering·gt}
 use native.Mathlib.Nat.{le-trans, le-of-eq, lt-of-lt-of-le, lt-of-le-of-lt, mul-assoc, mul-comm, mul-le-mul-right, mul-pos, mod-lt, div-add-mod', div-le-self, le-div-iff-mul-le, div-lt-iff-lt-mul, suc-mul}

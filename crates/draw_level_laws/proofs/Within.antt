@@ -1,7 +1,6 @@
 -- The nearest f32 is within one part in 2 ^ 22 of the exact figure: the table's rule and half a step, through 200th powers.
-use mathlib.Core.Path.{_≡_, refl, sym, ap, _∙_, subst}
-use mathlib.Core.Bool.{false}
-use Prim.Native.Nat.{ℕ, suc, _+_, _*_, _^_, _≤_, _<_}
+use mathlib.Core.Path.{_≡_, refl, sym, ap, _∙_}
+use Prim.Native.Nat.{ℕ, suc, _+_, _*_, _^_, _≤_}
 use native.Mathlib.Nat.{le-trans, le-of-eq, le-of-lt, mul-assoc, mul-comm, mul-left-comm, mul-le-mul-right, mul-le-mul-left, le-of-mul-le-mul-right, pow-le-pow-left}
 use native.Mathlib.Omega.{arith}
 use lib.Pow.{pow-add, pow-pos}

@@ -1,6 +1,6 @@
 -- `draw_level::amplitude` meets its contract.
-use Prim.Native.Nat.{ℕ, _+_, _*_, _/_, _≤_, _<_}
-use Rattle.draw_level.proofs.Amp.{product-of, divisor, q-small, made, no-nan}
+use Prim.Native.Nat.{_+_, _*_, _/_, _≤_}
+use Rattle.draw_level.proofs.Significand.{product-of, divisor, q-small, made, no-nan}
 use borrow.Author.Needs.{needs}
 use native.Mathlib.Omega.{arith}
 use Rattle.draw_level.proofs.amplitude.Statement.{statement}

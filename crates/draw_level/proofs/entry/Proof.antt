@@ -2,7 +2,6 @@
 use mathlib.Core.Path.{refl}
 use Rattle.draw_level.specs.Levels.{table, entryOf}
 use borrow.Author.Needs.{needs}
-use native.Mathlib.Omega.{arith}
 use Rattle.draw_level.proofs.entry.Statement.{statement}
 use Rattle.draw_level.proofs.entry.Tie as tie
 

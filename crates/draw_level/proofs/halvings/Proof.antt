@@ -1,6 +1,6 @@
 -- `draw_level::halvings` meets its contract.
 use mathlib.Core.Path.{_≡_}
-use Prim.Native.Nat.{_+_, _*_, _-_, _^_, _≤_, _<_}
+use Prim.Native.Nat.{_*_, _-_, _^_, _≤_}
 use Rattle.draw_level.proofs.Powers.{double, room}
 use borrow.Author.Needs.{needs}
 use native.Mathlib.Omega.{arith}

@@ -6,7 +6,6 @@ use lib.Dec.{eqb, eqb→eq}
 use lib.ListN.{getD}
 use Rattle.draw_level.proofs.Table.{at}
 use borrow.Author.Needs.{needs}
-use native.Mathlib.Omega.{arith}
 use Rattle.draw_level.proofs.power_of_five.Statement.{statement}
 use Rattle.draw_level.proofs.power_of_five.Tie as tie
 

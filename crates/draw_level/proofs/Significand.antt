@@ -1,19 +1,18 @@
--- What the code of the amplitude asks: its numbers fit, and its pattern is that of the definition.
---
-use mathlib.Core.Path.{_≡_, refl, sym, ap, _∙_, subst}
-use mathlib.Core.Bool.{Bool, true, false, not}
-use Prim.Native.Nat.{ℕ, zero, suc, _+_, _-_, _*_, _/_, _%_, _^_, _≤_, _<_}
-use native.Mathlib.Nat.{le-trans, le-of-eq, lt-of-lt-of-le, lt-of-le-of-lt, mod-lt, mul-one, mul-le-mul-left, mul-le-mul-right, mul-pos, one-le-pow, pow-le-pow-right}
+-- The numbers that the code of `amplitude` works with: they fit 64 bits, and its bit pattern is that of the definition.
+use mathlib.Core.Path.{_≡_, sym, ap, _∙_, subst}
+use mathlib.Core.Bool.{Bool, not}
+use Prim.Native.Nat.{ℕ, _+_, _*_, _/_, _%_, _^_, _≤_, _<_}
+use native.Mathlib.Nat.{le-trans, le-of-eq, lt-of-lt-of-le, mod-lt, mul-one, mul-le-mul-left, mul-pos, one-le-pow, pow-le-pow-right}
 use native.Mathlib.Omega.{arith}
-use lib.Dec.{T, ltb, lit<, lit≤}
+use lib.Dec.{T, lit<}
 use lib.Arith.{le→nltb}
 use lib.Pow.{pow-pos, shl-exact}
-use lib.Ieee.{Float, binary32, round, ofBits, nanBits}
+use lib.Ieee.{binary32, ofBits, nanBits}
 use lib.Ieee.Bits.{nanBits-above}
 use lib.Ieee.Nearest.{closest}
 use Rattle.float_rounding.proofs.Pattern.{kept-le}
 use Rattle.draw_level.specs.Levels.{scale, entryOf, amplitudeOf}
-use Rattle.draw_level.proofs.Round.{kept-is, rounded}
+use Rattle.draw_level.proofs.Rounded.{kept-is, rounded}
 use Rattle.draw_level.proofs.Rule.{entry-bounds}
 
 pub record Product (a : ℕ) : Type 0 where
