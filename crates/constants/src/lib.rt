@@ -2,6 +2,12 @@
 ghost use mathlib.Core.Path.{_≡_};
 ghost use Prim.Native.Nat.{min};
 
+// Samples per pulse, the setting of a run.
+pub enum SamplesPerPulse {
+    Four,
+    Eight,
+}
+
 // Samples a second.
 pub const SAMPLE_RATE: u64 = 8000000;
 

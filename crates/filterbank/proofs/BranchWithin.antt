@@ -17,7 +17,10 @@ use lib.Ieee.Digits.{back}
 use Rattle.float_rounding.proofs.Units.{G, G-exact, Units, units-of, lt-units, lt-finite, cross}
 use Rattle.float_rounding.proofs.More.{Rep, G-rep, rep-of, mul-all, sub-all, of-int, to-unsigned}
 use Rattle.float_narrow.specs.Narrow.{narrow}
-use Rattle.constants.specs.Rate.{four, branches}
+use Rattle.constants.specs.declared.SamplesPerPulse.{SamplesPerPulse}
+use Rattle.constants.specs.Setting.{perPulse}
+use Rattle.constants.specs.Rate.{branches}
+use Rattle.constants.proofs.Settings.{branchBits, branches-are, few-branches}
 use Rattle.filterbank.specs.Taps.{scaled, numbered, branchOf, tauOf}
 use Rattle.filterbank.proofs.Padded.{le-or-lt}
 
@@ -148,5 +151,7 @@ branch-within sps l B few p F lo hi =
     let t = narrowed-within (sub binary64 (scaled sps p) (ofInt binary64 (pos (branchOf sps p)))) (W sps l B few p (u .0) F (u .1) L % 2 ^ 1074) (rest-units sps l B few p (u .0) F (u .1) L) (le-of-lt (rest-lt sps l B few p (u .0) F (u .1) L)) in
     (lt-of-le-of-lt (le-of-eq (branch-is sps l B few p (u .0) F (u .1) L)) (lt-of-lt-of-le (whole-lt sps l B few p (u .0) F (u .1) L) (le-of-eq (sym B))), branch-is sps l B few p (u .0) F (u .1) L ∙ sym (whole-is sps l B few p (u .0) F (u .1) L), t .0, t .1)
 
-pub branch-below-256 : (p : Float) → T (fits binary64 p) → T (le zeroF p) → T (lt p oneF) → (branchOf four p < 256) × (branchOf four p ≡ toUnsigned 64 (scaled four p)) × T (le zeroF (tauOf four p)) × T (le (tauOf four p) oneF)
-branch-below-256 = branch-within four 8 refl (lit≤ tt)
+-- at both settings
+pub branch-in-bank : (s : SamplesPerPulse) (p : Float) → T (fits binary64 p) → T (le zeroF p) → T (lt p oneF)
+    → (branchOf (perPulse s) p < branches (perPulse s)) × (branchOf (perPulse s) p ≡ toUnsigned 64 (scaled (perPulse s) p)) × T (le zeroF (tauOf (perPulse s) p)) × T (le (tauOf (perPulse s) p) oneF)
+branch-in-bank s = branch-within (perPulse s) (branchBits s) (branches-are s) (few-branches s)

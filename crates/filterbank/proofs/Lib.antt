@@ -2,7 +2,7 @@ pub mod Literals
 pub mod Padded
 pub mod PaddedSum
 pub mod Grid
-pub mod ClockAtFour
+pub mod ClockSteps
 pub mod Ends
 pub mod EndsByItself
 pub mod BranchWithin

@@ -1,4 +1,4 @@
--- The clock's phase stays from 0 to below 1, for every clock error within 0.1.
+-- The clock's phase stays from 0 to below 1, at both settings and for every clock error within 0.1.
 use mathlib.Core.Path.{_≡_, refl, subst}
 use Prim.Native.Nat.{ℕ, zero, suc, _^_}
 use lib.IntN.{pos}
@@ -6,11 +6,12 @@ use mathlib.Core.Bool.{false}
 use lib.Dec.{T}
 use lib.Ieee.{Float, fin, lt, le}
 use Rattle.float_rounding.proofs.More.{lt-from, nonneg}
-use Rattle.constants.specs.Rate.{four}
+use Rattle.constants.specs.declared.SamplesPerPulse.{SamplesPerPulse}
+use Rattle.constants.specs.Setting.{perPulse}
 use Rattle.filterbank.specs.declared.Clock.{Clock}
 use Rattle.filterbank.specs.Clocked.{stepOf, startClock, advance}
 use Rattle.filterbank.proofs.Grid.{Grid, Stepping, Kept, kept-step}
-use Rattle.filterbank.proofs.ClockAtFour.{grid4, step-in, starts}
+use Rattle.filterbank.proofs.ClockSteps.{grid, step-in, starts}
 use Rattle.filterbank.proofs.EndsByItself.{InRange}
 
 -- the clock after n samples
@@ -26,6 +27,8 @@ kept-after g d S s v (suc n) = kept-step g n d (after n d s) S (kept-after g d S
 pub kept-phase : (g : Grid) (n : ℕ) (s : Clock) → Kept g n s → T (le (fin false 0 (pos 0)) (s .phase)) × T (lt (s .phase) (fin false 1 (pos 0)))
 kept-phase g n s v = (nonneg (s .phase) (v .0) (v .2), lt-from (s .phase) 1 (pos 0) (v .0) (2 ^ 1074) (v .2) refl (v .3))
 
-pub phase-within : (n : ℕ) (phase e : Float) → InRange phase e → T (le (fin false 0 (pos 0)) (after n (stepOf four e) (startClock four phase) .phase)) × T (lt (after n (stepOf four e) (startClock four phase) .phase) (fin false 1 (pos 0)))
-phase-within n p e r =
-    kept-phase grid4 n (after n (stepOf four e) (startClock four p)) (kept-after grid4 (stepOf four e) (step-in e (r .slowest) (r .fastest)) (startClock four p) (starts p (r .held) (r .low) (r .high)) n)
+pub phase-within : (s : SamplesPerPulse) (n : ℕ) (phase e : Float) → InRange phase e → T (le (fin false 0 (pos 0)) (after n (stepOf (perPulse s) e) (startClock (perPulse s) phase) .phase)) × T (lt (after n (stepOf (perPulse s) e) (startClock (perPulse s) phase) .phase) (fin false 1 (pos 0)))
+phase-within s n p e r =
+    let step = stepOf (perPulse s) e in
+    let first = startClock (perPulse s) p in
+    kept-phase (grid s) n (after n step first) (kept-after (grid s) step (step-in s e (r .slowest) (r .fastest)) first (starts s p (r .held) (r .low) (r .high)) n)

@@ -1,4 +1,4 @@
--- First clock: of a reply in range, the clock's phase at the first sample is from 0 to 1.1 samples and the filter's clock error within 0.1 (`first-clock`), which is what the theorems about the filterbank's count ask: it has at most 1,094 samples (`count-at-most`).
+-- First clock: of a reply in range, the clock's phase at the first sample is from 0 to 1.1 samples and the filter's clock error within 0.1 (`first-clock`), which is what the theorems about the filterbank's count ask: it has at most 1,094 samples at 4 samples per pulse, and 2,187 at 8 (`count-at-most`).
 -- The first sample lies less than one sample past the unrounded start, or one whole sample once rounded.
 use mathlib.Core.Path.{_≡_, refl, sym, ap, _∙_, subst}
 use mathlib.Core.Logic.{inl, inr}
@@ -12,7 +12,10 @@ use lib.Pow.{pow-pos}
 use lib.Ieee.{Float, fin, binary64, neg, add, sub, mul, div, le, fits, ofInt}
 use lib.Ieee.Fits.{mul-fits}
 use lib.Ieee.Scale.{overflow}
-use Rattle.constants.specs.Rate.{four, longestPulses, replyLimit}
+use Rattle.constants.specs.declared.SamplesPerPulse.{SamplesPerPulse}
+use Rattle.constants.specs.Setting.{perPulse}
+use Rattle.constants.specs.Rate.{longestPulses, replyLimit}
+use Rattle.constants.proofs.Settings.{rate-three, rate-few}
 use Rattle.float_rounding.proofs.Units.{G, G-le, Units, add-units}
 use Rattle.float_rounding.proofs.More.{sub-all, mul-all, of-int, nonneg, sub-is}
 use Rattle.float_rounding.proofs.Val.{val-units, neg-val}
@@ -25,7 +28,7 @@ use Rattle.message_config.specs.declared.MessageConfig.{MessageConfig}
 use Rattle.message_config.specs.Timing.{one, delayOf, unroundedStart, startOf, filterClockError, clockPhase}
 use Rattle.message_config.specs.Config.{configStart, configClockError, configClockPhase}
 use Rattle.filterbank.specs.Apply.{sampleCount}
-use Rattle.filterbank.proofs.ClockAtFour.{tenth}
+use Rattle.filterbank.proofs.ClockSteps.{tenth}
 use Rattle.filterbank.proofs.EndsByItself.{InRange, ends-within, most-pulses}
 use Rattle.message_config.proofs.InRange.{TimeInRange, DelaysInRange, ErrorInRange, delay-of, tenthUnits, within-tenth, filter-fits}
 use Rattle.message_config.proofs.Starts.{Counted, counted, finite-reply, one-plus, elevenTenths, clocked-delay, le-upward, upward-lt, reply-start, start-negative, held-few, without-half, later, sooner}
@@ -119,14 +122,14 @@ phase-fits : (t d e f : Float) → T (fits binary64 (clockPhase t d e f))
 unfolding clockPhase
 phase-fits t d e f = mul-fits binary64 (sub binary64 (ofInt binary64 (startOf t d e)) (unroundedStart t d e)) (add binary64 one f)
 
--- ---- the theorem, at 4 samples per pulse
-module _ (delays : Delays) (R : DelaysInRange four delays) where
+-- ---- the theorem, at both settings
+module _ (rate : SamplesPerPulse) (delays : Delays) (R : DelaysInRange (perPulse rate) delays) where
   pub first-clock : (t e : Float) (kind : ReplyKind) (s : ℕ) → TimeInRange t → ErrorInRange kind e → startOf t (delayOf delays kind) e ≡ pos s → s < 2 ^ 52
       → InRange (clockPhase t (delayOf delays kind) e (filterClockError kind e)) (filterClockError kind e) × T (le (clockPhase t (delayOf delays kind) e (filterClockError kind e)) elevenTenthsF)
   first-clock t e kind s A E h small =
       let f = filterClockError kind e in
       let x = clockPhase t (delayOf delays kind) e f in
-      let p = phase-units four (lit≤ tt) (lit≤ tt) delays R t e kind s A E h small in
+      let p = phase-units (perPulse rate) (rate-three rate) (rate-few rate) delays R t e kind s A E h small in
       let b = at-most x (p .0) (p .1) (p .2) in
       let c = error-tests f (within-tenth f (filter-fits kind e (E .fit)) (E .filter-small)) in
       (record { held = phase-fits t (delayOf delays kind) e f; low = nonneg x (p .0) (p .1); high = b .1; slowest = c .0; fastest = c .1 }, b .0)
@@ -136,6 +139,6 @@ module _ (delays : Delays) (R : DelaysInRange four delays) where
   unfolding configStart configClockPhase configClockError
   first-clock-of c s A E h small = first-clock (c .time) (c .error) (c .reply .kind) s A E h small .0
 
-  -- so a reply of at most 240 pulses has at most 1,094 samples
-  pub count-at-most : (n : ℕ) → n ≤ longestPulses → (c : MessageConfig) (s : ℕ) → TimeInRange (c .time) → ErrorInRange (c .reply .kind) (c .error) → configStart delays c ≡ pos s → s < 2 ^ 52 → sampleCount four n (configClockPhase delays c) (configClockError c) ≤ replyLimit four
-  count-at-most n h c s A E e small = ends-within n 1094 (most-pulses n h) (configClockPhase delays c) (configClockError c) (first-clock-of c s A E e small)
+  -- so a reply of at most 240 pulses has at most `replyLimit` samples
+  pub count-at-most : (n : ℕ) → n ≤ longestPulses → (c : MessageConfig) (s : ℕ) → TimeInRange (c .time) → ErrorInRange (c .reply .kind) (c .error) → configStart delays c ≡ pos s → s < 2 ^ 52 → sampleCount (perPulse rate) n (configClockPhase delays c) (configClockError c) ≤ replyLimit (perPulse rate)
+  count-at-most n h c s A E e small = ends-within rate n (replyLimit (perPulse rate)) (most-pulses rate n h) (configClockPhase delays c) (configClockError c) (first-clock-of c s A E e small)

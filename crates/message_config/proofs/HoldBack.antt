@@ -1,20 +1,25 @@
--- Hold-back: of two draws in range, the one at a later or equal time starts at most 32 samples earlier, if it is a reply (`held-at-four`; at other rates 8 * sps samples, `held`). Mode S and Mode A/C in any combination.
--- The earlier one starts no later than its time rounded up. The later one's delay, divided by 1 + e, is at most 31.5 samples (`clocked-delay`), and times less whole or half samples are values of the format, so rounding does not go below them.
+-- Hold-back: of two draws in range, the one at a later or equal time starts at most `holdBack` samples earlier, if it is a reply (`held-back`): 32 at 4 samples per pulse, 64 at 8. Mode S and Mode A/C in any combination.
+-- The earlier one starts no later than its time rounded up. The later one's delay, divided by 1 + e, is at least half a sample below that (`clocked-delay`), and times less whole or half samples are values of the format, so rounding does not go below them.
 use mathlib.Core.Path.{_≡_, refl, sym, ap, _∙_, subst}
 use mathlib.Core.Logic.{inl, inr}
-use Prim.Native.Nat.{ℕ, _+_, _-_, _*_, _^_, _≤_, _<_, min, zero-le}
-use native.Mathlib.Nat.{le-trans, le-of-eq, le-of-lt, lt-of-lt-of-le, lt-of-le-of-lt, le-of-suc-le-suc, le-antisymm, one-mul, mul-assoc, add-mul, mul-le-mul-right, mul-le-mul-left}
+use Prim.Native.Nat.{ℕ, suc, _+_, _-_, _*_, _^_, _≤_, _<_, min, zero-le}
+use native.Mathlib.Nat.{le-trans, le-of-eq, le-of-lt, lt-of-lt-of-le, lt-of-le-of-lt, le-of-suc-le-suc, le-antisymm, one-mul, mul-assoc, add-mul, mul-le-mul-right, mul-le-mul-left, suc-mul, add-le-add-iff-right}
 use native.Mathlib.Omega.{arith}
 use mathlib.Core.Bool.{Bool, true, false, not, true≢false}
 use lib.IntN.{pos, negsuc}
-use lib.Dec.{T, lit≤}
+use lib.Dec.{T}
 use lib.Pow.{pow-add, pow-pos, pow-mono}
 use lib.Ieee.{Float, nan, inf, fin, binary64, add, sub, div, lt, le, fits}
 use lib.Ieee.Digits.{back}
 use lib.Ieee.Scale.{finite}
-use Rattle.constants.specs.Rate.{four, holdBack}
+use Rattle.constants.specs.declared.SamplesPerPulse.{SamplesPerPulse}
+use Rattle.constants.specs.declared.SamplesPerPulse.the-variants.{Four, Eight}
+use Rattle.constants.specs.Setting.{perPulse}
+use Rattle.constants.specs.Rate.{holdBack}
+use Rattle.constants.proofs.Settings.{rate-three, rate-few}
 use Rattle.float_rounding.proofs.Units.{G, G-ge, Units, lt-units}
 use Rattle.float_rounding.proofs.More.{Rep}
+use Rattle.float_rounding.proofs.Val.{Val}
 use Rattle.float_narrow.specs.Ceil.{ceilSigned, upward}
 use Rattle.float_narrow.specs.Range.{within}
 use Rattle.float_rounding.proofs.Size.{units-within, le-or-lt}
@@ -180,18 +185,27 @@ module _ (sps : ℕ) (S : 3 ≤ sps) (M : sps ≤ 2 ^ 30) (delays : Delays) (R :
       (le-trans (upward-mono (C .count) (2 ^ 1074) (C′ .count) (pow-pos 1074) n-le)
       (later-start (8 * sps) (held-some sps S) (held-few sps M) t′ d′ C′ (q′ .0) (q′ .1) (q′ .2) s′ p′ small))
 
--- ---- at 4 samples per pulse
--- a delay divided by 1 + e is at most 31.5 samples
-pub delay-at-most : (d e : Float) → DelayInRange four d → T (fits binary64 e) → T (within e tenth) → T (le (div binary64 d (add binary64 one e)) (fin false 63 (negsuc 0)))
-delay-at-most d e r F t =
-    let q = clocked-delay four (lit≤ tt) (lit≤ tt) d e r (within-tenth e F t) in
-    tests-of-within (div binary64 d (add binary64 one e)) (fin false 63 (negsuc 0)) (63 * 2 ^ 1073) (refl, refl) (units-within (div binary64 d (add binary64 one e)) (q .0) (63 * 2 ^ 1073) (q .1) (less (q .0) (2 ^ 1073) (q .2))) .1
-  where
-    less : (k h : ℕ) → k + h ≤ 64 * h → k ≤ 63 * h
-    less k h p = omega arith
+-- ---- at both settings
+-- a delay divided by 1 + e is at most 31.5 samples at 4 samples per pulse, and 63.5 at 8
+abbrev pub longestDelay : SamplesPerPulse → Float
+longestDelay Four = fin false 63 (negsuc 0)
+longestDelay Eight = fin false 127 (negsuc 0)
 
--- of two messages with the filters' delays, at 32 samples
-pub held-at-four : (delays : Delays) → DelaysInRange four delays → (c c′ : MessageConfig) (s s′ : ℕ) → TimeInRange (c .time) → TimeInRange (c′ .time) → ErrorInRange (c .reply .kind) (c .error) → ErrorInRange (c′ .reply .kind) (c′ .error)
-    → lt (c′ .time) (c .time) ≡ false → configStart delays c ≡ pos s → configStart delays c′ ≡ pos s′ → s′ < 2 ^ 52 → s ≤ s′ + holdBack four
+pub delay-at-most : (rate : SamplesPerPulse) (d e : Float) → DelayInRange (perPulse rate) d → T (fits binary64 e) → T (within e tenth) → T (le (div binary64 d (add binary64 one e)) (longestDelay rate))
+delay-at-most rate d e r F t = let q = clocked-delay (perPulse rate) (rate-three rate) (rate-few rate) d e r (within-tenth e F t) in go rate (q .0) (q .1) (q .2)
+  where
+    at : (h m k : ℕ) (l : Float) → Val l false (m * h) → Units (div binary64 d (add binary64 one e)) k → k ≤ m * h → T (le (div binary64 d (add binary64 one e)) l)
+    at h m k l v u p = tests-of-within (div binary64 d (add binary64 one e)) l (m * h) v (units-within (div binary64 d (add binary64 one e)) k (m * h) u p) .1
+
+    less : (k h n : ℕ) → k + h ≤ suc n * h → k ≤ n * h
+    less k h n p = add-le-add-iff-right h .0 (le-trans p (le-of-eq (suc-mul n h)))
+
+    go : (s : SamplesPerPulse) (k : ℕ) → Units (div binary64 d (add binary64 one e)) k → k + 2 ^ 1073 ≤ holdBack (perPulse s) * 2 ^ 1074 → T (le (div binary64 d (add binary64 one e)) (longestDelay s))
+    go Four k u p = at (2 ^ 1073) 63 k (longestDelay Four) (refl, refl) u (less k (2 ^ 1073) 63 p)
+    go Eight k u p = at (2 ^ 1073) 127 k (longestDelay Eight) (refl, refl) u (less k (2 ^ 1073) 127 p)
+
+-- of two messages with the filters' delays
+pub held-back : (rate : SamplesPerPulse) (delays : Delays) → DelaysInRange (perPulse rate) delays → (c c′ : MessageConfig) (s s′ : ℕ) → TimeInRange (c .time) → TimeInRange (c′ .time) → ErrorInRange (c .reply .kind) (c .error) → ErrorInRange (c′ .reply .kind) (c′ .error)
+    → lt (c′ .time) (c .time) ≡ false → configStart delays c ≡ pos s → configStart delays c′ ≡ pos s′ → s′ < 2 ^ 52 → s ≤ s′ + holdBack (perPulse rate)
 unfolding configStart
-held-at-four delays R c c′ s s′ A A′ E E′ o p p′ small = held four (lit≤ tt) (lit≤ tt) delays R (c .time) (c′ .time) (c .error) (c′ .error) (c .reply .kind) (c′ .reply .kind) s s′ A A′ E E′ o p p′ small
+held-back rate delays R c c′ s s′ A A′ E E′ o p p′ small = held (perPulse rate) (rate-three rate) (rate-few rate) delays R (c .time) (c′ .time) (c .error) (c′ .error) (c .reply .kind) (c′ .reply .kind) s s′ A A′ E E′ o p p′ small

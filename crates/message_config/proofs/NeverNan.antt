@@ -1,4 +1,4 @@
--- No NaN: of a message in range, every number that follows from its configuration is finite, but for the unrounded start at an infinite time, which is infinite (`draw-numbers-at-four`). A reply's time, clock phase and first phase are finite too, and its carrier rotates by at most PI in a sample, from a phase from -PI to PI (`reply-numbers-at-four`).
+-- No NaN: of a message in range, every number that follows from its configuration is finite, but for the unrounded start at an infinite time, which is infinite (`draw-numbers`). A reply's time, clock phase and first phase are finite too, and its carrier rotates by at most PI in a sample, from a phase from -PI to PI (`reply-numbers`).
 use mathlib.Core.Path.{_≡_, refl, sym, subst}
 use mathlib.Core.Logic.{inl, inr}
 use Prim.Native.Nat.{ℕ, _+_, _-_, _*_, _^_, _≤_, _<_}
@@ -11,7 +11,11 @@ use lib.Pow.{pow-pos}
 use lib.Ieee.{Float, nan, inf, fin, binary64, size, unlike, neg, add, sub, mul, div, le, isNan, ofInt}
 use lib.Ieee.Fits.{sub-fits}
 use lib.Ieee.Scale.{overflow, finite}
-use Rattle.constants.specs.Rate.{four, sampleRate}
+use Rattle.constants.specs.declared.SamplesPerPulse.{SamplesPerPulse}
+use Rattle.constants.specs.declared.SamplesPerPulse.the-variants.{Four, Eight}
+use Rattle.constants.specs.Setting.{perPulse}
+use Rattle.constants.specs.Rate.{sampleRate}
+use Rattle.constants.proofs.Settings.{rate-pos, rate-three, rate-few}
 use Rattle.float_rounding.proofs.Units.{G, G-mono, G-le, Units}
 use Rattle.float_rounding.proofs.More.{of-int, sub-is}
 use Rattle.float_rounding.proofs.Val.{Val, mul-val, div-val}
@@ -78,41 +82,50 @@ difference-number (inf false) (inf s) k A D f = absurd D
 difference-number (inf false) (fin s m e) k A D f = tt
 difference-number (fin s m e) d k A D f = finite-number (sub binary64 (fin s m e) d) (f tt)
 
--- ---- the carrier's rate. 2 PI times the largest offset, rounded, is no more than PI times the samples a second; at 4 samples per pulse it is a little less
-pub record Turning (sps : ℕ) : Type 0 where
-  pub most : ℕ
-  pub turned : G (twoPiUnits * offsetUnits sps) (2 ^ 1074 * 2 ^ 1074) ≤ most
-  pub under : most < overflow binary64
-  pub room : most * 2 ^ 1074 ≤ piUnits * (sampleRate sps * 2 ^ 1074)
+-- ---- the carrier's rate. 2 PI times the largest offset, rounded, is no more than PI times the samples a second; it is a little less, and the rate is PI once rounded
+mostTurned : SamplesPerPulse → ℕ
+mostTurned Four = 6746518852261009 * 2 ^ 1046
+mostTurned Eight = 6746518852261009 * 2 ^ 1047
 
-most-turned : G (twoPiUnits * offsetUnits four) (2 ^ 1074 * 2 ^ 1074) ≡ 6746518852261009 * 2 ^ 1046
-unfolding size
-most-turned = refl
+turned : (s : SamplesPerPulse) → G (twoPiUnits * offsetUnits (perPulse s)) (2 ^ 1074 * 2 ^ 1074) ≤ mostTurned s
+unfolding size mostTurned
+turned Four = le-of-eq refl
+turned Eight = le-of-eq refl
 
-pub turning-at-four : Turning four
-turning-at-four = record { most = 6746518852261009 * 2 ^ 1046; turned = le-of-eq most-turned; under = lit< tt; room = lit≤ tt }
+under : (s : SamplesPerPulse) → mostTurned s < overflow binary64
+unfolding mostTurned
+under Four = lit< tt
+under Eight = lit< tt
 
-module _ (sps : ℕ) (S : 3 ≤ sps) (M : sps ≤ 2 ^ 30) (W : Turning sps) where
+turn-room : (s : SamplesPerPulse) → mostTurned s * 2 ^ 1074 ≤ piUnits * (sampleRate (perPulse s) * 2 ^ 1074)
+unfolding mostTurned
+turn-room Four = lit≤ tt
+turn-room Eight = lit≤ tt
+
+module _ (rate : SamplesPerPulse) where
+  abbrev sps : ℕ
+  sps = perPulse rate
+
   rate-within : (offset : Float) → Within offset (offsetUnits sps) → Within (carrierRate sps offset) piUnits
   unfolding carrierRate
   rate-within offset w =
       let b = 2 ^ 1074 * 2 ^ 1074 in
       let k = sampleRate sps * 2 ^ 1074 in
       let turn = G (twoPiUnits * w .1) b in
-      let P : 0 < k = mul-pos (some sps S) (pow-pos 1074) in
-      let most : turn ≤ W .most = le-trans (G-mono (twoPiUnits * w .1) b (twoPiUnits * offsetUnits sps) b (pow-pos 2148) (pow-pos 2148) (mul-le-mul-right b (mul-le-mul-left twoPiUnits (w .3)))) (W .turned) in
-      let t = mul-val twoPi offset false (w .0) twoPiUnits (w .1) twoPi-val (w .2) (lt-of-le-of-lt most (W .under)) in
-      let m : G turn k ≤ piUnits = G-le turn k 884279719003555 1026 P (lit< tt) (le-trans (mul-le-mul-right (2 ^ 1074) most) (W .room)) in
-      (unlike (unlike false (w .0)) false, G turn k, div-val (mul binary64 twoPi offset) (ofInt binary64 (pos (sampleRate sps))) (unlike false (w .0)) false turn k t (whole-val (sampleRate sps) (whole sps M)) P (lt-of-le-of-lt m (lit< {m = piUnits} {n = overflow binary64} tt)), m)
+      let P : 0 < k = mul-pos (second sps (rate-pos rate)) (pow-pos 1074) in
+      let most : turn ≤ mostTurned rate = le-trans (G-mono (twoPiUnits * w .1) b (twoPiUnits * offsetUnits sps) b (pow-pos 2148) (pow-pos 2148) (mul-le-mul-right b (mul-le-mul-left twoPiUnits (w .3)))) (turned rate) in
+      let t = mul-val twoPi offset false (w .0) twoPiUnits (w .1) twoPi-val (w .2) (lt-of-le-of-lt most (under rate)) in
+      let m : G turn k ≤ piUnits = G-le turn k 884279719003555 1026 P (lit< tt) (le-trans (mul-le-mul-right (2 ^ 1074) most) (turn-room rate)) in
+      (unlike (unlike false (w .0)) false, G turn k, div-val (mul binary64 twoPi offset) (ofInt binary64 (pos (sampleRate sps))) (unlike false (w .0)) false turn k t (whole-val (sampleRate sps) (whole sps (rate-few rate))) P (lt-of-le-of-lt m (lit< {m = piUnits} {n = overflow binary64} tt)), m)
     where
-      some : (s : ℕ) → 3 ≤ s → 0 < 2000000 * s
-      some s h = omega arith
+      second : (s : ℕ) → 0 < s → 0 < 2000000 * s
+      second s h = omega arith
 
       whole : (s : ℕ) → s ≤ 2 ^ 30 → 2000000 * s ≤ 2 ^ 53
       whole s h = omega arith
 
   carrier-within : (c : MessageConfig) → MessageInRange sps c → Within (carrierRate sps (c .offset)) piUnits
-  carrier-within c r = rate-within (c .offset) (within-units (c .offset) (offsetLimit sps) (offsetUnits sps) (offset-val sps M) (r .offset-fit) (r .offset))
+  carrier-within c r = rate-within (c .offset) (within-units (c .offset) (offsetLimit sps) (offsetUnits sps) (offset-val sps (rate-few rate)) (r .offset-fit) (r .offset))
 
 -- ---- the first phase: what is wrapped is finite
 less-within : (x y : Float) (b c q j : ℕ) → q < 2 ^ 53 → q * 2 ^ j < overflow binary64 → Within x b → Within y c → b + c ≤ q * 2 ^ j → Within (sub binary64 x y) (q * 2 ^ j)
@@ -160,42 +173,35 @@ clock-error-finite c E =
     let f = filterClockError (c .reply .kind) (c .error) in
     Size.within-finite f tenthUnits (within-tenth f (filter-fits (c .reply .kind) (c .error) (E .fit)) (E .filter-small))
 
-module _ (sps : ℕ) (S : 3 ≤ sps) (M : sps ≤ 2 ^ 30) (W : Turning sps) (delays : Delays) (R : DelaysInRange sps delays) (c : MessageConfig) (r : MessageInRange sps c) where
-  pub draw-numbers : DrawNumbers sps delays c
+module _ (rate : SamplesPerPulse) (delays : Delays) (R : DelaysInRange (perPulse rate) delays) (c : MessageConfig) (r : MessageInRange (perPulse rate) c) where
+  pub draw-numbers : DrawNumbers (perPulse rate) delays c
   unfolding unroundedStart configRate
   draw-numbers =
       let kind = c .reply .kind in
-      let g = delay-of sps delays R kind in
+      let g = delay-of (perPulse rate) delays R kind in
       let d = div binary64 (delayOf delays kind) (add binary64 one (c .error)) in
-      let q = clocked-delay sps S M (delayOf delays kind) (c .error) g (within-tenth (c .error) (r .error .fit) (r .error .small)) in
-      let ends : T (finite (c .time)) → T (finite (sub binary64 (c .time) d)) = λ f. difference-finite (c .time) d (q .0) (8 * sps) (r .time) f (q .1) (held-few sps M) (without-half (q .0) (2 ^ 1073) (8 * sps * 2 ^ 1074) (q .2)) in
+      let q = clocked-delay (perPulse rate) (rate-three rate) (rate-few rate) (delayOf delays kind) (c .error) g (within-tenth (c .error) (r .error .fit) (r .error .small)) in
+      let ends : T (finite (c .time)) → T (finite (sub binary64 (c .time) d)) = λ f. difference-finite (c .time) d (q .0) (8 * perPulse rate) (r .time) f (q .1) (held-few (perPulse rate) (rate-few rate)) (without-half (q .0) (2 ^ 1073) (8 * perPulse rate * 2 ^ 1074) (q .2)) in
       record {
         delay = units-finite (delayOf delays kind) (g .count) (g .is);
         unrounded = difference-number (c .time) d (q .0) (r .time) (q .1) ends;
         unrounded-finite = ends;
         clock-error = clock-error-finite c (r .error);
-        rate = tests-of-within (carrierRate sps (c .offset)) pi piUnits pi-val (carrier-within sps S M W c r);
+        rate = tests-of-within (carrierRate (perPulse rate) (c .offset)) pi piUnits pi-val (carrier-within rate c r);
       }
 
-  pub reply-numbers : (s : ℕ) → configStart delays c ≡ pos s → s < 2 ^ 52 → ReplyNumbers sps delays c
+  pub reply-numbers : (s : ℕ) → configStart delays c ≡ pos s → s < 2 ^ 52 → ReplyNumbers (perPulse rate) delays c
   unfolding configStart startOf unroundedStart configClockPhase configClockError configPhase configRate
   reply-numbers s h small =
       let kind = c .reply .kind in
       let d = div binary64 (delayOf delays kind) (add binary64 one (c .error)) in
-      let q = clocked-delay sps S M (delayOf delays kind) (c .error) (delay-of sps delays R kind) (within-tenth (c .error) (r .error .fit) (r .error .small)) in
+      let q = clocked-delay (perPulse rate) (rate-three rate) (rate-few rate) (delayOf delays kind) (c .error) (delay-of (perPulse rate) delays R kind) (within-tenth (c .error) (r .error .fit) (r .error .small)) in
       let f = finite-reply (c .time) d (q .0) s (r .time) (q .1) h small in
-      let p = phase-units sps S M delays R (c .time) (c .error) kind s (r .time) (r .error) h small in
+      let p = phase-units (perPulse rate) (rate-three rate) (rate-few rate) delays R (c .time) (c .error) kind s (r .time) (r .error) h small in
       record {
         time = f;
         clock-phase = units-finite (clockPhase (c .time) (delayOf delays kind) (c .error) (filterClockError kind (c .error))) (p .0) (p .1);
         first-phase =
-            subst (λ (z : ℤ). Between pi (firstPhase (c .phase) (c .time) z (carrierRate sps (c .offset)))) (sym h)
-            (phase-between (c .phase) (c .time) (carrierRate sps (c .offset)) s (r .phase) (reply-time (c .time) d (counted (c .time) (r .time) f) (q .0) (8 * sps) s (q .1) (held-some sps S) (held-few sps M) (q .2) h small) (carrier-within sps S M W c r) small);
+            subst (λ (z : ℤ). Between pi (firstPhase (c .phase) (c .time) z (carrierRate (perPulse rate) (c .offset)))) (sym h)
+            (phase-between (c .phase) (c .time) (carrierRate (perPulse rate) (c .offset)) s (r .phase) (reply-time (c .time) d (counted (c .time) (r .time) f) (q .0) (8 * perPulse rate) s (q .1) (held-some (perPulse rate) (rate-three rate)) (held-few (perPulse rate) (rate-few rate)) (q .2) h small) (carrier-within rate c r) small);
       }
-
--- ---- at 4 samples per pulse
-pub draw-numbers-at-four : (delays : Delays) → DelaysInRange four delays → (c : MessageConfig) → MessageInRange four c → DrawNumbers four delays c
-draw-numbers-at-four = draw-numbers four (lit≤ tt) (lit≤ tt) turning-at-four
-
-pub reply-numbers-at-four : (delays : Delays) → DelaysInRange four delays → (c : MessageConfig) → MessageInRange four c → (s : ℕ) → configStart delays c ≡ pos s → s < 2 ^ 52 → ReplyNumbers four delays c
-reply-numbers-at-four = reply-numbers four (lit≤ tt) (lit≤ tt) turning-at-four

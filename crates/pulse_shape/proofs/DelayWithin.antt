@@ -1,4 +1,4 @@
--- A delay lies within its prototype: where values of at most 16 in size cross a positive level, the delay is finite, at least 0 and below 7 * sps samples, which is 28 at 4 samples per pulse.
+-- A delay lies within its prototype: where values of at most 16 in size cross a positive level, the delay is finite, at least 0 and below 7 * sps samples, which is 28 at 4 samples per pulse and 56 at 8.
 -- The quotient is of a smaller difference by a larger one, and rounding keeps order.
 use mathlib.Core.Path.{_≡_, refl, sym, ap, _∙_, subst}
 use Prim.Native.Nat.{ℕ, zero, suc, _+_, _-_, _*_, _/_, _^_, _≤_, _<_, zero-le}
@@ -17,7 +17,11 @@ use Rattle.float_rounding.proofs.Units.{G, G-mono, G-zero, G-ge, G-le, Units, n
 use Rattle.float_rounding.proofs.More.{sub-all, of-int, lt-from, nonneg}
 use Rattle.float_rounding.proofs.Order.{le-out, zero-le-fin}
 use Rattle.float_rounding.proofs.Val.{Val, val-units, minus-zero, div-val}
-use Rattle.constants.specs.Rate.{four, branches, prototypeLength}
+use Rattle.constants.specs.declared.SamplesPerPulse.{SamplesPerPulse}
+use Rattle.constants.specs.declared.SamplesPerPulse.the-variants.{Four, Eight}
+use Rattle.constants.specs.Setting.{perPulse}
+use Rattle.constants.specs.Rate.{branches, prototypeLength}
+use Rattle.constants.proofs.Settings.{rate-pos, rate-few}
 use Rattle.pulse_shape.specs.declared.Crossing.{Crossing}
 use Rattle.pulse_shape.specs.declared.Crossing.the-variants.{At, None}
 use Rattle.pulse_shape.specs.Accepted.{within16, allWithin16}
@@ -262,7 +266,7 @@ module _ (sps : ℕ) (level : Float) (S : 0 < sps) (FL : T (fits binary64 level)
       go false c f later = later f
 
 -- ---- the law, at any rate: the delay is at most that of the last two indices
-below-7 : (sps n : ℕ) → 0 < sps → n ≤ (prototypeLength sps - 1) * 2 ^ 1068 → n < 7 * sps * 2 ^ 1074
+pub below-7 : (sps n : ℕ) → 0 < sps → n ≤ (prototypeLength sps - 1) * 2 ^ 1068 → n < 7 * sps * 2 ^ 1074
 below-7 sps n S h = lt-of-le-of-lt h (lt-of-lt-of-le (mul-lt-mul-of-pos-right (less sps S) (pow-pos 1068)) (le-of-eq (mul-assoc (7 * sps) 64 (2 ^ 1068))))
   where
     less : (s : ℕ) → 0 < s → 64 * s * 7 - 1 < 7 * s * 64
@@ -280,11 +284,21 @@ delay-most sps level p d S few FL z H w h e =
     none : (n : ℕ) → 0 + n ≡ n
     none n = omega arith
 
--- at 4 samples per pulse: at least 0, and below 28 samples
-pub delay-within : (level : Float) (p : List Float) (d : Float) → T (fits binary32 level) → T (lt zeroF level) → Held p → allWithin16 p ≡ true → length p ≤ 1792 → groupDelay four level p ≡ At d → T (le zeroF d) × T (lt d (fin false 7 (pos 2)))
-delay-within level p d FL z H w h e =
-    let r = delay-most four level p d (lit< tt) (lit≤ tt) FL z H w h e in
-    (nonneg d (r .0) (r .1), lt-from d 7 (pos 2) (r .0) (28 * 2 ^ 1074) (r .1) refl (below-7 four (r .0) (lit< tt) (r .2)))
+-- at both settings: at least 0, and below 28 samples at 4 samples per pulse, 56 at 8
+abbrev pub sevenPulses : SamplesPerPulse → Float
+sevenPulses Four = fin false 7 (pos 2)
+sevenPulses Eight = fin false 7 (pos 3)
+
+below : (s : SamplesPerPulse) (d : Float) (n : ℕ) → Units d n → n < 7 * perPulse s * 2 ^ 1074 → T (lt d (sevenPulses s))
+below Four d n u h = lt-from d 7 (pos 2) n (28 * 2 ^ 1074) u refl h
+below Eight d n u h = lt-from d 7 (pos 3) n (56 * 2 ^ 1074) u refl h
+
+-- by the law for either prototype
+within-of : (s : SamplesPerPulse) (d : Float) → (n : ℕ) × Units d n × (n ≤ (prototypeLength (perPulse s) - 1) * 2 ^ 1068) → T (le zeroF d) × T (lt d (sevenPulses s))
+within-of s d r = (nonneg d (r .0) (r .1), below s d (r .0) (r .1) (below-7 (perPulse s) (r .0) (rate-pos s) (r .2)))
+
+pub delay-within : (s : SamplesPerPulse) (level : Float) (p : List Float) (d : Float) → T (fits binary32 level) → T (lt zeroF level) → Held p → allWithin16 p ≡ true → length p ≤ prototypeLength (perPulse s) → groupDelay (perPulse s) level p ≡ At d → T (le zeroF d) × T (lt d (sevenPulses s))
+delay-within s level p d FL z H w h e = within-of s d (delay-most (perPulse s) level p d (rate-pos s) (rate-few s) FL z H w h e)
 
 -- ---- Mode A/C: the ratio is from 1 to 2, so its delay is no larger
 ratio-low : 1 * 2 ^ 1074 ≤ G (1500 * 2 ^ 1074) (1450 * 2 ^ 1074)
@@ -319,7 +333,5 @@ mode-ac-delay-most sps level p d S few FL z H w h e =
     room : (s : ℕ) → s ≤ 2 ^ 30 → 64 * s * 7 - 1 < 2 ^ 53
     room s h = omega arith
 
-pub mode-ac-delay-within : (level : Float) (p : List Float) (d : Float) → T (fits binary32 level) → T (lt zeroF level) → Held p → allWithin16 p ≡ true → length p ≤ 1792 → modeACGroupDelay four level p ≡ At d → T (le zeroF d) × T (lt d (fin false 7 (pos 2)))
-mode-ac-delay-within level p d FL z H w h e =
-    let r = mode-ac-delay-most four level p d (lit< tt) (lit≤ tt) FL z H w h e in
-    (nonneg d (r .0) (r .1), lt-from d 7 (pos 2) (r .0) (28 * 2 ^ 1074) (r .1) refl (below-7 four (r .0) (lit< tt) (r .2)))
+pub mode-ac-delay-within : (s : SamplesPerPulse) (level : Float) (p : List Float) (d : Float) → T (fits binary32 level) → T (lt zeroF level) → Held p → allWithin16 p ≡ true → length p ≤ prototypeLength (perPulse s) → modeACGroupDelay (perPulse s) level p ≡ At d → T (le zeroF d) × T (lt d (sevenPulses s))
+mode-ac-delay-within s level p d FL z H w h e = within-of s d (mode-ac-delay-most (perPulse s) level p d (rate-pos s) (rate-few s) FL z H w h e)

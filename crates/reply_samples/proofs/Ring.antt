@@ -7,10 +7,12 @@ use mathlib.Core.Logic.{inl, inr}
 use mathlib.Core.Bool.{Bool, true, false, cond}
 use mathlib.Core.List.{List, [], _∷_}
 use borrow.Author.Tests.{lt-ltb, le-ltb}
-use lib.Dec.{ltb, lit≤}
+use lib.Dec.{ltb, lit<}
 use lib.ListN.{length}
 use lib.Ieee.{Float}
-use Rattle.constants.specs.Rate.{four}
+use Rattle.constants.specs.declared.SamplesPerPulse.{SamplesPerPulse}
+use Rattle.constants.specs.declared.SamplesPerPulse.the-variants.{Four, Eight}
+use Rattle.constants.specs.Setting.{perPulse}
 use Rattle.filterbank.proofs.Padded.{le-or-lt}
 use Rattle.reply_samples.specs.declared.Sample.{Sample}
 use Rattle.reply_samples.specs.RingModel.{ringSlots, addedAt, nextSlot, addedFrom, isSlot, addedReply}
@@ -29,12 +31,14 @@ step W s h = elim (le-or-lt (W - 1) (s % W)) [
     inside : (W r : ℕ) → r < W - 1 → r + 1 < W
     inside W r l = omega arith
 
-pub next-ring : (sps s : ℕ) → 0 < ringSlots sps → nextSlot sps (s % ringSlots sps) ≡ (s + 1) % ringSlots sps
-unfolding nextSlot
-next-ring sps s h = step (ringSlots sps) s h
+some-slots : (s : SamplesPerPulse) → 0 < ringSlots (perPulse s)
+some-slots Four = lit< tt
+some-slots Eight = lit< tt
 
-pub next-at-four : (s : ℕ) → nextSlot four (s % 1126) ≡ (s + 1) % 1126
-next-at-four s = next-ring four s (lit≤ tt)
+-- at both settings
+pub next-ring : (setting : SamplesPerPulse) (s : ℕ) → nextSlot (perPulse setting) (s % ringSlots (perPulse setting)) ≡ (s + 1) % ringSlots (perPulse setting)
+unfolding nextSlot
+next-ring setting s = step (ringSlots (perPulse setting)) s (some-slots setting)
 
 pub length-kept : (sps : ℕ) (m : List Float) (slot : ℕ) (zs : List Sample) → length (addedFrom sps m slot zs) ≡ length m
 unfolding addedFrom

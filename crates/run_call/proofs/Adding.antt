@@ -23,24 +23,27 @@ use Rattle.draw_config.proofs.Message.{completed-is}
 use Rattle.reply_record.specs.Record.{recordBytes, recordAt}
 use Rattle.reply_samples.specs.declared.Sample.{Sample}
 use Rattle.reply_samples.specs.Samples.{replySamples, replyCount}
-use Rattle.reply_samples.specs.RingModel.{addedAt, addedFrom, isSlot, addedReply, addedCount}
+use Rattle.reply_samples.specs.RingModel.{ringSlots, addedAt, addedFrom, isSlot, addedReply, addedCount}
 use Rattle.reply_samples.proofs.Ring.{next-ring}
 use Rattle.reply_samples.proofs.Counts.{samples-counted}
 use Rattle.run_add_reply.specs.RecordedModel.{messageAt, memoryWith, recordsWith}
-use Rattle.run_generator.specs.Instance.{pairOf, Filters, instanceOf}
+use Rattle.run_generator.specs.Instance.{pairOf, Filters, pulseSamples, instanceOf}
 
 module _ (f : Filters) (total : ℕ) where
-  pub added-put : (zs : List Sample) (m : List Float) (s : ℕ) → addedFrom four m (s % 1126) zs ≡ put (instanceOf f total) nan m s (map pairOf zs)
+  abbrev slots : ℕ
+  slots = ringSlots (pulseSamples f)
+
+  pub added-put : (zs : List Sample) (m : List Float) (s : ℕ) → addedFrom (pulseSamples f) m (s % ringSlots (pulseSamples f)) zs ≡ put (instanceOf f total) nan m s (map pairOf zs)
   unfolding addedFrom addedAt pairOf
   added-put [] m s = refl
   added-put (z ∷ zs) m s =
-      ap (λ (q : ℕ). addedFrom four (addedAt m (s % 1126) z) q zs) (next-ring four s (lit< tt))
-      ∙ added-put zs (addedAt m (s % 1126) z) (s + 1)
-      ∙ ap (λ (n : ℕ). put (instanceOf f total) nan (addedAt m (s % 1126) z) n (map pairOf zs)) (add-one s)
+      ap (λ (q : ℕ). addedFrom (pulseSamples f) (addedAt m (s % slots) z) q zs) (next-ring (f .setting) s)
+      ∙ added-put zs (addedAt m (s % slots) z) (s + 1)
+      ∙ ap (λ (n : ℕ). put (instanceOf f total) nan (addedAt m (s % slots) z) n (map pairOf zs)) (add-one s)
 
   -- the number of samples that the theory counts
-  pub counts : (amplitude : Float) (c : MessageConfig) → length (map pairOf (replySamples four (f .modeS) (f .modeAC) (f .delays) amplitude c)) ≡ replyCount four (f .delays) c
-  counts amplitude c = length-map (replySamples four (f .modeS) (f .modeAC) (f .delays) amplitude c) pairOf ∙ samples-counted four (f .modeS) (f .modeAC) (f .delays) amplitude c
+  pub counts : (amplitude : Float) (c : MessageConfig) → length (map pairOf (replySamples (pulseSamples f) (f .modeS) (f .modeAC) (f .delays) amplitude c)) ≡ replyCount (pulseSamples f) (f .delays) c
+  counts amplitude c = length-map (replySamples (pulseSamples f) (f .modeS) (f .modeAC) (f .delays) amplitude c) pairOf ∙ samples-counted (pulseSamples f) (f .modeS) (f .modeAC) (f .delays) amplitude c
 
 -- ---- what the two calls leave, at a slot of working memory and where there is room for a record
 a-slot : (m : List Float) (slot : ℕ) → length m ≡ 2252 → slot < 1126 → isSlot four m slot ≡ true

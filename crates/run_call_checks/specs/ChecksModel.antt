@@ -14,6 +14,7 @@ use Rattle.settings.specs.declared.MessagesPerSecond.{MessagesPerSecond}
 use Rattle.draw.specs.Draw.{drawAt}
 use Rattle.draw.specs.Config.{timeAfter}
 use Rattle.draw.specs.declared.DrawFault as DrawFault
+use Rattle.constants.specs.declared.SamplesPerPulse.the-variants.{Four}
 use Rattle.run_generator.specs.Instance.{instanceOf}
 
 -- and of a run call's own: output empty or of odd length, or draw bytes no multiple of 65
@@ -31,4 +32,4 @@ faultRead (DrawFault.the-variants.At k field) = some (Bench.wrongDraw k field)
 
 -- the generator of rates and distributions: the check of draws depends on nothing else
 abbrev pub checkGenerator : MessagesPerSecond → Distributions → Generator
-checkGenerator rates all = instanceOf (record { rates = rates; distributions = all; delays = record { «mode_s» = nought; «mode_ac» = nought }; modeS = []; modeAC = [] }) 0
+checkGenerator rates all = instanceOf (record { setting = Four; rates = rates; distributions = all; delays = record { «mode_s» = nought; «mode_ac» = nought }; modeS = []; modeAC = [] }) 0

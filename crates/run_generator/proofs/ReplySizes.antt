@@ -7,7 +7,9 @@ use lib.Dec.{lit≤}
 use lib.ListN.{length}
 use lib.Ieee.{Float, nan, inf, fin, binary32, binary64, up, down, round, add, mul}
 use lib.Ieee.Fits.{down-pos}
-use Rattle.constants.specs.Rate.{four, prototypeLength}
+use Rattle.constants.specs.declared.SamplesPerPulse.{SamplesPerPulse}
+use Rattle.constants.specs.Setting.{perPulse}
+use Rattle.constants.specs.Rate.{prototypeLength}
 use Rattle.float_rounding.proofs.AtMost.{AtMost, Rounds, rounds-whole, at-most-within, round-at-most, mul-at-most}
 use Rattle.float_rounding.proofs.Size.{Within}
 use Rattle.float_narrow.specs.Narrow.{narrow}
@@ -67,20 +69,21 @@ rotated-sized amplitude rate phase (v ∷ vs) a r w h =
     (sample-sized amplitude v phase a (h .0) w, rotated-sized amplitude rate (phaseWrapOnce (add binary64 phase rate)) vs a r (stepped-within phase rate w r) (h .1))
 
 -- a prototype that a run is opened with
-pub record SmallPrototype (p : List Float) : Type 0 where
-  pub whole : length p ≡ prototypeLength four
+pub record SmallPrototype (s : SamplesPerPulse) (p : List Float) : Type 0 where
+  pub whole : length p ≡ prototypeLength (perPulse s)
   pub small : allWithin16 p ≡ true
 
-own : (k : ReplyKind) (modeS modeAC : List Float) → SmallPrototype modeS → SmallPrototype modeAC → SmallPrototype (prototypeOf k modeS modeAC)
-unfolding prototypeOf
-own Short modeS modeAC p q = p
-own Long modeS modeAC p q = p
-own ModeAc modeS modeAC p q = q
+module _ (s : SamplesPerPulse) where
+  own : (k : ReplyKind) (modeS modeAC : List Float) → SmallPrototype s modeS → SmallPrototype s modeAC → SmallPrototype s (prototypeOf k modeS modeAC)
+  unfolding prototypeOf
+  own Short modeS modeAC p q = p
+  own Long modeS modeAC p q = p
+  own ModeAc modeS modeAC p q = q
 
-pub reply-sized : (modeS modeAC : List Float) → SmallPrototype modeS → SmallPrototype modeAC → (delays : Delays) (amplitude : Float) (c : MessageConfig) → AtMost (2 ^ 20) amplitude → ClockInRange delays c → Within (configRate four c) piUnits → Within (configPhase four delays c) piUnits
-    → Each Sized (replySamples four modeS modeAC delays amplitude c)
-unfolding replySamples samplesBy
-reply-sized modeS modeAC p q delays amplitude c a clock rate phase =
-    let g = own (c .reply .kind) modeS modeAC p q in
-    rotated-sized amplitude (configRate four c) (configPhase four delays c) (applyFilterbank four (prototypeOf (c .reply .kind) modeS modeAC) (positionsOf (c .reply)) (configClockPhase delays c) (configClockError c)) a rate phase
-    (values-sized (prototypeOf (c .reply .kind) modeS modeAC) (g .whole) (g .small) (positionsOf (c .reply)) (configClockPhase delays c) (configClockError c) clock)
+  pub reply-sized : (modeS modeAC : List Float) → SmallPrototype s modeS → SmallPrototype s modeAC → (delays : Delays) (amplitude : Float) (c : MessageConfig) → AtMost (2 ^ 20) amplitude → ClockInRange delays c → Within (configRate (perPulse s) c) piUnits → Within (configPhase (perPulse s) delays c) piUnits
+      → Each Sized (replySamples (perPulse s) modeS modeAC delays amplitude c)
+  unfolding replySamples samplesBy
+  reply-sized modeS modeAC p q delays amplitude c a clock rate phase =
+      let g = own (c .reply .kind) modeS modeAC p q in
+      rotated-sized amplitude (configRate (perPulse s) c) (configPhase (perPulse s) delays c) (applyFilterbank (perPulse s) (prototypeOf (c .reply .kind) modeS modeAC) (positionsOf (c .reply)) (configClockPhase delays c) (configClockError c)) a rate phase
+      (values-sized s (prototypeOf (c .reply .kind) modeS modeAC) (g .whole) (g .small) (positionsOf (c .reply)) (configClockPhase delays c) (configClockError c) clock)

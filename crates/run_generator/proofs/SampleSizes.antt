@@ -9,7 +9,6 @@ use native.Mathlib.Omega.{arith}
 use lib.IntN.{pos}
 use lib.Ieee.{Float, nan, inf, fin, binary32, binary64, up, down, ofBits, round, le}
 use lib.Ieee.Fits.{sub-fits, div-fits}
-use Rattle.constants.specs.Rate.{four}
 use Rattle.float_rounding.proofs.AtMost.{AtMost, Rounds, rounds-whole, add-at-most, mul-at-most}
 use Rattle.float_rounding.proofs.Size.{Within}
 use Rattle.float_narrow.specs.Range.{within}
@@ -33,7 +32,7 @@ use Rattle.run_theory.proofs.Times.{GoodTime}
 use Rattle.draw.specs.Config.{configOf}
 use Rattle.reply_samples.specs.declared.Sample.{Sample}
 use Rattle.reply_samples.specs.Samples.{replySamples}
-use Rattle.run_generator.specs.Instance.{pairOf, outOfRange, Filters, RepresentableDraw, draws, instanceOf}
+use Rattle.run_generator.specs.Instance.{pairOf, outOfRange, Filters, pulseSamples, RepresentableDraw, draws, instanceOf}
 use Rattle.run_generator.proofs.FiltersInRange.{FiltersInRange}
 use Rattle.run_generator.proofs.MessageInRange.{message-in-range, draw-finite, reply-finite}
 use Rattle.run_generator.proofs.InstanceDrawLaws.{time-in-range, fields, reply-at, below-52}
@@ -67,16 +66,16 @@ in-range-sized v e = go v (un (within v (ofBits binary32 0x4280_0000)) e)
         size a d h = omega arith
 
 -- ---- the carrier's rate and first phase, in units
-rate-within : (c : MessageConfig) → Between pi (configRate four c) → Within (configRate four c) piUnits
+rate-within : (sps : ℕ) (c : MessageConfig) → Between pi (configRate sps c) → Within (configRate sps c) piUnits
 unfolding configRate carrierRate
-rate-within c h = within-of-tests (configRate four c) pi piUnits (div-fits binary64 _ _) pi-val h
+rate-within sps c h = within-of-tests (configRate sps c) pi piUnits (div-fits binary64 _ _) pi-val h
 
-phase-within : (delays : Delays) (c : MessageConfig) → Between pi (configPhase four delays c) → Within (configPhase four delays c) piUnits
+phase-within : (sps : ℕ) (delays : Delays) (c : MessageConfig) → Between pi (configPhase sps delays c) → Within (configPhase sps delays c) piUnits
 unfolding configPhase firstPhase phaseWrap
-phase-within delays c h = within-of-tests (configPhase four delays c) pi piUnits (sub-fits binary64 _ _) pi-val h
+phase-within sps delays c h = within-of-tests (configPhase sps delays c) pi piUnits (sub-fits binary64 _ _) pi-val h
 
 -- ---- the filters' prototypes are good, and what the theorem about draws asks
-module _ (f : Filters) (R : FiltersInRange f) (total : ℕ) (few : total ≤ 2 ^ 52) (p : SmallPrototype (f .modeS)) (q : SmallPrototype (f .modeAC)) where
+module _ (f : Filters) (R : FiltersInRange f) (total : ℕ) (few : total ≤ 2 ^ 52) (p : SmallPrototype (f .setting) (f .modeS)) (q : SmallPrototype (f .setting) (f .modeAC)) where
   mapped : (zs : List Sample) → Each Sized zs → Each (Both (AtMost most)) (map pairOf zs)
   unfolding pairOf
   mapped [] h = tt
@@ -90,12 +89,12 @@ module _ (f : Filters) (R : FiltersInRange f) (total : ℕ) (few : total ≤ 2 ^
       let m = message-in-range f R t (time-in-range t g) d r in
       let start = reply-at f R total few t d s k in
       let low = below-52 f R total few t d s k in
-      mapped (replySamples four (f .modeS) (f .modeAC) (f .delays) (d .draw .amplitude) c)
-      (reply-sized (f .modeS) (f .modeAC) p q (f .delays) (d .draw .amplitude) c
+      mapped (replySamples (pulseSamples f) (f .modeS) (f .modeAC) (f .delays) (d .draw .amplitude) c)
+      (reply-sized (f .setting) (f .modeS) (f .modeAC) p q (f .delays) (d .draw .amplitude) c
       (up-to-sized (d .draw .amplitude) 1 (pos 20) (2 ^ 20) (lit≤ tt) (r .amplitude-from) (r .amplitude-to))
-      (first-clock-of (f .delays) (R .delays) c s (m .time) (m .error) start low)
-      (rate-within c (draw-finite f R t (time-in-range t g) d r .rate))
-      (phase-within (f .delays) c (reply-finite f R t (time-in-range t g) d r s start low .first-phase)))
+      (first-clock-of (f .setting) (f .delays) (R .delays) c s (m .time) (m .error) start low)
+      (rate-within (pulseSamples f) c (draw-finite f R t (time-in-range t g) d r .rate))
+      (phase-within (pulseSamples f) (f .delays) c (reply-finite f R t (time-in-range t g) d r s start low .first-phase)))
 
   kept : KeptBySums (instanceOf f total) (instance-laws f R total few) (AtMost (2 ^ 53)) (AtMost most)
   unfolding instance-laws laws

@@ -10,7 +10,9 @@ use lib.Dec.{T, ltb, eqb, ltb→lt, lit≤}
 use lib.ListN.{length, getD, drop, replicate}
 use lib.Ieee.{Float, nan, inf, fin, up, down, binary32, binary64, ofBits, neg, add, sub, mul, le, lt, fits}
 use lib.Ieee.Fits.{and-l, and-r, add-fits, sub-fits, div-fits}
-use Rattle.constants.specs.Rate.{four, branches, prototypeLength}
+use Rattle.constants.specs.declared.SamplesPerPulse.{SamplesPerPulse}
+use Rattle.constants.specs.Setting.{perPulse}
+use Rattle.constants.specs.Rate.{branches, prototypeLength}
 use Rattle.float_rounding.proofs.Order.{le-fin, fin-le}
 use Rattle.float_rounding.proofs.AtMost.{AtMost, rounds-whole, at-most-more, at-most-between, add-at-most, sub-at-most, mul-at-most}
 use Rattle.run_theory.specs.Each.{Each}
@@ -21,11 +23,11 @@ use Rattle.filterbank.specs.Taps.{branchOf, tauOf, branch, nextBranch, one, bet
 use Rattle.filterbank.specs.PulseSum.{sumWhere, pulseBack, pulseSum}
 use Rattle.filterbank.specs.Clocked.{one as clockOne, stepOf, startClock, advance, settle}
 use Rattle.filterbank.specs.Apply.{clockValues, limitOf, fuelOf, valueAt, applyFilterbank}
-use Rattle.filterbank.proofs.Grid.{Stepping, Kept, kept-step}
-use Rattle.filterbank.proofs.ClockAtFour.{grid4, step-in, starts}
+use Rattle.filterbank.proofs.Grid.{Grid, Stepping, Kept, kept-step}
+use Rattle.filterbank.proofs.ClockSteps.{grid, step-in, starts}
 use Rattle.filterbank.proofs.EndsByItself.{InRange}
 use Rattle.filterbank.proofs.PhaseWithin.{kept-phase}
-use Rattle.filterbank.proofs.BranchWithin.{branch-within}
+use Rattle.filterbank.proofs.BranchWithin.{branch-in-bank}
 use Rattle.filterbank.proofs.ValueAt.{length-taps}
 
 -- ---- the prototype
@@ -110,14 +112,17 @@ up-to-sized (fin true m e) n d l h p q = le-trans (le-of-eq (none (m * up e) (le
     none : (a : ℕ) → a * 1 ≡ 0 → a ≡ 0
     none a h = omega arith
 
--- at a rate of 2 ^ l branches
-taps-sized : (sps l : ℕ) → branches sps ≡ 2 ^ l → 2 ^ l ≤ 2 ^ 20 → (p : List Float) → length p ≡ prototypeLength sps → allWithin16 p ≡ true → (phase : Float) → T (fits binary64 phase) → T (le (fin false 0 (pos 0)) phase) → T (lt phase (fin false 1 (pos 0))) → Each (AtMost 48) (filterTaps sps p phase)
+-- at both settings
+taps-sized : (s : SamplesPerPulse) (p : List Float) → length p ≡ prototypeLength (perPulse s) → allWithin16 p ≡ true → (phase : Float) → T (fits binary64 phase) → T (le (fin false 0 (pos 0)) phase) → T (lt phase (fin false 1 (pos 0))) → Each (AtMost 48) (filterTaps (perPulse s) p phase)
 unfolding filterTaps
-taps-sized sps l B few p whole w phase F low high = go (eqb (length p) (prototypeLength sps))
+taps-sized s p whole w phase F low high = go (eqb (length p) (prototypeLength sps))
   where
+    sps : ℕ
+    sps = perPulse s
+
     go : (b : Bool) → Each (AtMost 48) (cond b (between (tauOf sps phase) (branch sps p (branchOf sps phase)) (nextBranch sps p (branchOf sps phase))) (replicate 7 (ofBits binary32 0)))
     go true =
-        let a = branch-within sps l B few phase F low high in
+        let a = branch-in-bank s phase F low high in
         between-sized (tauOf sps phase) (branch sps p (branchOf sps phase)) (nextBranch sps p (branchOf sps phase)) (up-to-sized (tauOf sps phase) 1 (pos 0) 1 (lit≤ tt) (a .2) (a .3)) (branch-sized sps p whole w (branchOf sps phase) (a .0)) (next-sized sps p whole w (branchOf sps phase) (a .0))
     go false = zeros-sized 48 7
 
@@ -159,26 +164,27 @@ advance-fits step clock = go (le clockOne (add binary64 (clock .phase) step))
     go true = sub-fits binary64 (add binary64 (clock .phase) step) clockOne
     go false = add-fits binary64 (clock .phase) step
 
-module _ (l : ℕ) (step : Float) (S : Stepping grid4 step) (limit : ℕ) (value : Clock → Float)
-    (sized : (n : ℕ) (c : Clock) → Kept grid4 n c → T (fits binary64 (c .phase)) → AtMost l (value c)) where
-  clocks-sized : (fuel n : ℕ) (c : Clock) → Kept grid4 n c → T (fits binary64 (c .phase)) → Each (AtMost l) (clockValues fuel limit step value c)
+module _ (g : Grid) (l : ℕ) (step : Float) (S : Stepping g step) (limit : ℕ) (value : Clock → Float)
+    (sized : (n : ℕ) (c : Clock) → Kept g n c → T (fits binary64 (c .phase)) → AtMost l (value c)) where
+  clocks-sized : (fuel n : ℕ) (c : Clock) → Kept g n c → T (fits binary64 (c .phase)) → Each (AtMost l) (clockValues fuel limit step value c)
   unfolding clockValues
   clocks-sized zero n c k F = tt
-  clocks-sized (suc fuel) n c k F = go (ltb (c .index) limit) (clocks-sized fuel (suc n) (advance step c) (kept-step grid4 n step c S k) (advance-fits step c))
+  clocks-sized (suc fuel) n c k F = go (ltb (c .index) limit) (clocks-sized fuel (suc n) (advance step c) (kept-step g n step c S k) (advance-fits step c))
     where
       go : (b : Bool) → Each (AtMost l) (clockValues fuel limit step value (advance step c)) → Each (AtMost l) (cond b (value c ∷ clockValues fuel limit step value (advance step c)) [])
       go true ih = (sized n c k F, ih)
       go false ih = tt
 
-start-fits : (phase : Float) → T (fits binary64 (startClock four phase .phase))
+start-fits : (sps : ℕ) (phase : Float) → T (fits binary64 (startClock sps phase .phase))
 unfolding startClock
-start-fits phase = div-fits binary64 phase _
+start-fits sps phase = div-fits binary64 phase _
 
--- at 4 samples per pulse
-pub values-sized : (p : List Float) → length p ≡ prototypeLength four → allWithin16 p ≡ true → (pulses : List Bool) (phase e : Float) → InRange phase e → Each (AtMost 336) (applyFilterbank four p pulses phase e)
+-- at both settings
+pub values-sized : (s : SamplesPerPulse) (p : List Float) → length p ≡ prototypeLength (perPulse s) → allWithin16 p ≡ true → (pulses : List Bool) (phase e : Float) → InRange phase e → Each (AtMost 336) (applyFilterbank (perPulse s) p pulses phase e)
 unfolding applyFilterbank valueAt
-values-sized p whole w pulses phase e r =
+values-sized s p whole w pulses phase e r =
+    let sps = perPulse s in
     let limit = limitOf (length pulses) in
-    clocks-sized 336 (stepOf four e) (step-in e (r .slowest) (r .fastest)) limit (valueAt four p pulses)
-    (λ n c k F. let h = kept-phase grid4 n c k in pulses-sized (filterTaps four p (c .phase)) pulses (c .index) (length-taps four p (c .phase)) (taps-sized four 8 refl (lit≤ tt) p whole w (c .phase) F (h .0) (h .1)))
-    (fuelOf four limit) 0 (startClock four phase) (starts phase (r .held) (r .low) (r .high)) (start-fits phase)
+    clocks-sized (grid s) 336 (stepOf sps e) (step-in s e (r .slowest) (r .fastest)) limit (valueAt sps p pulses)
+    (λ n c k F. let h = kept-phase (grid s) n c k in pulses-sized (filterTaps sps p (c .phase)) pulses (c .index) (length-taps sps p (c .phase)) (taps-sized s p whole w (c .phase) F (h .0) (h .1)))
+    (fuelOf sps limit) 0 (startClock sps phase) (starts s phase (r .held) (r .low) (r .high)) (start-fits sps phase)

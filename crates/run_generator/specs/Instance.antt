@@ -4,7 +4,8 @@ use mathlib.Core.Bool.{Bool, not}
 use mathlib.Core.List.{List, map}
 use mathlib.Core.Option.{Option, none, some}
 use lib.Ieee.{Float, binary32, ofBits}
-use Rattle.constants.specs.Rate.{four}
+use Rattle.constants.specs.declared.SamplesPerPulse.{SamplesPerPulse}
+use Rattle.constants.specs.Setting.{perPulse}
 use Rattle.run_theory.specs.Generator.{Generator, startFrom, Pair}
 use Rattle.run_theory.specs.FloatGenerator.{Draws, generator}
 use Rattle.float_narrow.specs.Range.{within}
@@ -33,8 +34,9 @@ faultOf (Field field) = some field
 unfoldable pub outOfRange : Float → Bool
 outOfRange v = not (within v (ofBits binary32 0x4280_0000))
 
--- what a run is opened to: rates, distributions, delays and prototypes
+-- what a run is opened to: samples per pulse, rates, distributions, delays and prototypes
 pub record Filters : Type 0 where
+  pub setting : SamplesPerPulse
   pub rates : MessagesPerSecond
   pub distributions : Distributions
   pub delays : Delays
@@ -46,12 +48,16 @@ pub record RepresentableDraw : Type 0 where
   pub draw : Draw
   pub held : Representable draw
 
+-- its samples per pulse as a number
+abbrev pub pulseSamples : Filters → ℕ
+pulseSamples f = perPulse (f .setting)
+
 abbrev pub draws : Filters → Draws
 draws f = record {
   Draw = RepresentableDraw;
   gap = λ d. d .draw .gap;
   start = λ t d. startFrom (startAt (f .distributions) (f .delays) t (d .draw));
-  adds = λ t d s. map pairOf (replySamples four (f .modeS) (f .modeAC) (f .delays) (d .draw .amplitude) (configOf (f .distributions) t (d .draw)));
+  adds = λ t d s. map pairOf (replySamples (pulseSamples f) (f .modeS) (f .modeAC) (f .delays) (d .draw .amplitude) (configOf (f .distributions) t (d .draw)));
   entry = λ t d s n. recordBytes (configOf (f .distributions) t (d .draw)) s (d .draw .kind) n;
   fault = λ d. faultOf (drawFault (f .rates) (f .distributions) (d .draw));
   outOfRange = outOfRange;
@@ -60,4 +66,4 @@ draws f = record {
 
 -- the generator of a run of n samples
 abbrev pub instanceOf : Filters → ℕ → Generator
-instanceOf f total = generator (draws f) four total
+instanceOf f total = generator (draws f) (pulseSamples f) total

@@ -11,6 +11,7 @@ use Rattle.pulse_shape.specs.declared.Crossing.the-variants.{At}
 use Rattle.pulse_shape.specs.Prototype.{modeSPrototype, modeACPrototype}
 use Rattle.pulse_shape.specs.Accepted.{allWithin16}
 use Rattle.pulse_shape.specs.GroupDelay.{groupDelay, modeACGroupDelay}
+use Rattle.constants.specs.declared.SamplesPerPulse.the-variants.{Four}
 use Rattle.run_generator.proofs.FiltersInRange as Range
 use Rattle.run_call.specs.declared.State.{State}
 use Rattle.run_call.specs.StateGenerator.{filtersOf, genOf}
@@ -68,7 +69,7 @@ module _ (tapsS tapsAC : List Float) (bytes : List ℕ) (l : OpenBuffers) where
         let w = what-is-opened in
         let held = read-held bytes in
         subst (λ (s : State). Range.FiltersInRange (filtersOf s (modeSPrototype four tapsS) (modeACPrototype four tapsAC)) × (s .total ≤ 2 ^ 52)) (sym (w .is))
-        (Range.opened-in-range (settingsOf bytes) held (levelOf bytes) (held .level) (accepted-level four (settingsOf bytes) (w .total) (w .all) (w .settings)) tapsS tapsAC (w .total) (w .all) (w .modeS) (w .modeAC) (w .settings) (w .delay-s .0) (w .delay-ac .0) (w .delay-s .1) (w .delay-ac .1))
+        (Range.opened-in-range Four (settingsOf bytes) held (levelOf bytes) (held .level) (accepted-level four (settingsOf bytes) (w .total) (w .all) (w .settings)) tapsS tapsAC (w .total) (w .all) (w .modeS) (w .modeAC) (w .settings) (w .delay-s .0) (w .delay-ac .0) (w .delay-s .1) (w .delay-ac .1))
 
     -- with what opening leaves in working memory it is the theory's opened state
     pub opened-first :
