@@ -76,15 +76,19 @@ fn settings_of(t: &mut Tally, n: usize, tape: &Tape) {
     }
 }
 
-/// Samples and records of a whole run, lent in parts of one size, are the reference's; and so where it is stored and taken up
+/// Samples and records of a whole run, lent in parts of one size, are the reference's, and the reply samples that the answers
+/// count are those that its records count; and so where it is stored and taken up
 /// again between calls.
 fn whole(t: &mut Tally, r: &mut Random, seed: &str, tape: &Tape) {
     let Ok(run) = judge::run(tape) else { return };
     let samples = r.pick(&[1, 64, 1000, 4096, 65_536]);
+    let lines = run.records.chunks(RECORD_BYTES);
+    let counts: u128 = lines.map(|b| u128::from(u16::from_le_bytes([b[49], b[50]]))).sum();
     let mut held = |name: &'static str, samples: usize, stored: bool| {
-        let (ours, records) = port::run_whole(tape, samples, stored);
+        let (ours, records, added) = port::run_whole(tape, samples, stored);
         let wrong = first_difference("samples", &bytes_of(&run.samples), &bytes_of(&ours))
-            .or_else(|| first_difference("records", &run.records, &records));
+            .or_else(|| first_difference("records", &run.records, &records))
+            .or_else(|| (added != counts).then(|| format!("the records count {counts}, the answers {added}")));
         t.compare(name, seed, &tape.to_bytes(), wrong);
     };
     held("whole runs", samples, false);
