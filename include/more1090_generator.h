@@ -141,13 +141,13 @@ more1090_open_result more1090_open(const uint8_t *settings, size_t settings_leng
 /* A run call. Checks 9, then 7 of every draw, then 8 of every noise value, before any work, and answers the first that
  * fails: counts are then 0, state is the one given, and nothing lent is changed. Else it takes draws and writes samples and
  * records until one of the five stops; memory goes on to the next call, and output and records past what was written are
- * unchanged. Sample n of the run is what the replies add there, in the order of their draws, plus noise values 2n and
- * 2n + 1 times 2^-10, counted from the run's start; a record stands for each reply, in the order of the draws. samples_added is the sum of the
- * counts in the records that this call wrote, each at most 1,094: a reply's whole count belongs to the call that takes its
- * draw, not to those that write its samples. (A draw that
- * would start before sample 0 is taken and ignored, but its gap counts.) So lend the draws that were not taken and the noise
- * that was not used again, ahead of new ones: how a run is cut into calls then changes no sample, no record and no total of samples added. From an
- * opened run every number of a sample is finite and at most 2^53 in size, however long it lasts. */
+ * unchanged. Sample n of the run is what the replies add there, in the order of their draws, plus noise values 2n and 2n + 1
+ * times 2^-10, counted from the run's start; a record stands for each reply, in the order of the draws. samples_added is the
+ * sum of the counts in the records that this call wrote, each at most 1,094: a reply's whole count belongs to the call that
+ * takes its draw, not to those that write its samples. (A draw that would start before sample 0 is taken and ignored, but
+ * its gap counts.) So lend the draws that were not taken and the noise that was not used again, ahead of new ones: how a run
+ * is cut into calls then changes no sample, no record and no total of samples added. From an opened run every number of a
+ * sample is finite and at most 2^53 in size, however long it lasts. */
 more1090_run_result more1090_run(more1090_state state,
                           const float *mode_s, size_t mode_s_length,
                           const float *mode_ac, size_t mode_ac_length,
