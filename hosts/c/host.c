@@ -94,6 +94,6 @@ int main(int argc, char **argv) {
         if (fwrite(output, 2 * sizeof *output, ran.samples_written, out) != ran.samples_written)
             return 1;
     }
-    fprintf(stderr, "reply samples added: %llu * 2^64 + %llu\n", (unsigned long long)high, (unsigned long long)low);
+    fprintf(stderr, "reply samples added: high half %llu, low half %llu\n", (unsigned long long)high, (unsigned long long)low);
     return fclose(out) == 0 ? 0 : 1;
 }
