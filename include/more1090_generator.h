@@ -126,6 +126,8 @@ typedef struct more1090_run_result {
     uint64_t refusal;         /* 0, or 7 to 9 */
     uint64_t value;
     uint64_t field;
+    uint64_t samples_added_high; /* reply samples added to working memory, in two halves: high times 2^64 plus low */
+    uint64_t samples_added_low;
 } more1090_run_result;
 
 /* Opens a run. Checks 9 (settings, mode_s, mode_ac, memory), then 1 to 4, 14, 5 and 6, and answers the first that fails: state is then
@@ -141,11 +143,13 @@ more1090_open_result more1090_open(const uint8_t *settings, size_t settings_leng
 /* A run call. Checks 9, then 7 of every draw, then 8 of every noise value, before any work, and answers the first that
  * fails: counts are then 0, state is the one given, and nothing lent is changed. Else it takes draws and writes samples and
  * records until one of the five stops; memory goes on to the next call, and output and records past what was written are
- * unchanged. Sample n of the run is what the replies add there, in the order of their draws, plus noise values 2n and
- * 2n + 1 times 2^-10, counted from the run's start; a record stands for each reply, in the order of the draws. (A draw that
- * would start before sample 0 is taken and ignored, but its gap counts.) So lend the draws that were not taken and the noise
- * that was not used again, ahead of new ones: how a run is cut into calls then changes no sample and no record. From an
- * opened run every number of a sample is finite and at most 2^53 in size, however long it lasts. */
+ * unchanged. Sample n of the run is what the replies add there, in the order of their draws, plus noise values 2n and 2n + 1
+ * times 2^-10, counted from the run's start; a record stands for each reply, in the order of the draws. samples_added is the
+ * sum of the counts in the records that this call wrote, each at most 1,094: a reply's whole count belongs to the call that
+ * takes its draw, not to those that write its samples. (A draw that would start before sample 0 is taken and ignored, but
+ * its gap counts.) So lend the draws that were not taken and the noise that was not used again, ahead of new ones: how a run
+ * is cut into calls then changes no sample, no record and no total of samples added. From an opened run every number of a
+ * sample is finite and at most 2^53 in size, however long it lasts. */
 more1090_run_result more1090_run(more1090_state state,
                           const float *mode_s, size_t mode_s_length,
                           const float *mode_ac, size_t mode_ac_length,
@@ -201,7 +205,8 @@ uint64_t more1090_level(uint64_t tenths, float *amplitude);
 #endif
 MORE1090_ASSERT(sizeof(more1090_state) == 184 && offsetof(more1090_state, ended) == 176);
 MORE1090_ASSERT(sizeof(more1090_open_result) == 200 && offsetof(more1090_open_result, refusal) == 184);
-MORE1090_ASSERT(sizeof(more1090_run_result) == 248 && offsetof(more1090_run_result, draws_taken) == 184);
+MORE1090_ASSERT(sizeof(more1090_run_result) == 264 && offsetof(more1090_run_result, draws_taken) == 184);
+MORE1090_ASSERT(offsetof(more1090_run_result, samples_added_high) == 248);
 #undef MORE1090_ASSERT
 
 #endif

@@ -59,6 +59,8 @@ pub struct Counts {
     pub samples: usize,
     pub noise: usize,
     pub records: usize,
+    /// Reply samples added: a reply's whole count, when its draw is taken.
+    pub added: u128,
 }
 
 /// An unrefused call's counts, and what it wrote.
@@ -154,6 +156,7 @@ impl Bench {
                 samples: 0,
                 noise: 0,
                 records: 0,
+                added: 0,
             },
             output: Vec::new(),
             records: Vec::new(),
@@ -240,6 +243,7 @@ impl Bench {
         assert!(samples.len() as i128 <= LONGEST_REPLY);
         ran.records.extend(judge::record(config));
         ran.counts.records += 1;
+        ran.counts.added += samples.len() as u128;
         self.replies.push(Reply { start, samples });
     }
 }

@@ -40,7 +40,7 @@ impl List {
         let bench = Bench::open(settings, mode_s, mode_ac, lent);
         match &bench {
             Ok(bench) => {
-                put_words(&mut expected, [0; 6]);
+                put_words(&mut expected, [0; 8]);
                 for p in crate::judge::prototypes(&[mode_s, mode_ac].concat(), bench.trigger_level()) {
                     put_floats(&mut expected, &p);
                 }
@@ -89,10 +89,11 @@ impl List {
         match &answer {
             Ok(ran) => {
                 let n = ran.counts;
-                let words = [n.taken, n.samples, n.noise, n.records].map(|x| x as u64);
+                let [taken, samples, noise, lines] = [n.taken, n.samples, n.noise, n.records].map(|x| x as u64);
+                let [high, low] = [n.added >> 64, n.added].map(|x| x as u64);
                 put_words(
                     &mut self.expected,
-                    [0, stop_number(n.stop), words[0], words[1], words[2], words[3]],
+                    [0, stop_number(n.stop), taken, samples, noise, lines, high, low],
                 );
                 output[..ran.output.len()].copy_from_slice(&ran.output);
                 records[..ran.records.len()].copy_from_slice(&ran.records);
@@ -139,7 +140,7 @@ fn put_floats(b: &mut Vec<u8>, values: &[f32]) {
     }
 }
 
-fn put_words(b: &mut Vec<u8>, words: [u64; 6]) {
+fn put_words(b: &mut Vec<u8>, words: [u64; 8]) {
     for w in words {
         b.extend(w.to_le_bytes());
     }
@@ -148,7 +149,7 @@ fn put_words(b: &mut Vec<u8>, words: [u64; 6]) {
 fn put_refusal(b: &mut Vec<u8>, r: Refusal) {
     let held = r.values.iter().flatten().count() as u64;
     let value = |k: usize| r.values[k].unwrap_or(0);
-    put_words(b, [1, r.number, held, value(0), value(1), 0]);
+    put_words(b, [1, r.number, held, value(0), value(1), 0, 0, 0]);
 }
 
 /// A call that lends draws and noise, with room for so many samples and for a record of each draw.

@@ -76,6 +76,16 @@ static void check_calls(void) {
     expect("noise for one sample", 1, called(state, sizeof draws, 2, 400, 0).samples_written);
     put_f64(draws, 20.0); /* a first reply that starts within 32 samples: its record comes before any sample */
     expect("no records", MORE1090_STOP_RECORDS_FULL, called(state, sizeof draws, 2, 400, 0).stop);
+    /* a reply's whole count belongs to the call that takes its draw */
+    const more1090_run_result added = called(state, MORE1090_DRAW_LEN, 0, 400, sizeof records);
+    expect("a draw taken", 1, added.draws_taken);
+    expect("its samples", 0, added.samples_written);
+    expect("its samples added", records[49] + 256 * records[50], added.samples_added_low);
+    expect("their high half", 0, added.samples_added_high);
+    const more1090_run_result written = called(added.state, MORE1090_DRAW_LEN, 2, 400, 0);
+    expect("a sample written later", 1, written.samples_written);
+    expect("nothing added", 0, written.samples_added_low);
+    expect("refused", 0, called(added.state, 1, 2, 400, sizeof records).samples_added_low);
     expect("nothing", MORE1090_ERR_LENGTH,
            more1090_run(state, NULL, 0, NULL, 0, NULL, 0, NULL, 0, NULL, 0, NULL, 0, NULL, 0).refusal);
 }

@@ -78,6 +78,7 @@ int main(int argc, char **argv) {
     if (opened.refusal != MORE1090_OK)
         return refused(opened.refusal, opened.value);
     more1090_run_result ran = {.state = opened.state, .draws_taken = DRAWS, .noise_used = NOISE, .stop = MORE1090_STOP_WANTS_DRAWS};
+    uint64_t high = 0, low = 0; /* reply samples added, in all */
     for (unsigned n = 0; ran.stop != MORE1090_STOP_DONE;) {
         /* what was not taken or used comes first in what is lent next */
         size_t left = DRAWS - ran.draws_taken, quiet = NOISE - ran.noise_used;
@@ -95,8 +96,11 @@ int main(int argc, char **argv) {
             return refused(ran.refusal, ran.value);
         if (ran.records_written == 1)
             print_record(record);
+        low += ran.samples_added_low;
+        high += ran.samples_added_high + (low < ran.samples_added_low);
         if (fwrite(output, 2 * sizeof *output, ran.samples_written, out) != ran.samples_written)
             return 1;
     }
+    fprintf(stderr, "reply samples added: high half %llu, low half %llu\n", (unsigned long long)high, (unsigned long long)low);
     return fclose(out) == 0 ? 0 : 1;
 }

@@ -82,7 +82,7 @@ fn simulate(
     let (mut drawn, mut noisy) = (Random(seed), Random(!seed));
     let (mut draws, mut noise) = (Vec::new(), Vec::new());
     let (mut output, mut records) = (vec![0.0; 1 << 17], vec![0; 64 * RECORD_LEN]);
-    let (mut replies, mut told) = (0, 0);
+    let (mut replies, mut added, mut told) = (0, 0, 0);
     loop {
         while draws.len() < 64 * DRAW_LEN {
             draws.extend(drawn.draw(rate, level));
@@ -105,6 +105,7 @@ fn simulate(
             writeln!(lines, "{}", line(r))?;
         }
         replies += ran.records_written;
+        added += ran.samples_added();
         let second = run.state.written / 8_000_000;
         if ran.stop == STOP_DONE || second > told {
             told = second;
@@ -114,6 +115,7 @@ fn simulate(
             );
         }
         if ran.stop == STOP_DONE {
+            eprintln!("{added} reply samples added");
             return lines.flush();
         }
     }

@@ -55,10 +55,19 @@ pub struct RunResult {
     pub refusal: u64,
     pub value: u64,
     pub field: u64,
+    pub samples_added_high: u64,
+    pub samples_added_low: u64,
+}
+
+impl RunResult {
+    /// Reply samples added to working memory: the sum of the counts in the records that the call wrote.
+    pub fn samples_added(&self) -> u128 {
+        (u128::from(self.samples_added_high) << 64) | u128::from(self.samples_added_low)
+    }
 }
 
 const _: () =
-    assert!(size_of::<State>() == 184 && size_of::<OpenResult>() == 200 && size_of::<RunResult>() == 248);
+    assert!(size_of::<State>() == 184 && size_of::<OpenResult>() == 200 && size_of::<RunResult>() == 264);
 
 #[rustfmt::skip]
 unsafe extern "C" {

@@ -1,11 +1,13 @@
 -- Demand 3 (SPECIFICATION 2.3) for callers in C: `opened-calls`, at the end of this file, is a term of the claim `OpenedCalls`.
-use mathlib.Core.Path.{_≡_, refl, sym, ap, _∙_}
+use mathlib.Core.Path.{_≡_, refl, sym, ap, _∙_, subst}
 use mathlib.Core.List.{List, [], _∷_, map, map-map}
-use Prim.Native.Nat.{ℕ}
+use Prim.Native.Nat.{ℕ, _+_, _*_, _≤_}
 use native.Mathlib.Omega.{arith}
 use lib.ListN.{getD}
 use lib.Ieee.{Float}
-use Rattle.constants.specs.Rate.{four}
+use Rattle.constants.specs.Rate.{four, replyLimit}
+use Rattle.run_theory.specs.Added.{sumOf, wholeOf}
+use Rattle.run_theory.specs.Each.{Each}
 use Rattle.run_theory.specs.PlainBench as Bench
 use Rattle.refusals.specs.declared.Refusal as Refusal
 use Rattle.refusals.specs.Number.{numberOf}
@@ -18,14 +20,14 @@ use Rattle.run_call.specs.Buffers.{Left, CallBuffers}
 use Rattle.run_call.specs.CallModel.{runLeft}
 use Rattle.run_call.specs.Calls.{runsLeft}
 use Rattle.run_theorem.specs.Seen.{Numbered, stopped, refused, Seen, answerSeen, seenLeft, countsOf, answerOf, seenResult}
-use Rattle.run_theorem.specs.OpenedRuns.{Run, Opens, calls, gen, results, lastState, Demand3}
+use Rattle.run_theorem.specs.OpenedRuns.{Run, Opens, calls, gen, results, samplesAdded, totalAdded, recordCounts, CountsAdded, lastState, Demand3}
 use Rattle.run_theorem.proofs.Demand3.{opened-runs}
 use Rattle.more1090_generator.specs.declared.FlatState.{FlatState}
 use Rattle.more1090_generator.specs.declared.FlatAnswer.{FlatAnswer}
 use Rattle.more1090_generator.specs.States.{flatOf}
 use Rattle.more1090_generator.specs.Answers.{valuesFlat, openedFlat, flatAnswer, answered, ranFlat, FlatLeft, leftFlat, flatRunLeft, flatRunsLeft}
 use Rattle.more1090_generator.specs.Seen.{FlatSeen, flatSeen, benchAnswer, benchSeen}
-use Rattle.more1090_generator.specs.OpenedCalls.{lastFlat, Demand3InC, OpenedCalls}
+use Rattle.more1090_generator.specs.OpenedCalls.{lastFlat, flatAdded, flatTotal, FlatCountsAdded, Demand3InC, OpenedCalls}
 use Rattle.more1090_generator.proofs.StateBack.{state-back}
 
 -- a list of calls in C's numbers is the list of calls, each as C has it
@@ -66,11 +68,43 @@ same-seen l = λ i. record { answer = same-answer (l .ran .counts) (l .ran .answ
 bench-answer : (a : Bench.Answer) → answerFlat (countsOf a) (answerOf a) ≡ benchAnswer a
 unfolding answerFlat flatAnswer benchAnswer countsOf answerOf
 bench-answer (Bench.refused q) = refl
-bench-answer (Bench.ran taken samples noise records stop) = refl
+bench-answer (Bench.ran taken samples noise records added stop) = refl
 
 bench-seen : (r : Run) (x : Bench.Result (gen r)) → seenFlat (seenResult (r .state) (r .buffers .modeS) (r .buffers .modeAC) x) ≡ benchSeen (r .state) (r .buffers .modeS) (r .buffers .modeAC) x
 unfolding seenFlat seenResult benchSeen
 bench-seen r x = λ i. record { answer = bench-answer (x .answer) i; output = x .output; records = x .records }
+
+-- the counts of a call are C's
+record SameCounts (n : Counts) (a : FlatAnswer) : Type 0 where
+  records : a .records ≡ n .records
+  high : a .«added_high» ≡ n .«added_high»
+  low : a .«added_low» ≡ n .«added_low»
+
+same-counts : (n : Counts) (a : Answer.Answer) → SameCounts n (answered n a)
+unfolding answered flatAnswer
+same-counts n (Answer.the-variants.Stopped stop) = record { records = refl; high = refl; low = refl }
+same-counts n (Answer.the-variants.Refused q) = record { records = refl; high = refl; low = refl }
+
+added-flat : (l : Left) → flatAdded (leftFlat l) ≡ samplesAdded l
+unfolding leftFlat ranFlat
+added-flat l = let k = same-counts (l .ran .counts) (l .ran .answer) in λ i. wholeOf (k .high i) (k .low i)
+
+adds-flat : (ls : List Left) → Each CountsAdded ls → Each FlatCountsAdded (map leftFlat ls)
+unfolding leftFlat ranFlat
+adds-flat [] h = tt
+adds-flat (l ∷ ls) h =
+    let k = same-counts (l .ran .counts) (l .ran .answer) in (
+      record {
+        sum = added-flat l ∙ h .0 .sum ∙ ap (λ (n : ℕ). sumOf (recordCounts n (l .records))) (sym (k .records));
+        each = subst (λ (n : ℕ). Each (λ m. m ≤ replyLimit four) (recordCounts n (l .records))) (sym (k .records)) (h .0 .each);
+        most = subst (λ (n : ℕ). n ≤ replyLimit four * leftFlat l .ran .answer .records) (sym (added-flat l)) (subst (λ (n : ℕ). samplesAdded l ≤ replyLimit four * n) (sym (k .records)) (h .0 .most));
+      },
+      adds-flat ls (h .1),
+    )
+
+total-flat : (ls : List Left) → flatTotal (map leftFlat ls) ≡ totalAdded ls
+total-flat [] = refl
+total-flat (l ∷ ls) = λ i. added-flat l i + total-flat ls i
 
 -- what one function makes of another, place by place
 each : {A B C : Type 0} (f : B → C) (g : A → B) (h : A → C) → ((a : A) → f (g a) ≡ h a) → (l : List A) → map f (map g l) ≡ map h l
@@ -95,6 +129,8 @@ module _ (tapsS tapsAC : List Float) (settings : List ℕ) (given : Opening.Open
             ∙ sym (map-map seenFlat seenLeft (calls r cs))
             ∙ ap (map seenFlat) (d .answers cs)
             ∙ each seenFlat (seenResult (r .state) (r .buffers .modeS) (r .buffers .modeAC)) (benchSeen (r .state) (r .buffers .modeS) (r .buffers .modeAC)) (bench-seen r) (results r cs);
+        adds = λ cs. subst (Each FlatCountsAdded) (sym (same-calls cs)) (adds-flat (calls r cs) (d .adds cs));
+        total = λ cs. ap flatTotal (same-calls cs) ∙ total-flat (calls r cs) ∙ d .total cs;
         state = λ cs. ap (lastFlat (flatOf (r .state))) (same-calls cs) ∙ last-flat (calls r cs) (r .state) ∙ ap flatOf (d .state cs);
       }
 

@@ -29,7 +29,7 @@ openedFlat (Opened.the-variants.Run s) = record { state = flatOf s; refusal = 0;
 openedFlat (Opened.the-variants.Refused q) = record { state = noState; refusal = numberOf q; value = valuesFlat q .value }
 
 unfoldable pub flatAnswer : Counts → ℕ → ℕ → ℕ → ℕ → FlatAnswer
-flatAnswer n stop refusal value field = record { taken = n .taken; samples = n .samples; noise = n .noise; records = n .records; stop = stop; refusal = refusal; value = value; field = field }
+flatAnswer n stop refusal value field = record { taken = n .taken; samples = n .samples; noise = n .noise; records = n .records; stop = stop; refusal = refusal; value = value; field = field; «added_high» = n .«added_high»; «added_low» = n .«added_low» }
 
 -- refusal 0 is none; stop 5 is none
 unfoldable pub answered : Counts → Answer.Answer → FlatAnswer

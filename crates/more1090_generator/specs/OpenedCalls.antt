@@ -2,12 +2,15 @@
 -- and calls of `more1090_run`, refused ones among them, with any draws, noise and buffers, answer and leave what run calls on it do, in C's numbers.
 use mathlib.Core.Path.{_≡_}
 use mathlib.Core.List.{List, [], _∷_, map}
-use Prim.Native.Nat.{ℕ}
+use Prim.Native.Nat.{ℕ, _+_, _*_, _≤_}
 use lib.Ieee.{Float}
-use Rattle.constants.specs.Rate.{four}
+use Rattle.constants.specs.Rate.{four, replyLimit}
+use Rattle.run_theory.specs.Added.{sumOf, wholeOf}
+use Rattle.run_theory.specs.Each.{Each}
+use Rattle.run_theory.specs.PlainRun.{plainAdded}
 use Rattle.run_call.specs.Buffers.{CallBuffers}
 use Rattle.run_open_checks.specs.Opening as Opening
-use Rattle.run_theorem.specs.OpenedRuns.{Run, Opens, calls, results, bench, stateAfter, Demand3}
+use Rattle.run_theorem.specs.OpenedRuns.{Run, Opens, calls, gen, results, bench, drawsTaken, recordCounts, stateAfter, Demand3}
 use Rattle.more1090_generator.specs.declared.FlatState.{FlatState}
 use Rattle.more1090_generator.specs.States.{flatOf}
 use Rattle.more1090_generator.specs.Answers.{openedFlat, FlatLeft, leftFlat, flatRunsLeft}
@@ -22,6 +25,20 @@ abbrev pub lastFlat : FlatState → List FlatLeft → FlatState
 lastFlat f [] = f
 lastFlat f (l ∷ ls) = lastFlat (l .ran .state) ls
 
+-- Reply samples added to working memory: of an answer, as one number; and of a list of answers.
+abbrev pub flatAdded : FlatLeft → ℕ
+flatAdded l = wholeOf (l .ran .answer .«added_high») (l .ran .answer .«added_low»)
+
+abbrev pub flatTotal : List FlatLeft → ℕ
+flatTotal [] = 0
+flatTotal (l ∷ ls) = flatAdded l + flatTotal ls
+
+-- The number is the sum of the counts in the records that the call wrote, each of which is at most the reply limit.
+pub record FlatCountsAdded (l : FlatLeft) : Type 0 where
+  pub sum : flatAdded l ≡ sumOf (recordCounts (l .ran .answer .records) (l .records))
+  pub each : Each (λ n. n ≤ replyLimit four) (recordCounts (l .ran .answer .records) (l .records))
+  pub most : flatAdded l ≤ replyLimit four * l .ran .answer .records
+
 -- the claim, on the state f that `more1090_open` returned for a run r
 pub record Demand3InC (tapsS tapsAC : List Float) (settings : List ℕ) (given : Opening.OpenBuffers) (f : FlatState) (r : Run) : Type 0 where
   -- the run is opened with these settings and filters, and leaves its buffers in those given; (a) to (e) and the rest of demand 3 hold of it
@@ -31,6 +48,9 @@ pub record Demand3InC (tapsS tapsAC : List Float) (settings : List ℕ) (given :
   pub same : (cs : List CallBuffers) → flatCalls f r cs ≡ map leftFlat (calls r cs)
   -- so each answer is the plain bench's, in the specification's numbers and values, and so are output and record bytes after it
   pub answers : (cs : List CallBuffers) → map flatSeen (flatCalls f r cs) ≡ map (benchSeen (r .state) (r .buffers .modeS) (r .buffers .modeAC)) (results r cs)
+  -- each counts the reply samples of the records that it wrote; in all they are the plain run's
+  pub adds : (cs : List CallBuffers) → Each FlatCountsAdded (flatCalls f r cs)
+  pub total : (cs : List CallBuffers) → flatTotal (flatCalls f r cs) ≡ plainAdded (gen r) (drawsTaken r cs)
   -- and the state that comes back is the plain bench's
   pub state : (cs : List CallBuffers) → lastFlat f (flatCalls f r cs) ≡ flatOf (stateAfter r (bench r cs))
 

@@ -74,6 +74,8 @@ pub struct FlatAnswer {
     pub refusal: u64,
     pub value: u64,
     pub field: u64,
+    pub added_high: u64,
+    pub added_low: u64,
 }
 
 #[repr(C)]
@@ -373,6 +375,8 @@ fn flat_answer(n: Counts, stop: u64, refusal: u64, value: u64, field: u64) -> Fl
         refusal: refusal,
         value: value,
         field: field,
+        added_high: n.added_high,
+        added_low: n.added_low,
     }
 }
 

@@ -20,6 +20,10 @@ module _ (pending : MessageConfig) (delays : Delays) (first : ℕ) (rest : List 
   unfoldable pub memoryWith : List Float → List Float → List Float → List Float
   memoryWith modeS modeAC memory = addedReply four memory (first % ringSlots four) (replySamples four modeS modeAC delays (drawAt rest .amplitude) messageAt)
 
-  -- its record is written from an offset on, with the count of the samples added
+  -- the count of the samples added
+  unfoldable pub countWith : List Float → ℕ
+  countWith memory = addedCount four memory (first % ringSlots four) (replyCount four delays messageAt)
+
+  -- its record is written from an offset on, with that count
   unfoldable pub recordsWith : List Float → ℕ → List ℕ → List ℕ
-  recordsWith memory at records = recordAt records at (recordBytes messageAt first (drawAt rest .kind) (addedCount four memory (first % ringSlots four) (replyCount four delays messageAt)))
+  recordsWith memory at records = recordAt records at (recordBytes messageAt first (drawAt rest .kind) (countWith memory))

@@ -26,7 +26,7 @@ use Rattle.reply_samples.specs.Samples.{replySamples, replyCount}
 use Rattle.reply_samples.specs.RingModel.{ringSlots, addedAt, addedFrom, isSlot, addedReply, addedCount}
 use Rattle.reply_samples.proofs.Ring.{next-ring}
 use Rattle.reply_samples.proofs.Counts.{samples-counted}
-use Rattle.run_add_reply.specs.RecordedModel.{messageAt, memoryWith, recordsWith}
+use Rattle.run_add_reply.specs.RecordedModel.{messageAt, memoryWith, countWith, recordsWith}
 use Rattle.run_generator.specs.Instance.{pairOf, Filters, pulseSamples, instanceOf}
 
 module _ (f : Filters) (total : ℕ) where
@@ -77,10 +77,13 @@ module _ (all : Distributions) (delays : Delays) (time : Float) (first : ℕ) (r
   added-by modeS modeAC m′ p =
       memory-is m m′ (first % 1126) _ l in-ring (p ∙ ap (λ (c : MessageConfig). addedReply four m (first % 1126) (replySamples four modeS modeAC delays (drawAt rest .amplitude) c)) message)
 
+  pub counted-by : (n : ℕ) → n ≡ countWith last delays first rest m → n ≡ replyCount four delays (configOf all time (drawAt rest))
+  unfolding countWith
+  counted-by n p = count-is m (first % 1126) (replyCount four delays (messageAt last delays first rest)) n l in-ring p ∙ ap (replyCount four delays) message
+
   pub recorded-by : (s s′ : List ℕ) (at : ℕ) → at + 66 ≤ length s → s′ ≡ recordsWith last delays first rest m at s
       → s′ ≡ overwritten at (recordBytes (configOf all time (drawAt rest)) first (drawAt rest .kind) (replyCount four delays (configOf all time (drawAt rest)))) s
   unfolding recordsWith
   recorded-by s s′ at h p =
       record-is s s′ at _ h p
-      ∙ (λ i. overwritten at (recordBytes (message i) first (drawAt rest .kind) (count-is m (first % 1126) (replyCount four delays (messageAt last delays first rest)) _ l in-ring refl i)) s)
-      ∙ ap (λ (c : MessageConfig). overwritten at (recordBytes (configOf all time (drawAt rest)) first (drawAt rest .kind) (replyCount four delays c)) s) message
+      ∙ (λ i. overwritten at (recordBytes (message i) first (drawAt rest .kind) (counted-by (countWith last delays first rest m) refl i)) s)

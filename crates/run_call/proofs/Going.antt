@@ -14,6 +14,8 @@ use Rattle.run_steps.specs.declared.Stop as Stop
 use Rattle.run_call.specs.declared.Answer as Answer
 use Rattle.run_call.specs.declared.Ran.{Ran}
 use Rattle.run_steps.specs.PlanModel.{stopRead}
+use Rattle.run_steps.specs.ProgressModel.{addedOf}
+use Rattle.run_theory.specs.Added.{highHalf, lowHalf}
 use Rattle.run_call.specs.StepModel.{Inside, progressRead, restAfter, Went, StepSays}
 use Rattle.run_call.specs.StateGenerator.{genOf}
 use Rattle.run_call.specs.Buffers.{Left}
@@ -52,7 +54,7 @@ starts s modeS modeAC memory draws noise output records t e h = subst (λ (x : P
   memory-is = h;
   output-is = refl;
   records-is = refl;
-  inside = record { output-in = omega arith; noise-in = omega arith; records-in = omega arith };
+  inside = record { output-in = omega arith; noise-in = omega arith; records-in = omega arith; added-in = omega arith };
   tape = omega arith;
   same = refl;
 })
@@ -73,12 +75,12 @@ module _ {s : State} {modeS modeAC memory₀ : List Float} {draws : List ℕ} {n
   at : (n : LastStep.LastStep) → r .last ≡ n → Says n
   at n q = subst Says q (a .is)
 
-  on : (rest′ : List ℕ) → Went (genOf s modeS modeAC) noise nan (progressRead s modeS modeAC t memory rest output records) (progressRead s modeS modeAC r memory′ rest′ output′ records′) → 65 * r .taken + length rest′ ≡ length draws → Going s modeS modeAC memory₀ draws noise output₀ records₀ memory′ output′ records′ r rest′
-  on rest′ w q = record {
+  on : (rest′ : List ℕ) → addedOf r ≤ 65535 * r .taken → Went (genOf s modeS modeAC) noise nan (progressRead s modeS modeAC t memory rest output records) (progressRead s modeS modeAC r memory′ rest′ output′ records′) → 65 * r .taken + length rest′ ≡ length draws → Going s modeS modeAC memory₀ draws noise output₀ records₀ memory′ output′ records′ r rest′
+  on rest′ few w q = record {
     memory-is = a .m-is ∙ g .memory-is;
     output-is = a .o-is ∙ g .output-is;
     records-is = a .r-is ∙ g .records-is;
-    inside = record { output-in = w .within .output-in; noise-in = w .within .noise-in; records-in = w .within .records-in };
+    inside = record { output-in = w .within .output-in; noise-in = w .within .noise-in; records-in = w .within .records-in; added-in = few };
     tape = q;
     same = sym (ap (leftBy s modeS modeAC) (w .same)) ∙ g .same;
   }
@@ -88,7 +90,7 @@ module _ {s : State} {modeS modeAC memory₀ : List Float} {draws : List ℕ} {n
   samples-written-less q = at LastStep.the-variants.SamplesWritten q .0 .less
 
   pub samples-written-again : r .last ≡ LastStep.the-variants.SamplesWritten → Going s modeS modeAC memory₀ draws noise output₀ records₀ memory′ output′ records′ r rest
-  samples-written-again q = let w = at LastStep.the-variants.SamplesWritten q in on rest (w .0) (omega (arith, w .1, g .tape))
+  samples-written-again q = let w = at LastStep.the-variants.SamplesWritten q in on rest (omega (arith, w .1, w .2, g .inside .added-in)) (w .0) (omega (arith, w .1, g .tape))
 
   -- a draw was taken
   pub draw-taken-bytes : r .last ≡ LastStep.the-variants.DrawTaken → 65 ≤ length rest
@@ -98,7 +100,7 @@ module _ {s : State} {modeS modeAC memory₀ : List Float} {draws : List ℕ} {n
   draw-taken-less q = at LastStep.the-variants.DrawTaken q .0 .less
 
   pub draw-taken-again : r .last ≡ LastStep.the-variants.DrawTaken → Going s modeS modeAC memory₀ draws noise output₀ records₀ memory′ output′ records′ r (drop 65 rest)
-  draw-taken-again q = let w = at LastStep.the-variants.DrawTaken q in on (drop 65 rest) (w .0) (omega (arith, w .1, w .2, g .tape, length-drop 65 rest))
+  draw-taken-again q = let w = at LastStep.the-variants.DrawTaken q in on (drop 65 rest) (omega (arith, w .1, w .3, g .inside .added-in)) (w .0) (omega (arith, w .1, w .2, g .tape, length-drop 65 rest))
 
   -- the call stopped
   pub stop-reached-samples : (w : Stop.Stop) → r .last ≡ LastStep.the-variants.StopReached w → 2 * r .samples ≤ length noise
@@ -110,7 +112,7 @@ module _ {s : State} {modeS modeAC memory₀ : List Float} {draws : List ℕ} {n
       (λ j. record {
         ran = record {
           state = record { written = r .written; total = s .total; time = r .time; latest = r .latest; ended = r .ended; rates = s .rates; delays = s .delays; distributions = s .distributions };
-          counts = record { taken = r .taken; samples = r .samples; noise = 2 * r .samples; records = r .records };
+          counts = record { taken = r .taken; samples = r .samples; noise = 2 * r .samples; records = r .records; «added_high» = highHalf (addedOf r); «added_low» = lowHalf (addedOf r) };
           answer = Answer.the-variants.Stopped (sym (given-read w) j);
         };
         memory = memory′;

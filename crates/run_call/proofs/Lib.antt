@@ -1,3 +1,4 @@
+pub mod Halves
 pub mod Adding
 pub mod Writing
 pub mod Said

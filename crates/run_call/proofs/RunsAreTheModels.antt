@@ -19,7 +19,7 @@ module _ (s : State) (modeS modeAC : List Float) where
   pub given-state : (r : Bench.Answer) (z : Machine.State (genOf s modeS modeAC) nan) → ranGiven s modeS modeAC r z .state ≡ stateOf s modeS modeAC z
   unfolding ranGiven
   given-state (Bench.refused q) z = refl
-  given-state (Bench.ran d n v l w) z = refl
+  given-state (Bench.ran d n v l a w) z = refl
 
 module _ (s : State) (modeS modeAC : List Float) (p : length modeS ≡ 1792) (a : length modeAC ≡ 1792) where
   pub runs-are : (ls : List CallBuffers) (z : Machine.State (genOf s modeS modeAC) nan) → length (z .memory) ≡ 2252 → runsLeft (stateOf s modeS modeAC z) modeS modeAC (z .memory) ls ≡ runsGiven s modeS modeAC z ls

@@ -27,7 +27,7 @@ use Rattle.draw_config.specs.Pending.{pendingOf}
 use Rattle.draw_config.proofs.Message.{pending-time, pending-start}
 use Rattle.message_config.specs.declared.MessageConfig.{MessageConfig}
 use Rattle.reply_record.specs.Record.{recordBytes}
-use Rattle.run_add_reply.specs.RecordedModel.{memoryWith, recordsWith}
+use Rattle.run_add_reply.specs.RecordedModel.{memoryWith, countWith, recordsWith}
 use Rattle.reply_samples.specs.Samples.{replySamples}
 use Rattle.run_generator.specs.Instance.{draws}
 use Rattle.run_generator.proofs.InstanceDrawLaws.{line-length}
@@ -36,10 +36,12 @@ use Rattle.run_steps.specs.declared.Progress.{Progress}
 use Rattle.run_steps.specs.declared.Stop as Stop
 use Rattle.run_steps.specs.declared.Plan as Plan
 use Rattle.run_steps.specs.PlanModel.{counted, planRead, chosen}
-use Rattle.run_steps.specs.ProgressModel.{progressAfterSamples, progressAfterDraw, progressAfterStop, progressAfterStep}
+use Rattle.run_theory.specs.Added.{highHalf, lowHalf, wholeOf}
+use Rattle.run_steps.specs.ProgressModel.{addedOf, progressAfterSamples, progressAfterDraw, progressAfterStop, progressAfterStep}
 use Rattle.run_call.specs.StepModel.{Inside, progressRead, restAfter, Went, StepSays}
 use Rattle.run_call.specs.StateGenerator.{filtersOf, genOf}
-use Rattle.run_call.proofs.Adding.{added-put, counts, added-by, recorded-by}
+use Rattle.run_call.proofs.Adding.{added-put, counts, added-by, counted-by, recorded-by}
+use Rattle.run_call.proofs.Halves.{whole-is}
 use Rattle.run_call.proofs.Writing.{samples-written-memory, samples-written-output}
 
 -- the buffers, and the run, have sizes of 64 bits, so no count goes over
@@ -51,6 +53,9 @@ pub record Sized (total taken rest output records : ℕ) : Type 0 where
 
 not-over : (n m : ℕ) → n ≡ m → m < 2 ^ 64 → n % 2 ^ 64 ≡ m
 not-over n m e h = omega arith
+
+no-more : (n : ℕ) → n + 0 ≡ n
+no-more n = omega arith
 
 abbrev isStop : Plan Float → Bool
 isStop (stopAt k) = true
@@ -125,11 +130,11 @@ module _ (P : Planned) where
       subst (λ (u : Turns.Progress G nan). Went G noise nan z u) (sym k) (record { same = right x h ∙ after; within = near .within; less = near .less })
 
   -- the progress that was made is the plan's
-  by-plan : (x : Plan.Plan) → plan ≡ x → (r : Progress) (memory′ output′ : List Float) (records′ : List ℕ) → r ≡ progressAfterStep t plan → Step (progressAfterStep t x) memory′ output′ records′ → Step r memory′ output′ records′
-  by-plan x h r memory′ output′ records′ k = subst (λ (y : Progress). Step y memory′ output′ records′) (sym (k ∙ ap (progressAfterStep t) h))
+  by-plan : (x : Plan.Plan) → plan ≡ x → (r : Progress) (memory′ output′ : List Float) (records′ : List ℕ) → r ≡ progressAfterStep t plan 0 → Step (progressAfterStep t x 0) memory′ output′ records′ → Step r memory′ output′ records′
+  by-plan x h r memory′ output′ records′ k = subst (λ (y : Progress). Step y memory′ output′ records′) (sym (k ∙ ap (λ (y : Plan.Plan). progressAfterStep t y 0) h))
 
   -- ---- a stop
-  pub halted : (w : Stop.Stop) → plan ≡ Plan.the-variants.Halt w → (r : Progress) → r ≡ progressAfterStep t plan → Step r memory output records
+  pub halted : (w : Stop.Stop) → plan ≡ Plan.the-variants.Halt w → (r : Progress) → r ≡ progressAfterStep t plan 0 → Step r memory output records
   unfolding planRead progressAfterStep progressAfterStop
   halted w h r k = by-plan (Plan.the-variants.Halt w) h r memory output records k (says (Plan.the-variants.Halt w) h, refl)
 
@@ -150,34 +155,43 @@ module _ (P : Planned) where
     taken = t .taken;
     samples = not-over (t .samples + n) (t .samples + n) refl (omega (arith, f .output-fits, sized .output-in)) j;
     lines = t .records;
+    added = addedOf t;
     rest = rest;
     output = (samples-written-output noise memory output memory′ output′ (t .written) (t .samples) n memory-is (f .noise-fits) (f .output-fits) e
         ∙ ap (λ (l : List Float). overwritten (2 * t .samples) l output) (sym (any-samples (draws (filtersOf s modeS modeAC)) (s .total) memory (t .written) (take (2 * n) (drop (2 * t .samples) noise))))) j;
     records = records;
   }
 
-  pub drained : (n : ℕ) → plan ≡ Plan.the-variants.Drain n → (r : Progress) (memory′ output′ : List Float) → r ≡ progressAfterStep t plan → SamplesWritten n memory′ output′ → Step r memory′ output′ records
+  pub drained : (n : ℕ) → plan ≡ Plan.the-variants.Drain n → (r : Progress) (memory′ output′ : List Float) → r ≡ progressAfterStep t plan 0 → SamplesWritten n memory′ output′ → Step r memory′ output′ records
   unfolding planRead progressAfterStep progressAfterSamples
   drained n h r memory′ output′ k e =
       by-plan (Plan.the-variants.Drain n) h r memory′ output′ records k
-      (went (Plan.the-variants.Drain n) h refl refl _ (samples-written-is n (t .latest) (says (Plan.the-variants.Drain n) h) memory′ output′ e), refl)
+      (went (Plan.the-variants.Drain n) h refl refl _ (samples-written-is n (t .latest) (says (Plan.the-variants.Drain n) h) memory′ output′ e), refl, refl)
 
-  pub dued : (n : ℕ) (time : Float) → plan ≡ Plan.the-variants.Due n time → (r : Progress) (memory′ output′ : List Float) → r ≡ progressAfterStep t plan → SamplesWritten n memory′ output′ → Step r memory′ output′ records
+  pub dued : (n : ℕ) (time : Float) → plan ≡ Plan.the-variants.Due n time → (r : Progress) (memory′ output′ : List Float) → r ≡ progressAfterStep t plan 0 → SamplesWritten n memory′ output′ → Step r memory′ output′ records
   unfolding planRead progressAfterStep progressAfterSamples
   dued n time h r memory′ output′ k e =
       by-plan (Plan.the-variants.Due n time) h r memory′ output′ records k
-      (went (Plan.the-variants.Due n time) h refl refl _ (samples-written-is n (later G (t .latest) time) (says (Plan.the-variants.Due n time) h .0) memory′ output′ e), refl)
+      (went (Plan.the-variants.Due n time) h refl refl _ (samples-written-is n (later G (t .latest) time) (says (Plan.the-variants.Due n time) h .0) memory′ output′ e), refl, refl)
 
   -- ---- draws
   one-taken : 65 ≤ length rest → (t .taken + 1) % 2 ^ 64 ≡ t .taken + 1
   one-taken h = not-over (t .taken + 1) (t .taken + 1) refl (omega (arith, sized .draws-in))
 
+  -- the count added is exact
+  added-exact : 65 ≤ length rest → (n : ℕ) → n ≤ 65535 → wholeOf (highHalf (addedOf t + n) % 2 ^ 64) (lowHalf (addedOf t + n)) ≡ addedOf t + n
+  added-exact h n few = whole-is (addedOf t + n) (t .taken + 1) (omega (arith, inside .added-in)) (omega (arith, sized .draws-in))
+
+  added-few : 65 ≤ length rest → (n : ℕ) → n ≤ 65535 → wholeOf (highHalf (addedOf t + n) % 2 ^ 64) (lowHalf (addedOf t + n)) ≤ addedOf t + 65535
+  added-few h n few = omega (arith, added-exact h n few)
+
   -- a draw that is not recorded
-  draw-taken-none : (time : Float) (ended : Bool) → 65 ≤ length rest → time ≡ timeAfter (t .time) (drawAt rest) → progressRead s modeS modeAC (progressAfterDraw t time ended 0) memory (drop 65 rest) output records ≡ record {
+  draw-taken-none : (time : Float) (ended : Bool) → 65 ≤ length rest → time ≡ timeAfter (t .time) (drawAt rest) → progressRead s modeS modeAC (progressAfterDraw t time ended 0 0) memory (drop 65 rest) output records ≡ record {
     state = record { memory = memory; written = t .written; time = timeAfter (t .time) (drawAt rest); over = ended; mark = t .latest };
     taken = t .taken + 1;
     samples = t .samples;
     lines = t .records;
+    added = addedOf t;
     rest = drop 65 rest;
     output = output;
     records = records;
@@ -188,32 +202,33 @@ module _ (P : Planned) where
     taken = one-taken h j;
     samples = t .samples;
     lines = not-over (t .records + 0) (t .records) (omega arith) (omega (arith, inside .records-in, sized .records-in)) j;
+    added = (added-exact h 0 (omega arith) ∙ no-more (addedOf t)) j;
     rest = drop 65 rest;
     output = output;
     records = records;
   }
 
-  pub skipped : (time : Float) → plan ≡ Plan.the-variants.Skip time → (r : Progress) → r ≡ progressAfterStep t plan → Step r memory output records
+  pub skipped : (time : Float) → plan ≡ Plan.the-variants.Skip time → (r : Progress) → r ≡ progressAfterStep t plan 0 → Step r memory output records
   unfolding planRead progressAfterStep progressAfterDraw timeAfter
   skipped time h r k =
       let f = says (Plan.the-variants.Skip time) h in
       by-plan (Plan.the-variants.Skip time) h r memory output records k
-      (went (Plan.the-variants.Skip time) h refl refl _ (draw-taken-none time (t .ended) (f .bytes) (f .at)), one-taken (f .bytes), f .bytes)
+      (went (Plan.the-variants.Skip time) h refl refl _ (draw-taken-none time (t .ended) (f .bytes) (f .at)), one-taken (f .bytes), f .bytes, added-few (f .bytes) 0 (omega arith))
 
-  pub ended-by : (time : Float) → plan ≡ Plan.the-variants.End time → (r : Progress) → r ≡ progressAfterStep t plan → Step r memory output records
+  pub ended-by : (time : Float) → plan ≡ Plan.the-variants.End time → (r : Progress) → r ≡ progressAfterStep t plan 0 → Step r memory output records
   unfolding planRead progressAfterStep progressAfterDraw timeAfter
   ended-by time h r k =
       let f = says (Plan.the-variants.End time) h in
       by-plan (Plan.the-variants.End time) h r memory output records k
-      (went (Plan.the-variants.End time) h refl refl _ (draw-taken-none time true (f .bytes) (f .at)), one-taken (f .bytes), f .bytes)
+      (went (Plan.the-variants.End time) h refl refl _ (draw-taken-none time true (f .bytes) (f .at)), one-taken (f .bytes), f .bytes, added-few (f .bytes) 0 (omega arith))
 
-  pub added : (time : Float) (first : ℕ) → plan ≡ Plan.the-variants.Add time first → (r : Progress) (memory′ : List Float) (records′ : List ℕ) → r ≡ progressAfterStep t plan
-      → memory′ ≡ memoryWith last (s .delays) first rest modeS modeAC memory → records′ ≡ recordsWith last (s .delays) first rest memory (66 * t .records) records → Step r memory′ output records′
+  pub added : (time : Float) (first : ℕ) → plan ≡ Plan.the-variants.Add time first → (n : ℕ) → n ≤ 65535 → (r : Progress) (memory′ : List Float) (records′ : List ℕ) → r ≡ progressAfterStep t (Plan.the-variants.Add time first) n
+      → memory′ ≡ memoryWith last (s .delays) first rest modeS modeAC memory → records′ ≡ recordsWith last (s .delays) first rest memory (66 * t .records) records → n ≡ countWith last (s .delays) first rest memory → Step r memory′ output records′
   unfolding planRead progressAfterStep progressAfterDraw timeAfter
-  added time first h r memory′ records′ k p o =
+  added time first h n small r memory′ records′ k p o counted-is =
       let f = says (Plan.the-variants.Add time first) h in
-      by-plan (Plan.the-variants.Add time first) h r memory′ output records′ k
-      (went (Plan.the-variants.Add time first) h refl refl _ (draw-taken-reply f), one-taken (f .taken .bytes), f .taken .bytes)
+      subst (λ (y : Progress). Step y memory′ output records′) (sym k)
+      (went (Plan.the-variants.Add time first) h refl refl _ (draw-taken-reply f), one-taken (f .taken .bytes), f .taken .bytes, added-few (f .taken .bytes) n small)
     where
       at : Float
       at = timeAfter (t .time) (drawAt rest)
@@ -221,7 +236,7 @@ module _ (P : Planned) where
       message : MessageConfig
       message = configOf (s .distributions) at (drawAt rest)
 
-      draw-taken-reply : Theory.Added G nan noise z time first → progressRead s modeS modeAC (progressAfterDraw t time (t .ended) 1) memory′ (drop 65 rest) output records′ ≡ nextProgress G nan noise z (addReply time first)
+      draw-taken-reply : Theory.Added G nan noise z time first → progressRead s modeS modeAC (progressAfterDraw t time (t .ended) 1 n) memory′ (drop 65 rest) output records′ ≡ nextProgress G nan noise z (addReply time first)
       draw-taken-reply f = λ j. record {
         state = record {
           memory = (added-by (s .distributions) (s .delays) at first rest last next-is memory memory-is modeS modeAC memory′ p ∙ added-put (filtersOf s modeS modeAC) (s .total) (replySamples four modeS modeAC (s .delays) (drawAt rest .amplitude) message) memory first) j;
@@ -233,6 +248,9 @@ module _ (P : Planned) where
         taken = one-taken (f .taken .bytes) j;
         samples = t .samples;
         lines = not-over (t .records + 1) (t .records + 1) refl (omega (arith, f .fits, sized .records-in)) j;
+        added =
+            (added-exact (f .taken .bytes) n small
+            ∙ ap (λ (k : ℕ). addedOf t + k) (counted-by (s .distributions) (s .delays) at first rest last next-is memory memory-is n counted-is ∙ sym (counts (filtersOf s modeS modeAC) (s .total) (drawAt rest .amplitude) message))) j;
         rest = drop 65 rest;
         output = output;
         records = (recorded-by (s .distributions) (s .delays) at first rest last next-is memory memory-is records records′ (66 * t .records) (omega (arith, f .fits)) o

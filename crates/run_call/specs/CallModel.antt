@@ -2,11 +2,13 @@
 use Prim.Native.Nat.{ℕ, _*_}
 use mathlib.Core.List.{List}
 use lib.Ieee.{Float, nan}
+use Rattle.run_theory.specs.Added.{highHalf, lowHalf}
 use Rattle.run_call_model.specs.Progress as Theory
 use Rattle.run_call.specs.declared.State.{State}
 use Rattle.run_steps.specs.declared.Progress.{Progress}
 use Rattle.run_steps.specs.declared.LastStep as LastStep
 use Rattle.run_steps.specs.declared.Stop as Stop
+use Rattle.run_steps.specs.ProgressModel.{addedOf}
 use Rattle.run_call.specs.declared.Answer as Answer
 use Rattle.run_call.specs.declared.Ran.{Ran}
 use Rattle.run_call.specs.StateGenerator.{genOf}
@@ -21,13 +23,13 @@ use Rattle.run_call_checks.specs.Checks.{wrongMemory}
 
 -- a call before its first step
 unfoldable pub initialBy : State → Progress
-initialBy s = record { written = s .written; time = s .time; latest = s .latest; ended = s .ended; taken = 0; samples = 0; records = 0; last = LastStep.the-variants.SamplesWritten }
+initialBy s = record { written = s .written; time = s .time; latest = s .latest; ended = s .ended; taken = 0; samples = 0; records = 0; «added_high» = 0; «added_low» = 0; last = LastStep.the-variants.SamplesWritten }
 
 -- the answer at a stop: the state with what moved, and the counts
 unfoldable pub ranBy : State → Progress → Stop.Stop → Ran
 ranBy s t w = record {
   state = record { written = t .written; total = s .total; time = t .time; latest = t .latest; ended = t .ended; rates = s .rates; delays = s .delays; distributions = s .distributions };
-  counts = record { taken = t .taken; samples = t .samples; noise = 2 * t .samples; records = t .records };
+  counts = record { taken = t .taken; samples = t .samples; noise = 2 * t .samples; records = t .records; «added_high» = highHalf (addedOf t); «added_low» = lowHalf (addedOf t) };
   answer = Answer.the-variants.Stopped w;
 }
 
@@ -37,7 +39,7 @@ module _ (s : State) (modeS modeAC : List Float) where
   leftBy e = record {
     ran = record {
       state = record { written = e .state .written; total = s .total; time = e .state .time; latest = e .state .mark; ended = e .state .over; rates = s .rates; delays = s .delays; distributions = s .distributions };
-      counts = record { taken = e .taken; samples = e .samples; noise = 2 * e .samples; records = e .lines };
+      counts = record { taken = e .taken; samples = e .samples; noise = 2 * e .samples; records = e .lines; «added_high» = highHalf (e .added); «added_low» = lowHalf (e .added) };
       answer = Answer.the-variants.Stopped (stopGiven (e .stop));
     };
     memory = e .state .memory;
@@ -53,7 +55,7 @@ module _ (s : State) (modeS modeAC : List Float) where
       (Theory.initialProgress (genOf s modeS modeAC) nan (record { memory = memory; written = s .written; time = s .time; over = s .ended; mark = s .latest }) (record { draws = draws; noise = noise; output = output; records = records })))
 
 unfoldable pub refusedBy : State → Refusal.Refusal → Ran
-refusedBy s q = record { state = s; counts = record { taken = 0; samples = 0; noise = 0; records = 0 }; answer = Answer.the-variants.Refused q }
+refusedBy s q = record { state = s; counts = record { taken = 0; samples = 0; noise = 0; records = 0; «added_high» = 0; «added_low» = 0 }; answer = Answer.the-variants.Refused q }
 
 -- a refusal changes neither state nor any buffer
 abbrev pub runBy : State → List Float → List Float → List ℕ → Left → Option Bench.Refusal → Left

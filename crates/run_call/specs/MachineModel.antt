@@ -1,6 +1,7 @@
 -- A model of code: a run call as `run_call_model` has it, in the code's words.
 use mathlib.Core.List.{List, [], _∷_}
 use lib.Ieee.{Float, nan}
+use Rattle.run_theory.specs.Added.{highHalf, lowHalf}
 use Rattle.run_theory.specs.PlainBench as Bench
 use Rattle.run_call_model.specs.Machine as Machine
 use Rattle.run_call.specs.declared.State.{State}
@@ -21,9 +22,9 @@ module _ (s : State) (modeS modeAC : List Float) where
   stateOf z = record { written = z .written; total = s .total; time = z .time; latest = z .mark; ended = z .over; rates = s .rates; delays = s .delays; distributions = s .distributions }
 
   unfoldable pub ranGiven : Bench.Answer → Machine.State (genOf s modeS modeAC) nan → Ran
-  ranGiven (Bench.refused q) z = record { state = stateOf z; counts = record { taken = 0; samples = 0; noise = 0; records = 0 }; answer = Answer.the-variants.Refused (refusalGiven q) }
-  ranGiven (Bench.ran taken samples noise records stop) z =
-      record { state = stateOf z; counts = record { taken = taken; samples = samples; noise = noise; records = records }; answer = Answer.the-variants.Stopped (stopGiven stop) }
+  ranGiven (Bench.refused q) z = record { state = stateOf z; counts = record { taken = 0; samples = 0; noise = 0; records = 0; «added_high» = 0; «added_low» = 0 }; answer = Answer.the-variants.Refused (refusalGiven q) }
+  ranGiven (Bench.ran taken samples noise records added stop) z =
+      record { state = stateOf z; counts = record { taken = taken; samples = samples; noise = noise; records = records; «added_high» = highHalf added; «added_low» = lowHalf added }; answer = Answer.the-variants.Stopped (stopGiven stop) }
 
   -- what the code answers and leaves, for a result of the theory and the machine's state after it
   unfoldable pub leftGiven : Bench.Result (genOf s modeS modeAC) → Machine.State (genOf s modeS modeAC) nan → Left

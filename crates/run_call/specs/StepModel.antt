@@ -11,13 +11,15 @@ use Rattle.run_call.specs.declared.State.{State}
 use Rattle.run_steps.specs.declared.Progress.{Progress}
 use Rattle.run_steps.specs.declared.LastStep as LastStep
 use Rattle.run_steps.specs.PlanModel.{stopRead}
+use Rattle.run_steps.specs.ProgressModel.{addedOf}
 use Rattle.run_call.specs.StateGenerator.{genOf}
 
--- the counts lie within the buffers
+-- the counts lie within the buffers; each draw taken adds at most what a u16 counts
 pub record Inside (t : Progress) (noise output records : ℕ) : Type 0 where
   pub output-in : 2 * t .samples ≤ output
   pub noise-in : 2 * t .samples ≤ noise
   pub records-in : 66 * t .records ≤ records
+  pub added-in : addedOf t ≤ 65535 * t .taken
 
 -- progress with working memory, the draw bytes that are left, and the two buffers
 abbrev pub progressRead : (s : State) (modeS modeAC : List Float) → Progress → List Float → List ℕ → List Float → List ℕ → Theory.Progress (genOf s modeS modeAC) nan
@@ -26,6 +28,7 @@ progressRead s modeS modeAC t memory rest output records = record {
   taken = t .taken;
   samples = t .samples;
   lines = t .records;
+  added = addedOf t;
   rest = rest;
   output = output;
   records = records;
@@ -45,6 +48,6 @@ module _ (G : Generator) (noise : List (G .Value)) (o : G .Value) where
     pub less : stepFuel G o noise z′ < stepFuel G o noise z
 
   abbrev pub StepSays : LastStep.LastStep → Theory.Progress G o → Theory.Progress G o → Type 0
-  StepSays LastStep.the-variants.SamplesWritten z z′ = Went z z′ × (z′ .taken ≡ z .taken)
-  StepSays LastStep.the-variants.DrawTaken z z′ = Went z z′ × (z′ .taken ≡ z .taken + 1) × (G .drawBytes ≤ length (z .rest))
+  StepSays LastStep.the-variants.SamplesWritten z z′ = Went z z′ × (z′ .taken ≡ z .taken) × (z′ .added ≡ z .added)
+  StepSays LastStep.the-variants.DrawTaken z z′ = Went z z′ × (z′ .taken ≡ z .taken + 1) × (G .drawBytes ≤ length (z .rest)) × (z′ .added ≤ z .added + 65535)
   StepSays (LastStep.the-variants.StopReached w) z z′ = (Theory.restOf G o noise z ≡ Theory.stopped G o z′ (stopRead w)) × (z′ .samples ≡ z .samples)

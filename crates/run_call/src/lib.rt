@@ -31,12 +31,14 @@ pub struct State {
     pub distributions: Distributions,
 }
 
-// Of one call: draws taken, samples written, noise values used, records written.
+// Of one call: draws taken, samples written, noise values used, records written, and reply samples added to working memory, in two halves.
 pub struct Counts {
     pub taken: usize,
     pub samples: usize,
     pub noise: usize,
     pub records: usize,
+    pub added_high: u64,
+    pub added_low: u64,
 }
 
 pub enum Answer {
@@ -51,7 +53,7 @@ pub struct Ran {
     pub answer: Answer,
 }
 
-// One step: a stop, n samples, or a draw.
+// One step: a stop, n samples, or a draw. The count of a reply is known once its samples are added.
 fn step(
     s: State,
     t: Progress,
@@ -82,40 +84,34 @@ fn step(
         noise.len() - used,
         records.len() - RECORD_LEN * lines,
     );
-    let r = run_steps::after_step(t, p);
+    let r = run_steps::after_step(t, p, 0);
     match p {
-        Plan::Halt(_) => {}
-        Plan::Drain(n) => run_due_samples::write_due(
-            memory,
-            noise,
-            output,
-            t.written,
-            t.samples,
-            n,
-        ),
-        Plan::Due(n, _) => run_due_samples::write_due(
-            memory,
-            noise,
-            output,
-            t.written,
-            t.samples,
-            n,
-        ),
-        Plan::Skip(_) => {}
-        Plan::End(_) => {}
-        Plan::Add(_, first) => run_add_reply::add(
-            last,
-            delays,
-            first,
-            mode_s,
-            mode_ac,
-            memory,
-            rest,
-            records,
-            RECORD_LEN * lines,
-        ),
+        Plan::Halt(_) => r,
+        Plan::Drain(n) => {
+            run_due_samples::write_due(memory, noise, output, t.written, t.samples, n);
+            r
+        }
+        Plan::Due(n, _) => {
+            run_due_samples::write_due(memory, noise, output, t.written, t.samples, n);
+            r
+        }
+        Plan::Skip(_) => r,
+        Plan::End(_) => r,
+        Plan::Add(_, first) => {
+            let count = run_add_reply::add(
+                last,
+                delays,
+                first,
+                mode_s,
+                mode_ac,
+                memory,
+                rest,
+                records,
+                RECORD_LEN * lines,
+            );
+            run_steps::after_step(t, p, count)
+        }
     }
-    r
 }
 
 // A call before its first step.
@@ -130,6 +126,8 @@ fn initial_progress(s: State) -> Progress
         taken: 0,
         samples: 0,
         records: 0,
+        added_high: 0,
+        added_low: 0,
         last: LastStep::SamplesWritten,
     }
 }
@@ -158,6 +156,8 @@ fn stopped_at(s: State, t: Progress, w: Stop) -> Ran
             samples: t.samples,
             noise: 2 * t.samples,
             records: t.records,
+            added_high: t.added_high,
+            added_low: t.added_low,
         },
         answer: Answer::Stopped(w),
     }
@@ -204,6 +204,8 @@ fn refused(s: State, q: Refusal) -> Ran
             samples: 0,
             noise: 0,
             records: 0,
+            added_high: 0,
+            added_low: 0,
         },
         answer: Answer::Refused(q),
     }

@@ -54,7 +54,7 @@ module _ (G : Generator) (o : G .Value) where
   stateAfterSamples z n t = record { memory = cleared G o (z .memory) (z .written) n; written = z .written + n; time = z .time; over = z .over; mark = t }
 
   abbrev pub withSamples : List (Sample G) → Ran G o → Ran G o
-  withSamples xs r = record { state = r .state; rest = r .rest; stop = r .stop; samples = xs ++ r .samples; records = r .records }
+  withSamples xs r = record { state = r .state; rest = r .rest; stop = r .stop; samples = xs ++ r .samples; records = r .records; added = r .added }
 
   abbrev more : List (NoisePair G) → ℕ → ℕ
   more [] n = n

@@ -25,10 +25,10 @@ module _ (G : Generator) (o : G .Value) (noise : List (G .Value)) where
   nextProgress t (stopAt s) = t
   nextProgress t (drainMany n) = progressWithSamples G o noise t n (t .state .mark)
   nextProgress t (dueMany n time) = progressWithSamples G o noise t n (later G (t .state .mark) time)
-  nextProgress t (ignore time) = progressWithDraw G o noise t ignored (t .lines) (t .records)
-  nextProgress t (endRun time) = progressWithDraw G o noise t ends (t .lines) (t .records)
+  nextProgress t (ignore time) = progressWithDraw G o noise t ignored (t .lines) (t .added) (t .records)
+  nextProgress t (endRun time) = progressWithDraw G o noise t ends (t .lines) (t .added) (t .records)
   nextProgress t (addReply time s) =
-      progressWithDraw G o noise t (reply s) (t .lines + 1)
+      progressWithDraw G o noise t (reply s) (t .lines + 1) (t .added + length (adds (nextTime G o noise t) (drawAt (t .rest)) s))
       (overwritten (recordBytes * t .lines) (entry (nextTime G o noise t) (drawAt (t .rest)) s (length (adds (nextTime G o noise t) (drawAt (t .rest)) s))) (t .records))
 
   abbrev pub progressBy : (Progress G o → Ended G o) → Progress G o → Plan Time → Ended G o

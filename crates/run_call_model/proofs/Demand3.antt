@@ -3,18 +3,20 @@ use mathlib.Core.Bool.{Bool, true, false, _||_, false≢true}
 use mathlib.Core.List.{List, [], _∷_, _++_, map, map-append, append-nil, append-assoc}
 use mathlib.Core.Option.{Option, none, some}
 use mathlib.Core.Path.{_≡_, refl, sym, ap, _∙_, subst}
-use Prim.Native.Nat.{ℕ, suc, _+_, _-_, _*_, _≤_}
+use Prim.Native.Nat.{ℕ, zero, suc, _+_, _-_, _*_, _≤_}
 use native.Mathlib.Omega.{arith}
-use lib.ListN.{length, drop, take, length-append}
+use lib.ListN.{length, drop, take, length-append, length-map}
 use lib.Seq.{drop-at, take-at, take-all, take-nil, take-append-add}
 use borrow.Author.Tests.{le-leb}
 use Rattle.run_theory.specs.Generator.{Generator, Sample, NoisePair}
-use Rattle.run_theory.specs.PlainRun.{Reply, timeOf, ended, replies, samplesFrom, plainSamples, plainRecords}
+use Rattle.run_theory.specs.PlainRun.{Reply, timeOf, ended, replies, samplesFrom, plainSamples, plainRecords, plainCounts, plainAdded}
+use Rattle.run_theory.specs.Added.{sumOf}
+use Rattle.run_theory.specs.Each.{Each}
 use Rattle.run_theory.specs.PlainBench.{Stop, done, outputFull, wantsNoise, wantsDraws, recordsFull, Refusal, pairs, flatten, join, over, Call, Result, drawsOf, refusalOf, Remaining, remainingOf, Bench, Benched, bench0, benchSteps, fuel, counts, Given, resultOf, benchCall, benchResults, benchAfter}
 use Rattle.run_theory.specs.Laws.{Laws, Accepted}
 use Rattle.run_theory.specs.Demand3.{Prefix, bench, plainOutput, plainLines}
 use Rattle.run_call_model.specs.Machine.{State, Ran, opened, machineSteps, machineCall, machineResults, machineAfter, runs}
-use Rattle.run_theory.proofs.ListClaim.{isDone, doneIn, drawsTaken, samplesWritten, noiseUsed, recordsWritten, allSamples, allRecords, reachesDone, allTaken, allUsed, Demand3}
+use Rattle.run_theory.proofs.ListClaim.{isDone, doneIn, drawsTaken, samplesWritten, noiseUsed, recordsWritten, samplesAdded, allSamples, allRecords, allAdded, Recorded, Adds, reachesDone, allTaken, allUsed, Demand3}
 use Rattle.run_theory.proofs.PlainFacts.{replies-still, replies-append, samplesFrom-append, length-samplesFrom}
 use Rattle.run_theory.proofs.Reached.{Reached, reached-first, samples-stay}
 use Rattle.run_theory.proofs.Refusals.{accepted-draws, not-refused}
@@ -22,7 +24,7 @@ use Rattle.run_call_model.proofs.LatestTime.{refusal-alike}
 use Rattle.run_call_model.proofs.InStep.{Matches, matches-first, Kept, loop-kept}
 use Rattle.run_call_model.proofs.FlatLists.{length-flatten, flatten-append, pairs-after, take-pairs, join-append, length-join, take-over}
 use Rattle.run_call_model.proofs.Counted.{Moved, moved, Counted, counted, lines}
-use Rattle.run_theory.proofs.Reach.{all-reach}
+use Rattle.run_theory.proofs.Reach.{all-recorded, all-reach}
 
 is-done-eq : (s : Stop) → isDone s ≡ true → s ≡ done
 is-done-eq done e = refl
@@ -40,6 +42,24 @@ either false y e f g = g e
 
 joined : {X : Type 0} (hs xs ys bs cs : List X) → hs ++ xs ≡ bs → bs ++ ys ≡ cs → hs ++ (xs ++ ys) ≡ cs
 joined hs xs ys bs cs e f = sym (append-assoc hs xs ys) ∙ ap (λ (l : List _). l ++ ys) e ∙ f
+
+map-drop : {X Y : Type 0} (f : X → Y) (n : ℕ) (xs : List X) → drop n (map f xs) ≡ map f (drop n xs)
+map-drop f zero xs = refl
+map-drop f (suc n) [] = refl
+map-drop f (suc n) (x ∷ xs) = map-drop f n xs
+
+-- the new part of a list that f makes of another is what f makes of the new part
+new-of : {X Y : Type 0} (f : X → Y) (xs zs : List X) (ys : List Y) → map f xs ++ ys ≡ map f zs → ys ≡ map f (drop (length xs) zs)
+new-of f xs zs ys e = new-part (map f xs) ys (map f zs) e ∙ ap (λ (n : ℕ). drop n (map f zs)) (length-map xs f) ∙ map-drop f (length xs) zs
+
+each-drop : {X : Type 0} (P : X → Type 0) (n : ℕ) (xs : List X) → Each P xs → Each P (drop n xs)
+each-drop P zero xs h = h
+each-drop P (suc n) [] h = tt
+each-drop P (suc n) (x ∷ xs) h = each-drop P n xs (h .1)
+
+sum-append : (xs ys : List ℕ) → sumOf (xs ++ ys) ≡ sumOf xs + sumOf ys
+sum-append [] ys = omega arith
+sum-append (x ∷ xs) ys = omega (arith, sum-append xs ys)
 
 first-of : {X : Type 0} (xs ys zs : List X) → zs ≡ xs ++ ys → take (length zs - length ys) zs ≡ xs
 first-of xs ys zs e =
@@ -61,6 +81,8 @@ module _ (G : Generator) (L : Laws G) (o : G .Value) where
     records : plainLines G (b .taken) ++ take (recordBytes * recordsWritten (q .0 .answer)) (resultOf G c (q .0) .records) ≡ plainLines G (p .1 .taken)
     taken : b .taken ++ take (drawsTaken (q .0 .answer)) (drawsOf G (c .draws)) ≡ p .1 .taken
     used : flatten (b .used) ++ take (noiseUsed (q .0 .answer)) (c .noise) ≡ flatten (p .1 .used)
+    adds : Adds G (resultOf G c (q .0))
+    added : plainAdded G (b .taken) + samplesAdded (q .0 .answer) ≡ plainAdded G (p .1 .taken)
     finished : doneIn (q .0 .answer) ≡ true → Finished (p .1)
     -- once all is done nothing moves
     stays : Finished b → p .1 ≡ b
@@ -79,12 +101,14 @@ module _ (G : Generator) (L : Laws G) (o : G .Value) where
     records = ap (λ (n : ℕ). plainLines G (b .taken) ++ take n (over (join []) (c .records))) {x = recordBytes * 0} {y = 0} (omega arith) ∙ append-nil (plainLines G (b .taken));
     taken = append-nil (b .taken);
     used = append-nil (flatten (b .used));
+    adds = record { new = []; many = refl; lines = ap (λ (n : ℕ). take n (over (join []) (c .records))) {x = recordBytes * 0} {y = 0} (omega arith); added = refl; recorded = tt };
+    added = omega arith;
     finished = λ e. absurd (false≢true e);
     stays = λ e. refl;
   }
   call-kept b z c none g h acc = record {
     given = λ i. record {
-      answer = counts G l (k .rest i) (k .stop i);
+      answer = counts G l (k .rest i) (sumOf (new-part (plainCounts G (b .taken)) (rz .added) (plainCounts G (rb .bench .taken)) (k .added) i)) (k .stop i);
       samples = new-part (plainSamples G (b .taken) (b .used)) (rz .samples) (plainSamples G (rb .bench .taken) (rb .bench .used)) (k .samples) i;
       records = new-part (plainRecords G (b .taken)) (rz .records) (plainRecords G (rb .bench .taken)) (k .records) i;
     };
@@ -96,9 +120,7 @@ module _ (G : Generator) (L : Laws G) (o : G .Value) where
         ∙ sym (flatten-append (plainSamples G (b .taken) (b .used)) (rz .samples))
         ∙ ap (λ (xs : List (Sample G)). flatten xs) (k .samples);
     records =
-        ap (λ (xs : List Byte). plainLines G (b .taken) ++ xs)
-        (take-over (recordBytes * (l .slots - rz .rest .slots)) (join (rz .records)) (c .records)
-        (length-join recordBytes (rz .records) (lines G o (L .entry-length) (fuel G l) z l) ∙ ap (λ (i : ℕ). recordBytes * i) {x = length (rz .records)} {y = l .slots - rz .rest .slots} (omega (arith, n .slots))))
+        ap (λ (xs : List Byte). plainLines G (b .taken) ++ xs) written-lines
         ∙ sym (join-append (plainRecords G (b .taken)) (rz .records))
         ∙ ap (λ (xs : List (List Byte)). join xs) (k .records);
     taken =
@@ -111,6 +133,14 @@ module _ (G : Generator) (L : Laws G) (o : G .Value) where
         ∙ ap (λ (xs : List Value). flatten (b .used) ++ xs) (take-pairs (m .us) (rb .rest .noise) (c .noise) (m .noise))
         ∙ sym (flatten-append (b .used) (m .us))
         ∙ ap (λ (xs : List (NoisePair G)). flatten xs) (sym (m .used));
+    adds = record {
+      new = new;
+      many = sym (length-map new line) ∙ ap length (sym new-lines) ∙ omega (arith, n .slots);
+      lines = written-lines ∙ ap (λ (xs : List (List Byte)). join xs) new-lines;
+      added = ap sumOf (new-of count (replies G t0 (b .taken)) (replies G t0 (rb .bench .taken)) (rz .added) (k .added));
+      recorded = each-drop (Recorded G) (length (replies G t0 (b .taken))) (replies G t0 (rb .bench .taken)) (all-recorded G L t0 (rb .bench .taken) (L .good-first) (k .reached .in-range));
+    };
+    added = sym (sum-append (plainCounts G (b .taken)) (rz .added)) ∙ ap sumOf (k .added);
     finished = λ e. k .finished (sym (k .stop) ∙ is-done-eq (rz .stop) e);
     stays = λ e. steps-stay (length (l .draws) + l .room) b l e;
   }
@@ -133,6 +163,24 @@ module _ (G : Generator) (L : Laws G) (o : G .Value) where
       n : Counted G o l rz
       n = counted G o (fuel G l) z l
 
+      -- the records written, and the replies that they are of
+      written-lines : take (recordBytes * (l .slots - rz .rest .slots)) (over (join (rz .records)) (c .records)) ≡ join (rz .records)
+      written-lines =
+          take-over (recordBytes * (l .slots - rz .rest .slots)) (join (rz .records)) (c .records)
+          (length-join recordBytes (rz .records) (lines G o (L .entry-length) (fuel G l) z l) ∙ ap (λ (i : ℕ). recordBytes * i) {x = length (rz .records)} {y = l .slots - rz .rest .slots} (omega (arith, n .slots)))
+
+      line : Reply G → List Byte
+      line r = r .line
+
+      count : Reply G → ℕ
+      count r = length (r .values)
+
+      new : List (Reply G)
+      new = drop (length (replies G t0 (b .taken))) (replies G t0 (rb .bench .taken))
+
+      new-lines : rz .records ≡ map line new
+      new-lines = new-of line (replies G t0 (b .taken)) (replies G t0 (rb .bench .taken)) (rz .records) (k .records)
+
   -- ---- a list of calls
   record CallsKept (b : Bench G) (cs : List (Call G)) (p : List (Result G)) (b′ : Bench G) (q : List (Result G)) (z′ : State G o) : Type 0 where
     results : q ≡ p
@@ -142,6 +190,8 @@ module _ (G : Generator) (L : Laws G) (o : G .Value) where
     records : plainLines G (b .taken) ++ allRecords G q ≡ plainLines G (b′ .taken)
     taken : b .taken ++ allTaken G cs q ≡ b′ .taken
     used : flatten (b .used) ++ allUsed G cs q ≡ flatten (b′ .used)
+    adds : Each (Adds G) q
+    added : plainAdded G (b .taken) + allAdded G q ≡ plainAdded G (b′ .taken)
     finished : reachesDone G q ≡ true → Finished b′
     stays : Finished b → b′ ≡ b
 
@@ -154,6 +204,8 @@ module _ (G : Generator) (L : Laws G) (o : G .Value) where
     records = append-nil (plainLines G (b .taken));
     taken = append-nil (b .taken);
     used = append-nil (flatten (b .used));
+    adds = tt;
+    added = omega arith;
     finished = λ e. absurd (false≢true e);
     stays = λ e. refl;
   }
@@ -180,6 +232,8 @@ module _ (G : Generator) (L : Laws G) (o : G .Value) where
         records = joined (plainLines G (b .taken)) (take (recordBytes * recordsWritten (q .0 .answer)) (resultOf G c (q .0) .records)) (allRecords G rs) (plainLines G (p .1 .taken)) (plainLines G (last .taken)) (k .records) (r .records);
         taken = joined (b .taken) (take (drawsTaken (q .0 .answer)) (drawsOf G (c .draws))) (allTaken G cs rs) (p .1 .taken) (last .taken) (k .taken) (r .taken);
         used = joined (flatten (b .used)) (take (noiseUsed (q .0 .answer)) (c .noise)) (allUsed G cs rs) (flatten (p .1 .used)) (flatten (last .used)) (k .used) (r .used);
+        adds = (k .adds, r .adds);
+        added = omega (arith, k .added, r .added);
         finished = λ e. either (doneIn (q .0 .answer)) (reachesDone G rs) e (λ y. subst (λ (d : Bench G). Finished d) (sym (r .stays (k .finished y))) (k .finished y)) (λ y. r .finished y);
         stays = λ e. r .stays (subst (λ (d : Bench G). Finished d) (sym (k .stays e)) e) ∙ k .stays e;
       }
@@ -253,6 +307,9 @@ module _ (G : Generator) (L : Laws G) (o : G .Value) where
   all-of : (x u : ℕ) → x ≡ 2 * u → u ≤ total → total ≤ u → x ≡ 2 * total
   all-of x u e p q = omega arith
 
+  from-none : (x y : ℕ) → 0 + x ≡ y → x ≡ y
+  from-none x y e = omega arith
+
   pub demand3 : Demand3 G (runs G o)
   demand3 = record {
     answers = λ cs. kept cs .results;
@@ -268,4 +325,6 @@ module _ (G : Generator) (L : Laws G) (o : G .Value) where
     written = length-samples;
     whole = λ cs e. (kept cs .finished e .0, all-of (length (allSamples G (runs G o cs))) (length (bench G cs .used)) (length-samples cs) (reached cs .within) (kept cs .finished e .1));
     reach = λ cs. all-reach G L t0 (bench G cs .taken) (L .good-first) (reached cs .in-range);
+    adds = λ cs. kept cs .adds;
+    added = λ cs. from-none (allAdded G (runs G o cs)) (plainAdded G (bench G cs .taken)) (kept cs .added);
   }

@@ -9,14 +9,14 @@ use native.Mathlib.Nat.{add-mod-right, mod-lt}
 use native.Mathlib.Omega.{arith}
 use lib.ListN.{length}
 use Rattle.run_theory.specs.Generator.{Generator, Sample, NoisePair, silence, noisy}
-use Rattle.run_theory.specs.PlainRun.{Kind, ignored, ends, reply, timeOf, ended, replyOf, replies, addNth, hit, sumAt, plainSamples, plainRecords}
+use Rattle.run_theory.specs.PlainRun.{Kind, ignored, ends, reply, timeOf, ended, replyOf, replies, addNth, hit, sumAt, plainSamples, plainRecords, plainCounts}
 use Rattle.run_theory.specs.PlainBench.{done, Remaining, Step, halt, drain, due, taking, latest, Bench, Benched, bench0, benchStep, benchOn, benchSteps}
 use Rattle.run_call_model.specs.Machine.{window, rd, wr, put, later, State, Ran, opened, stateStep, stateAfterSample, sample, stateAfterDraw, withSample, noted, machineOn, machineSteps}
 use Rattle.run_theory.specs.Laws.{Laws}
 use Rattle.run_theory.proofs.PlainFacts.{length-snoc, hit-before, hit-at}
 use Rattle.run_call_model.proofs.Ring.{Fit, fit-blank, rd-blank, fit-wr, fit-put, rd-back, rd-here, put-ahead, put-at}
 use Rattle.run_theory.proofs.StepFacts.{Dues, Takes, Says, step-says, reply-fits}
-use Rattle.run_theory.proofs.Reached.{Reached, Left, samples-more, reached-drain, reached-due, left-drain, left-due, take-time, take-ended, take-sum, left-take, reached-take, take-samples, take-records, take-ahead, good-on, take-short, due-left}
+use Rattle.run_theory.proofs.Reached.{Reached, Left, samples-more, reached-drain, reached-due, left-drain, left-due, take-time, take-ended, take-sum, left-take, reached-take, take-samples, take-records, take-counts, take-ahead, good-on, take-short, due-left}
 use Rattle.run_call_model.proofs.LatestTime.{StandsFor, stands-later}
 
 module _ (G : Generator) (L : Laws G) (o : G .Value) where
@@ -123,6 +123,7 @@ module _ (G : Generator) (L : Laws G) (o : G .Value) where
     pub matches : Matches (rb .bench) (rz .state)
     pub samples : plainSamples G (b .taken) (b .used) ++ rz .samples ≡ plainSamples G (rb .bench .taken) (rb .bench .used)
     pub records : plainRecords G (b .taken) ++ rz .records ≡ plainRecords G (rb .bench .taken)
+    pub added : plainCounts G (b .taken) ++ rz .added ≡ plainCounts G (rb .bench .taken)
     pub finished : rb .stop ≡ done → (ended G t0 (rb .bench .taken) ≡ true) × (total ≤ length (rb .bench .used))
 
   -- one step on both, and the rest by the hypothesis
@@ -143,6 +144,7 @@ module _ (G : Generator) (L : Laws G) (o : G .Value) where
           ∙ ap (λ (xs : List (Sample G)). xs ++ r .samples) (sym (samples-more G L b v lt))
           ∙ k .samples;
       records = k .records;
+      added = k .added;
       finished = k .finished;
     }
 
@@ -157,6 +159,7 @@ module _ (G : Generator) (L : Laws G) (o : G .Value) where
       matches = k .matches;
       samples = ap (λ (xs : List (Sample G)). xs ++ r .samples) (sym (take-samples G L b l l′ d ignored g a f)) ∙ k .samples;
       records = ap (λ (xs : List (List Byte)). xs ++ r .records) (sym (take-records G L b l l′ d ignored g a f ∙ append-nil (plainRecords G (b .taken)))) ∙ k .records;
+      added = ap (λ (xs : List ℕ). xs ++ r .added) (sym (take-counts G L b l l′ d ignored g a f ∙ append-nil (plainCounts G (b .taken)))) ∙ k .added;
       finished = k .finished;
     }
     taken-kept d ends l′ r f k = record {
@@ -166,6 +169,7 @@ module _ (G : Generator) (L : Laws G) (o : G .Value) where
       matches = k .matches;
       samples = ap (λ (xs : List (Sample G)). xs ++ r .samples) (sym (take-samples G L b l l′ d ends g a f)) ∙ k .samples;
       records = ap (λ (xs : List (List Byte)). xs ++ r .records) (sym (take-records G L b l l′ d ends g a f ∙ append-nil (plainRecords G (b .taken)))) ∙ k .records;
+      added = ap (λ (xs : List ℕ). xs ++ r .added) (sym (take-counts G L b l l′ d ends g a f ∙ append-nil (plainCounts G (b .taken)))) ∙ k .added;
       finished = k .finished;
     }
     taken-kept d (reply x) l′ r f k = record {
@@ -178,6 +182,10 @@ module _ (G : Generator) (L : Laws G) (o : G .Value) where
           sym (append-assoc (plainRecords G (b .taken)) (entry (after (timeOf G t0 (b .taken)) d) d x (length (adds (after (timeOf G t0 (b .taken)) d) d x)) ∷ []) (r .records))
           ∙ ap (λ (xs : List (List Byte)). xs ++ r .records) (sym (take-records G L b l l′ d (reply x) g a f))
           ∙ k .records;
+      added =
+          sym (append-assoc (plainCounts G (b .taken)) (length (adds (after (timeOf G t0 (b .taken)) d) d x) ∷ []) (r .added))
+          ∙ ap (λ (xs : List ℕ). xs ++ r .added) (sym (take-counts G L b l l′ d (reply x) g a f))
+          ∙ k .added;
       finished = k .finished;
     }
 
@@ -190,7 +198,7 @@ module _ (G : Generator) (L : Laws G) (o : G .Value) where
 
     pub on-kept : (c : Step G) → Says G (ended G t0 (b .taken)) (length (b .used)) (timeOf G t0 (b .taken)) l c → Kept b (benchOn G goB b l c) (machineOn G o goZ z l c)
     on-kept (halt s) f = record
-        { rest = refl; stop = refl; reached = g; matches = h; samples = append-nil (plainSamples G (b .taken) (b .used)); records = append-nil (plainRecords G (b .taken)); finished = λ e. f .at-done e }
+        { rest = refl; stop = refl; reached = g; matches = h; samples = append-nil (plainSamples G (b .taken) (b .used)); records = append-nil (plainRecords G (b .taken)); added = append-nil (plainCounts G (b .taken)); finished = λ e. f .at-done e }
     on-kept (drain v l′) f =
         samples-written-kept v (b .mark) l′ (goZ (stateAfterSample G o z (z .mark)) l′) (f .short)
         (ih (record { taken = b .taken; used = b .used ++ (v ∷ []); mark = b .mark }) (stateAfterSample G o z (z .mark)) l′
@@ -210,7 +218,7 @@ module _ (G : Generator) (L : Laws G) (o : G .Value) where
 
   pub loop-kept : (f : ℕ) (b : Bench G) (z : State G o) (l : Remaining G) → Reached G L b → Matches b z → Left G L b l → Kept b (benchSteps G f b l) (machineSteps G o f z l)
   loop-kept zero b z l g h a = record
-      { rest = refl; stop = refl; reached = g; matches = h; samples = append-nil (plainSamples G (b .taken) (b .used)); records = append-nil (plainRecords G (b .taken)); finished = λ e. let q : _≡_ {A = ℕ} 0 1 = cc in absurd (omega arith) }
+      { rest = refl; stop = refl; reached = g; matches = h; samples = append-nil (plainSamples G (b .taken) (b .used)); records = append-nil (plainRecords G (b .taken)); added = append-nil (plainCounts G (b .taken)); finished = λ e. let q : _≡_ {A = ℕ} 0 1 = cc in absurd (omega arith) }
   loop-kept (suc f) b z l g h a =
       rw (steps-agree b z l h)
       (on-kept (λ b′ l′. benchSteps G f b′ l′) (λ z′ l′. machineSteps G o f z′ l′) (λ b′ z′ l′. loop-kept f b′ z′ l′) b z l g h a

@@ -190,11 +190,11 @@ module _ (G : Generator) (o : G .Value) (noise : List (G .Value)) where
     afterPlan t (stopAt s) = stopped G o t s
     afterPlan t (drainMany n) = restOf G o noise (progressWithSamples G o noise t n (t .state .mark))
     afterPlan t (dueMany n time) = restOf G o noise (progressWithSamples G o noise t n (later G (t .state .mark) time))
-    afterPlan t (ignore time) = restOf G o noise (progressWithDraw G o noise t ignored (t .lines) (t .records))
-    afterPlan t (endRun time) = restOf G o noise (progressWithDraw G o noise t ends (t .lines) (t .records))
+    afterPlan t (ignore time) = restOf G o noise (progressWithDraw G o noise t ignored (t .lines) (t .added) (t .records))
+    afterPlan t (endRun time) = restOf G o noise (progressWithDraw G o noise t ends (t .lines) (t .added) (t .records))
     afterPlan t (addReply time s) =
         restOf G o noise
-        (progressWithDraw G o noise t (reply s) (t .lines + 1)
+        (progressWithDraw G o noise t (reply s) (t .lines + 1) (t .added + length (adds (nextTime G o noise t) (drawAt (t .rest)) s))
         (overwritten (recordBytes * t .lines) (entry (nextTime G o noise t) (drawAt (t .rest)) s (length (adds (nextTime G o noise t) (drawAt (t .rest)) s))) (t .records)))
 
     module _ (line-length : (t : Time) (d : G .Draw) (s n : ℕ) → length (entry t d s n) ≡ recordBytes) where

@@ -11,6 +11,7 @@ use lib.ListN.{length, take, drop, length-append, length-drop, take-append-drop}
 use lib.Seq.{drop-drop}
 use borrow.Author.Tests.{le-leb, lt-leb, lt-ltb, le-ltb}
 use Rattle.run_theory.specs.Generator.{Generator, Sample, NoisePair}
+use Rattle.run_theory.specs.Added.{sumOf}
 use Rattle.run_theory.specs.PlainRun.{Kind, ignored, ends, reply, kind}
 use Rattle.run_theory.specs.PlainBench.{Stop, done, outputFull, wantsNoise, wantsDraws, recordsFull, Answer, ran, pairs, flatten, join, over, Call, Result, drawsOf, Remaining, remainingOf, Step, halt, drain, due, taking, write, step4, step5, dueBy, step1, fuel, resultOf}
 use Rattle.run_call_model.specs.Machine.{later, State, Ran, stateStep, stateAfterDraw, noted, machineOn, machineCall}
@@ -40,6 +41,7 @@ module _ (G : Generator) (o : G .Value) where
       taken = p i;
       samples = q i;
       lines = r i;
+      added = a i;
       output = overwritten-none (2 * t .samples) (t .output) i;
       records = overwritten-none (recordBytes * t .lines) (t .records) i;
       stop = s;
@@ -53,6 +55,9 @@ module _ (G : Generator) (o : G .Value) where
 
         r : t .lines + 0 ≡ t .lines
         r = omega arith
+
+        a : t .added + 0 ≡ t .added
+        a = omega arith
 
     -- Step 1
     pub step-done : (t : Progress G o) → t .state .over ≡ true → total ≤ t .state .written → restOf G o noise t ≡ stopped G o t done
@@ -142,6 +147,7 @@ module _ (G : Generator) (o : G .Value) where
       taken = t .taken;
       samples = t .samples + n;
       lines = t .lines;
+      added = t .added;
       rest = t .rest;
       output = overwritten (2 * t .samples) (flatten (nextSamples t n)) (t .output);
       records = t .records;
@@ -180,6 +186,7 @@ module _ (G : Generator) (o : G .Value) where
         taken = t .taken + (length (drawsOf G (t .rest)) - length (r .rest .draws));
         samples = q i;
         lines = t .lines + length (r .records);
+        added = t .added + sumOf (r .added);
         output = joined i;
         records = overwritten (recordBytes * t .lines) (join (r .records)) (t .records);
         stop = r .stop;
@@ -212,12 +219,13 @@ module _ (G : Generator) (o : G .Value) where
 
     -- ---- draws
     -- the progress after the next draw is taken, with its bytes behind and lines records more
-    abbrev pub progressWithDraw : Progress G o → Kind → ℕ → List Byte → Progress G o
-    progressWithDraw t k lines records = record {
+    abbrev pub progressWithDraw : Progress G o → Kind → ℕ → ℕ → List Byte → Progress G o
+    progressWithDraw t k lines added records = record {
       state = stateAfterDraw G o (t .state) (drawAt (t .rest)) k;
       taken = t .taken + 1;
       samples = t .samples;
       lines = lines;
+      added = added;
       rest = drop drawBytes (t .rest);
       output = t .output;
       records = records;
@@ -240,8 +248,8 @@ module _ (G : Generator) (o : G .Value) where
           omega (arith, ap length (draws-cons G (t .rest) pos some-draw), ap length e, counted G o (fuel G l) (stateAfterDraw G o (t .state) (drawAt (t .rest)) k) l .draws)
 
       -- a draw that is taken and not recorded
-      not-recorded : (k : Kind) → stateStep G o (t .state) (leftOf G o noise t) ≡ taking (drawAt (t .rest)) k (leftOf G o noise (progressWithDraw t k (t .lines) (t .records)))
-          → ((r : Ran G o) → noted G o (nextTime t) (drawAt (t .rest)) k r ≡ r) → restOf G o noise t ≡ restOf G o noise (progressWithDraw t k (t .lines) (t .records))
+      not-recorded : (k : Kind) → stateStep G o (t .state) (leftOf G o noise t) ≡ taking (drawAt (t .rest)) k (leftOf G o noise (progressWithDraw t k (t .lines) (t .added) (t .records)))
+          → ((r : Ran G o) → noted G o (nextTime t) (drawAt (t .rest)) k r ≡ r) → restOf G o noise t ≡ restOf G o noise (progressWithDraw t k (t .lines) (t .added) (t .records))
       unfolding restOf
       not-recorded k is plain =
           by-step t (taking (drawAt (t .rest)) k left) is
@@ -251,22 +259,23 @@ module _ (G : Generator) (o : G .Value) where
             taken = taken-one k left refl i;
             samples = t .samples + length (r .samples);
             lines = t .lines + length (r .records);
+            added = t .added + sumOf (r .added);
             output = overwritten (2 * t .samples) (flatten (r .samples)) (t .output);
             records = overwritten (recordBytes * t .lines) (join (r .records)) (t .records);
             stop = r .stop;
           })
         where
           left : Remaining G
-          left = leftOf G o noise (progressWithDraw t k (t .lines) (t .records))
+          left = leftOf G o noise (progressWithDraw t k (t .lines) (t .added) (t .records))
 
           r : Ran G o
           r = allSteps G o (stateAfterDraw G o (t .state) (drawAt (t .rest)) k) left
 
       -- Step 4: the draw is taken and ignored, or is taken and ends the run
-      pub step-ignores : nextKind t ≡ ignored → restOf G o noise t ≡ restOf G o noise (progressWithDraw t ignored (t .lines) (t .records))
+      pub step-ignores : nextKind t ≡ ignored → restOf G o noise t ≡ restOf G o noise (progressWithDraw t ignored (t .lines) (t .added) (t .records))
       step-ignores e = not-recorded ignored (step-is ignored e refl) (λ r. refl)
 
-      pub step-ends : nextKind t ≡ ends → restOf G o noise t ≡ restOf G o noise (progressWithDraw t ends (t .lines) (t .records))
+      pub step-ends : nextKind t ≡ ends → restOf G o noise t ≡ restOf G o noise (progressWithDraw t ends (t .lines) (t .added) (t .records))
       step-ends e = not-recorded ends (step-is ends e refl) (λ r. refl)
 
       -- Step 5: fewer than a record's bytes left, else the message is added and recorded
@@ -285,11 +294,14 @@ module _ (G : Generator) (o : G .Value) where
             no-slot : length (t .records) / recordBytes - t .lines ≡ 0
             no-slot = omega (arith, few)
 
-        -- the record of the reply
+        -- the count of the reply, and its record
+        abbrev pub replyCount : ℕ
+        replyCount = length (adds (nextTime t) (drawAt (t .rest)) s)
+
         abbrev pub line : List Byte
         line = entry (nextTime t) (drawAt (t .rest)) s (length (adds (nextTime t) (drawAt (t .rest)) s))
 
-        pub step-adds : length line ≡ recordBytes → recordBytes * (t .lines + 1) ≤ length (t .records) → restOf G o noise t ≡ restOf G o noise (progressWithDraw t (reply s) (t .lines + 1) (overwritten (recordBytes * t .lines) line (t .records)))
+        pub step-adds : length line ≡ recordBytes → recordBytes * (t .lines + 1) ≤ length (t .records) → restOf G o noise t ≡ restOf G o noise (progressWithDraw t (reply s) (t .lines + 1) (t .added + replyCount) (overwritten (recordBytes * t .lines) line (t .records)))
         unfolding restOf
         step-adds len h =
             by-step t (taking (drawAt (t .rest)) (reply s) left)
@@ -299,13 +311,14 @@ module _ (G : Generator) (o : G .Value) where
               taken = taken-one (reply s) left refl i;
               samples = t .samples + length (r .samples);
               lines = count i;
+              added = more i;
               output = overwritten (2 * t .samples) (flatten (r .samples)) (t .output);
               records = joined i;
               stop = r .stop;
             })
           where
             next : Progress G o
-            next = progressWithDraw t (reply s) (t .lines + 1) (overwritten (recordBytes * t .lines) line (t .records))
+            next = progressWithDraw t (reply s) (t .lines + 1) (t .added + replyCount) (overwritten (recordBytes * t .lines) line (t .records))
 
             left : Remaining G
             left = leftOf G o noise next
@@ -327,6 +340,9 @@ module _ (G : Generator) (o : G .Value) where
             count : t .lines + suc (length (r .records)) ≡ t .lines + 1 + length (r .records)
             count = omega arith
 
+            more : t .added + (replyCount + sumOf (r .added)) ≡ t .added + replyCount + sumOf (r .added)
+            more = omega arith
+
             joined : overwritten (recordBytes * t .lines) (line ++ join (r .records)) (t .records) ≡ overwritten (recordBytes * (t .lines + 1)) (join (r .records)) (overwritten (recordBytes * t .lines) line (t .records))
             joined =
                 sym (overwritten-overwritten (recordBytes * t .lines) recordBytes line (join (r .records)) (t .records) len fits)
@@ -334,7 +350,7 @@ module _ (G : Generator) (o : G .Value) where
 
   -- ---- the whole call
   abbrev pub answerOf : Ended G o → Answer
-  answerOf e = ran (e .taken) (e .samples) (2 * e .samples) (e .lines) (e .stop)
+  answerOf e = ran (e .taken) (e .samples) (2 * e .samples) (e .lines) (e .added) (e .stop)
 
   abbrev pub endResult : Ended G o → Result G
   endResult e = record { answer = answerOf e; output = e .output; records = e .records }
@@ -362,7 +378,7 @@ module _ (G : Generator) (o : G .Value) where
 
     pub call-result : endResult (restOf G o (c .noise) (initialProgress G o z c)) ≡ resultOf G c (machineCall G o z c none .0)
     call-result = ap endResult first-rest ∙ (λ i. record {
-      answer = ran (taken i) (samples i) (noise i) (lines i) (r .stop);
+      answer = ran (taken i) (samples i) (noise i) (lines i) (added i) (r .stop);
       output = at-start (flatten (r .samples)) (c .output) i;
       records = (ap (λ (n : ℕ). overwritten n (join (r .records)) (c .records)) {x = recordBytes * 0} {y = 0} (omega arith) ∙ at-start (join (r .records)) (c .records)) i;
     })
@@ -384,6 +400,9 @@ module _ (G : Generator) (o : G .Value) where
 
         lines : 0 + length (r .records) ≡ length (c .records) / recordBytes - r .rest .slots
         lines = omega (arith, k .slots)
+
+        added : 0 + sumOf (r .added) ≡ sumOf (r .added)
+        added = omega arith
 
         at-start : {X : Type 0} (xs buffer : List X) → overwritten 0 xs buffer ≡ over xs buffer
         at-start xs buffer = ap (λ (n : ℕ). xs ++ drop n buffer) {x = 0 + length xs} {y = length xs} (omega arith)

@@ -6,6 +6,7 @@ use mathlib.Core.Option.{Option, none, some}
 use Prim.Native.Nat.{ℕ, zero, suc, _+_, _*_, _%_}
 use lib.ListN.{length, getD, set, replicate}
 use Rattle.run_theory.specs.Generator.{Generator, Sample, NoisePair, silence, add, noisy}
+use Rattle.run_theory.specs.Added.{sumOf}
 use Rattle.run_theory.specs.PlainRun.{Kind, ignored, ends, reply}
 use Rattle.run_theory.specs.PlainBench.{Stop, wantsDraws, Refusal, Call, Result, Remaining, remainingOf, Step, halt, drain, due, taking, step1, refusalOf, fuel, counts, Given, refusedWith, resultOf}
 
@@ -52,6 +53,7 @@ module _ (G : Generator) (o : G .Value) where
     pub stop : Stop
     pub samples : List (Sample G)
     pub records : List (List Byte)
+    pub added : List ℕ
 
   -- what opening leaves: the first time stands for no latest time
   abbrev pub opened : State
@@ -61,10 +63,11 @@ module _ (G : Generator) (o : G .Value) where
   stateStep z l = step1 G (z .over) (z .written) (z .time) (l .draws) (l .noise) (l .room) (l .slots)
 
   abbrev pub withSample : Sample G → Ran → Ran
-  withSample a r = record { state = r .state; rest = r .rest; stop = r .stop; samples = a ∷ r .samples; records = r .records }
+  withSample a r = record { state = r .state; rest = r .rest; stop = r .stop; samples = a ∷ r .samples; records = r .records; added = r .added }
 
-  abbrev pub withRecord : List Byte → Ran → Ran
-  withRecord a r = record { state = r .state; rest = r .rest; stop = r .stop; samples = r .samples; records = a ∷ r .records }
+  -- a record, and its reply's count
+  abbrev pub withRecord : List Byte → ℕ → Ran → Ran
+  withRecord a n r = record { state = r .state; rest = r .rest; stop = r .stop; samples = r .samples; records = a ∷ r .records; added = n ∷ r .added }
 
   -- the state after a sample is written, with the latest time m
   abbrev pub stateAfterSample : State → Time → State
@@ -82,20 +85,20 @@ module _ (G : Generator) (o : G .Value) where
   abbrev pub noted : Time → Draw → Kind → Ran → Ran
   noted t d ignored r = r
   noted t d ends r = r
-  noted t d (reply s) r = withRecord (entry t d s (length (adds t d s))) r
+  noted t d (reply s) r = withRecord (entry t d s (length (adds t d s))) (length (adds t d s)) r
 
   abbrev pub machineOn : (State → Remaining G → Ran) → State → Remaining G → Step G → Ran
-  machineOn go z l (halt s) = record { state = z; rest = l; stop = s; samples = []; records = [] }
+  machineOn go z l (halt s) = record { state = z; rest = l; stop = s; samples = []; records = []; added = [] }
   machineOn go z l (drain v l′) = withSample (sample z v) (go (stateAfterSample z (z .mark)) l′)
   machineOn go z l (due t v l′) = withSample (sample z v) (go (stateAfterSample z (later G (z .mark) t)) l′)
   machineOn go z l (taking d k l′) = noted (after (z .time) d) d k (go (stateAfterDraw z d k) l′)
 
   abbrev pub machineSteps : ℕ → State → Remaining G → Ran
-  machineSteps zero z l = record { state = z; rest = l; stop = wantsDraws; samples = []; records = [] }
+  machineSteps zero z l = record { state = z; rest = l; stop = wantsDraws; samples = []; records = []; added = [] }
   machineSteps (suc f) z l = machineOn (λ z′ l′. machineSteps f z′ l′) z l (stateStep z l)
 
   abbrev pub machineGiven : Remaining G → Ran → Given G
-  machineGiven l r = record { answer = counts G l (r .rest) (r .stop); samples = r .samples; records = r .records }
+  machineGiven l r = record { answer = counts G l (r .rest) (sumOf (r .added)) (r .stop); samples = r .samples; records = r .records }
 
   abbrev pub machineCall : State → Call G → Option Refusal → Given G × State
   machineCall z c (some q) = (refusedWith G q, z)

@@ -4,6 +4,7 @@ use mathlib.Core.List.{List}
 use Prim.Native.Nat.{ℕ, suc, _+_, _-_, _*_, _/_, _≤_}
 use lib.ListN.{length, drop}
 use Rattle.run_theory.specs.Generator.{Generator, NoisePair}
+use Rattle.run_theory.specs.Added.{sumOf}
 use Rattle.run_theory.specs.PlainBench.{Stop, pairs, flatten, join, Call, drawsOf, Remaining, fuel}
 use Rattle.run_call_model.specs.Machine.{State, Ran, machineSteps}
 use Rattle.run_call_model.specs.Buffers.{overwritten}
@@ -24,6 +25,7 @@ module _ (G : Generator) (o : G .Value) where
     pub taken : ℕ
     pub samples : ℕ
     pub lines : ℕ
+    pub added : ℕ
     pub rest : List Byte
     pub output : List Value
     pub records : List Byte
@@ -34,15 +36,16 @@ module _ (G : Generator) (o : G .Value) where
     pub taken : ℕ
     pub samples : ℕ
     pub lines : ℕ
+    pub added : ℕ
     pub output : List Value
     pub records : List Byte
     pub stop : Stop
 
   abbrev pub initialProgress : State G o → Call G → Progress
-  initialProgress z c = record { state = z; taken = 0; samples = 0; lines = 0; rest = c .draws; output = c .output; records = c .records }
+  initialProgress z c = record { state = z; taken = 0; samples = 0; lines = 0; added = 0; rest = c .draws; output = c .output; records = c .records }
 
   abbrev pub stopped : Progress → Stop → Ended
-  stopped t s = record { state = t .state; taken = t .taken; samples = t .samples; lines = t .lines; output = t .output; records = t .records; stop = s }
+  stopped t s = record { state = t .state; taken = t .taken; samples = t .samples; lines = t .lines; added = t .added; output = t .output; records = t .records; stop = s }
 
   module _ (noise : List Value) where
     -- what is left of the buffers
@@ -56,6 +59,7 @@ module _ (G : Generator) (o : G .Value) where
       taken = t .taken + (length (drawsOf G (t .rest)) - length (r .rest .draws));
       samples = t .samples + length (r .samples);
       lines = t .lines + length (r .records);
+      added = t .added + sumOf (r .added);
       output = overwritten (2 * t .samples) (flatten (r .samples)) (t .output);
       records = overwritten (recordBytes * t .lines) (join (r .records)) (t .records);
       stop = r .stop;

@@ -1,7 +1,7 @@
 // The steps of a run call: what comes next, from counts and the next draw alone, and what carrying it out makes of the counts. Counts are modulo 2^64, which no call reaches.
 ghost use mathlib.Core.Bool.{false, cond};
 ghost use mathlib.Core.Path.{_≡_};
-ghost use Prim.Native.Nat.{_-_, _<_, _^_, min};
+ghost use Prim.Native.Nat.{_+_, _-_, _/_, _<_, _^_, min};
 ghost use lib.IntN.{pos};
 ghost use Rattle.run_theory.specs.Generator.{startFrom};
 ghost use Rattle.run_theory.specs.PlainRun.{kindOf};
@@ -181,7 +181,7 @@ pub fn choose(
     classify(written, total, last.time, start, room, noise, bytes)
 }
 
-// A call so far: what of the state moves, the counts, and how the call came here.
+// A call so far: what of the state moves, the counts, and how the call came here. The reply samples added are counted in two halves.
 pub struct Progress {
     pub written: u64,
     pub time: f64,
@@ -190,6 +190,8 @@ pub struct Progress {
     pub taken: usize,
     pub samples: usize,
     pub records: usize,
+    pub added_high: u64,
+    pub added_low: u64,
     pub last: LastStep,
 }
 
@@ -204,6 +206,7 @@ pub enum LastStep {
 fn after_samples(t: Progress, n: usize, latest: f64) -> Progress
     ensures { λ r. ⌜ r ≡ progressAfterSamples t n latest ⌝ }
 {
+    let added = t.added_low;
     Progress {
         written: std::num::wrapping_add_u64(t.written, n as u64),
         time: t.time,
@@ -212,6 +215,8 @@ fn after_samples(t: Progress, n: usize, latest: f64) -> Progress
         taken: t.taken,
         samples: std::num::wrapping_add_usize(t.samples, n),
         records: t.records,
+        added_high: t.added_high,
+        added_low: added,
         last: LastStep::SamplesWritten,
     }
 }
@@ -225,9 +230,19 @@ fn later(a: f64, b: f64) -> f64
     a
 }
 
-// The progress after a draw was taken at its time, with n records more.
-fn after_draw(t: Progress, time: f64, ended: bool, lines: usize) -> Progress
-    ensures { λ r. ⌜ r ≡ progressAfterDraw t time ended lines ⌝ }
+// What goes into the high half when a count is added to the low half.
+fn carry(low: u64, count: u16) -> u64
+    ensures { λ r. ⌜ r ≡ (low + count) / 2 ^ 64 ⌝ }
+{
+    if std::num::wrapping_add_u64(low, count as u64) < low {
+        return 1;
+    }
+    0
+}
+
+// The progress after a draw was taken at its time, with n records more and the samples that its reply added to.
+fn after_draw(t: Progress, time: f64, ended: bool, lines: usize, count: u16) -> Progress
+    ensures { λ r. ⌜ r ≡ progressAfterDraw t time ended lines count ⌝ }
 {
     Progress {
         written: t.written,
@@ -237,6 +252,8 @@ fn after_draw(t: Progress, time: f64, ended: bool, lines: usize) -> Progress
         taken: std::num::wrapping_add_usize(t.taken, 1),
         samples: t.samples,
         records: std::num::wrapping_add_usize(t.records, lines),
+        added_high: std::num::wrapping_add_u64(t.added_high, carry(t.added_low, count)),
+        added_low: std::num::wrapping_add_u64(t.added_low, count as u64),
         last: LastStep::DrawTaken,
     }
 }
@@ -252,20 +269,22 @@ fn after_stop(t: Progress, w: Stop) -> Progress
         taken: t.taken,
         samples: t.samples,
         records: t.records,
+        added_high: t.added_high,
+        added_low: t.added_low,
         last: LastStep::StopReached(w),
     }
 }
 
-// The progress after a plan was carried out.
-pub fn after_step(t: Progress, p: Plan) -> Progress
-    ensures { λ r. ⌜ r ≡ progressAfterStep t p ⌝ }
+// The progress after a plan was carried out, given the count of the reply that it added.
+pub fn after_step(t: Progress, p: Plan, count: u16) -> Progress
+    ensures { λ r. ⌜ r ≡ progressAfterStep t p count ⌝ }
 {
     match p {
         Plan::Halt(w) => after_stop(t, w),
         Plan::Drain(n) => after_samples(t, n, t.latest),
         Plan::Due(n, time) => after_samples(t, n, later(t.latest, time)),
-        Plan::Skip(time) => after_draw(t, time, t.ended, 0),
-        Plan::End(time) => after_draw(t, time, true, 0),
-        Plan::Add(time, _) => after_draw(t, time, t.ended, 1),
+        Plan::Skip(time) => after_draw(t, time, t.ended, 0, 0),
+        Plan::End(time) => after_draw(t, time, true, 0, 0),
+        Plan::Add(time, _) => after_draw(t, time, t.ended, 1, count),
     }
 }

@@ -1,5 +1,5 @@
 -- Demand 3 (SPECIFICATION 2.3) on the contracts of opening and of run calls: `opened-runs`, at the end of this file, is a term of the claim `OpenedRuns`.
-use Prim.Native.Nat.{ℕ, zero, suc, _*_}
+use Prim.Native.Nat.{ℕ, zero, suc, _+_, _*_}
 use mathlib.Core.Bool.{Bool, true, false, _||_}
 use mathlib.Core.List.{List, [], _∷_, _++_, map}
 use mathlib.Core.Logic.{_⊎_, inl, inr}
@@ -10,9 +10,10 @@ use lib.ListN.{length, length-replicate, take}
 use lib.Ieee.{Float, nan}
 use Rattle.constants.specs.Rate.{four}
 use Rattle.run_theory.specs.FloatGenerator.{nought}
+use Rattle.run_theory.specs.Added.{highHalf, lowHalf, wholeOf}
 use Rattle.run_theory.specs.Each.{Each}
 use Rattle.run_theory.specs.Generator.{Generator}
-use Rattle.run_theory.specs.PlainRun.{timeOf, ended, replies}
+use Rattle.run_theory.specs.PlainRun.{timeOf, ended, replies, plainAdded}
 use Rattle.run_theory.specs.PlainBench as Bench
 use Rattle.run_theory.specs.Demand3.{Prefix, plainOutput, plainLines, Reach}
 use Rattle.run_call_model.specs.Machine as Machine
@@ -39,8 +40,9 @@ use Rattle.run_open_checks.specs.declared.Opened as Opened
 use Rattle.run_open_checks.specs.Opening as Opening
 use Rattle.run_open_checks.proofs.WhatIsOpened.{opened-run-in-range, opened-first}
 use Rattle.run_theorem.specs.Seen.{stopped, refused, answerSeen, seenLeft, countsOf, answerOf, seenResult}
-use Rattle.run_theorem.specs.OpenedRuns.{Run, Opens, calls, gen, benchCalls, bench, allSamples, allRecords, allUsed, allTaken, samplesWritten, recordsWritten, noiseUsed, drawsTaken, ReachesDone, lastState, stateAfter, Finite53, Demand3, OpenedRuns}
+use Rattle.run_theorem.specs.OpenedRuns.{Run, Opens, calls, gen, benchCalls, bench, allSamples, allRecords, allUsed, allTaken, samplesWritten, recordsWritten, noiseUsed, drawsTaken, totalAdded, CountsAdded, ReachesDone, lastState, stateAfter, Finite53, Demand3, OpenedRuns}
 use Rattle.run_theorem.proofs.FiniteSamples.{opened-finite}
+use Rattle.run_theorem.proofs.CountsAdded.{whole-back, counts-added}
 use Rattle.run_theorem.proofs.SameNumbers.{same-numbers, same-stops}
 use Rattle.run_theorem.proofs.SameRun.{same-run}
 
@@ -72,7 +74,7 @@ module _ (r : Run) where
   seen-given : (a : Bench.Answer) (z : Machine.State G nan) (output : List Float) (records : List ℕ) → seenLeft (leftGiven s pS pAC (record { answer = a; output = output; records = records }) z) ≡ seenResult s pS pAC (record { answer = a; output = output; records = records })
   unfolding seenLeft seenResult leftGiven ranGiven answerSeen countsOf answerOf
   seen-given (Bench.refused q) z output records = λ i. record { counts = countsOf (Bench.refused q); answer = refused (same-numbers q i); output = output; records = records }
-  seen-given (Bench.ran taken samples noise lines stop) z output records = λ i. record { counts = countsOf (Bench.ran taken samples noise lines stop); answer = stopped (same-stops stop i); output = output; records = records }
+  seen-given (Bench.ran taken samples noise lines added stop) z output records = λ i. record { counts = countsOf (Bench.ran taken samples noise lines added stop); answer = stopped (same-stops stop i); output = output; records = records }
 
   seen-all : (cs : List CallBuffers) (z : Machine.State G nan) → map seenLeft (runsGiven s pS pAC z cs) ≡ map (seenResult s pS pAC) (Machine.machineResults G nan z (benchCalls r cs))
   unfolding runsGiven
@@ -84,21 +86,33 @@ module _ (r : Run) where
 
   -- each counts what its answer does, and is Done where it is
   abbrev countsIn : Bench.Answer → Counts
-  countsIn a = record { taken = Theory.drawsTaken a; samples = Theory.samplesWritten a; noise = Theory.noiseUsed a; records = Theory.recordsWritten a }
+  countsIn a = record { taken = Theory.drawsTaken a; samples = Theory.samplesWritten a; noise = Theory.noiseUsed a; records = Theory.recordsWritten a; «added_high» = highHalf (Theory.samplesAdded a); «added_low» = lowHalf (Theory.samplesAdded a) }
 
   counts-given : (a : Bench.Answer) (z : Machine.State G nan) → ranGiven s pS pAC a z .counts ≡ countsIn a
   unfolding ranGiven
   counts-given (Bench.refused q) z = refl
-  counts-given (Bench.ran taken samples noise lines stop) z = refl
+  counts-given (Bench.ran taken samples noise lines added stop) z = refl
+
+  added-given : (a : Bench.Answer) (z : Machine.State G nan) → wholeOf (ranGiven s pS pAC a z .counts .«added_high») (ranGiven s pS pAC a z .counts .«added_low») ≡ Theory.samplesAdded a
+  added-given a z = ap (λ (n : Counts). wholeOf (n .«added_high») (n .«added_low»)) (counts-given a z) ∙ whole-back (Theory.samplesAdded a)
+
+  -- each adds what its records count
+  adds-given : (x : Bench.Result G) (z : Machine.State G nan) → Theory.Adds G x → CountsAdded (leftGiven s pS pAC x z)
+  unfolding leftGiven
+  adds-given x z a =
+      counts-added r (a .new) (leftGiven s pS pAC x z) (a .recorded)
+      (ap (λ (n : Counts). n .records) (counts-given (x .answer) z) ∙ sym (a .many))
+      (ap (λ (n : ℕ). take (66 * n) (x .records)) (a .many) ∙ a .lines)
+      (added-given (x .answer) z ∙ a .added)
 
   done-given : (a : Bench.Answer) (z : Machine.State G nan) → ranGiven s pS pAC a z .answer ≡ Answer.the-variants.Stopped Stop.the-variants.Done → Theory.doneIn a ≡ true
   unfolding ranGiven stopGiven
   done-given (Bench.refused q) z e = let n : _≡_ {A = ℕ} 0 1 = cc in absurd (omega arith)
-  done-given (Bench.ran taken samples noise lines Bench.done) z e = refl
-  done-given (Bench.ran taken samples noise lines Bench.outputFull) z e = let n : _≡_ {A = ℕ} 0 1 = cc in absurd (omega arith)
-  done-given (Bench.ran taken samples noise lines Bench.wantsNoise) z e = let n : _≡_ {A = ℕ} 0 1 = cc in absurd (omega arith)
-  done-given (Bench.ran taken samples noise lines Bench.wantsDraws) z e = let n : _≡_ {A = ℕ} 0 1 = cc in absurd (omega arith)
-  done-given (Bench.ran taken samples noise lines Bench.recordsFull) z e = let n : _≡_ {A = ℕ} 0 1 = cc in absurd (omega arith)
+  done-given (Bench.ran taken samples noise lines added Bench.done) z e = refl
+  done-given (Bench.ran taken samples noise lines added Bench.outputFull) z e = let n : _≡_ {A = ℕ} 0 1 = cc in absurd (omega arith)
+  done-given (Bench.ran taken samples noise lines added Bench.wantsNoise) z e = let n : _≡_ {A = ℕ} 0 1 = cc in absurd (omega arith)
+  done-given (Bench.ran taken samples noise lines added Bench.wantsDraws) z e = let n : _≡_ {A = ℕ} 0 1 = cc in absurd (omega arith)
+  done-given (Bench.ran taken samples noise lines added Bench.recordsFull) z e = let n : _≡_ {A = ℕ} 0 1 = cc in absurd (omega arith)
 
   -- what a list of calls wrote, used and took is what its results did
   record Alike (cs : List CallBuffers) (ls : List Left) (xs : List (Bench.Result G)) : Type 0 where
@@ -106,6 +120,8 @@ module _ (r : Run) where
     records : allRecords ls ≡ Theory.allRecords G xs
     used : allUsed cs ls ≡ Theory.allUsed G (benchCalls r cs) xs
     taken : allTaken r cs ls ≡ Theory.allTaken G (benchCalls r cs) xs
+    added : totalAdded ls ≡ Theory.allAdded G xs
+    adds : Each (Theory.Adds G) xs → Each CountsAdded ls
     done : ReachesDone ls → Theory.reachesDone G xs ≡ true
 
   either : (b c : Bool) → c ≡ true → b || c ≡ true
@@ -114,7 +130,7 @@ module _ (r : Run) where
 
   alike-all : (cs : List CallBuffers) (z : Machine.State G nan) → Alike cs (runsGiven s pS pAC z cs) (Machine.machineResults G nan z (benchCalls r cs))
   unfolding runsGiven leftGiven
-  alike-all [] z = record { samples = refl; records = refl; used = refl; taken = refl; done = λ d. absurd d }
+  alike-all [] z = record { samples = refl; records = refl; used = refl; taken = refl; added = refl; adds = λ h. tt; done = λ d. absurd d }
   alike-all (c ∷ cs) z =
       let t = Machine.machineRun G nan z (callOf s pS pAC c) in
       let x = Bench.resultOf G (callOf s pS pAC c) (t .0) in
@@ -125,6 +141,8 @@ module _ (r : Run) where
         records = λ i. take (66 * n i .records) (x .records) ++ more .records i;
         used = λ i. take (n i .noise) (c .noise) ++ more .used i;
         taken = λ i. take (n i .taken) (Bench.drawsOf G (c .draws)) ++ more .taken i;
+        added = λ i. added-given (x .answer) (t .1) i + more .added i;
+        adds = λ h. (adds-given x (t .1) (h .0), more .adds (h .1));
         done = λ d. by-done c z (Machine.machineResults G nan (t .1) (benchCalls r cs)) (runsGiven s pS pAC (t .1) cs) (more .done) d;
       }
     where
@@ -190,6 +208,9 @@ module _ (tapsS tapsAC : List Float) (settings : List ℕ) (given : Opening.Open
   records-are : (cs : List CallBuffers) → recordsWritten run cs ≡ plainLines (gen run) (drawsTaken run cs)
   records-are cs = as-shown cs .records ∙ shown .records (benchCalls run cs) ∙ (λ i. plainLines (gen run) (sym (taken-is cs) i))
 
+  total-is : (cs : List CallBuffers) → totalAdded (calls run cs) ≡ plainAdded (gen run) (drawsTaken run cs)
+  total-is cs = as-shown cs .added ∙ shown .added (benchCalls run cs) ∙ ap (plainAdded (gen run)) (sym (taken-is cs))
+
   state-is : (cs : List CallBuffers) → lastState s (calls run cs) ≡ stateAfter run (bench run cs)
   unfolding memory
   state-is cs =
@@ -227,6 +248,13 @@ module _ (tapsS tapsAC : List Float) (settings : List ℕ) (given : Opening.Open
         let w = shown .whole (benchCalls run cs) (as-shown cs .done d) in
         (ap (λ (l : List RepresentableDraw). ended (gen run) (gen run .t0) l) (taken-is cs) ∙ w .0, ap length (as-shown cs .samples) ∙ w .1);
     reach = λ cs. subst (λ (l : List RepresentableDraw). Each (Reach (gen run)) (replies (gen run) (gen run .t0) l)) (sym (taken-is cs)) (shown .reach (benchCalls run cs));
+    adds = λ cs. as-shown cs .adds (shown .adds (benchCalls run cs));
+    total = total-is;
+    same-total = λ given′ r′ o′.
+        subst
+        (λ (x : Run). (cs cs′ : List CallBuffers) → ReachesDone (calls run cs) → ReachesDone (calls x cs′) → drawsTaken run cs ≡ drawsTaken x cs′ → totalAdded (calls run cs) ≡ totalAdded (calls x cs′))
+        (same-run tapsS tapsAC settings given given′ run r′ is-opened o′)
+        (λ cs cs′ d d′ et. total-is cs ∙ ap (plainAdded (gen run)) et ∙ sym (total-is cs′));
     finite = λ cs. subst (Each Finite53) (sym (as-shown cs .samples)) (opened-finite tapsS tapsAC settings given s opens (Machine.runs (gen run) nan) shown (benchCalls run cs));
     state = state-is;
     written = λ cs. ap length (as-shown cs .samples) ∙ shown .written (benchCalls run cs) ∙ ap (λ (x : State). 2 * x .written) (sym (state-is cs));

@@ -1,19 +1,21 @@
 -- Demand 3 (SPECIFICATION 2.3), hypothesis and claim in one statement: `OpenedRuns`, at the end of this file. If opening answers a run, then (a) to (e) hold of every list of run calls on it, refused calls among them, with any draws, noise and buffers;
 -- the state that comes back is the plain bench's, and every number written is finite.
-use Prim.Native.Nat.{ℕ, _*_}
+use Prim.Native.Nat.{ℕ, zero, suc, _+_, _*_, _≤_}
 use mathlib.Core.Bool.{true, false}
 use mathlib.Core.List.{List, [], _∷_, _++_, map}
 use mathlib.Core.Logic.{_⊎_}
 use mathlib.Core.Option.{none}
 use mathlib.Core.Path.{_≡_}
 use lib.IntN.{pos}
-use lib.ListN.{length, take}
+use lib.ListN.{length, take, drop}
 use lib.Ieee.{Float, fin}
-use Rattle.constants.specs.Rate.{four}
+use Rattle.constants.specs.Rate.{four, replyLimit}
 use Rattle.float_narrow.specs.Range.{within}
+use Rattle.le_read.specs.LeBytes.{numberAt}
+use Rattle.run_theory.specs.Added.{sumOf, wholeOf}
 use Rattle.run_theory.specs.Each.{Each}
 use Rattle.run_theory.specs.Generator.{Generator}
-use Rattle.run_theory.specs.PlainRun.{timeOf, ended, replies}
+use Rattle.run_theory.specs.PlainRun.{timeOf, ended, replies, plainAdded}
 use Rattle.run_theory.specs.PlainBench as Bench
 use Rattle.run_theory.specs.Demand3.{Prefix, plainOutput, plainLines, Reach}
 use Rattle.run_generator.specs.Instance.{RepresentableDraw}
@@ -88,6 +90,31 @@ noiseUsed r cs = allUsed cs (calls r cs)
 abbrev pub drawsTaken : Run → List CallBuffers → List RepresentableDraw
 drawsTaken r cs = allTaken r cs (calls r cs)
 
+-- ---- reply samples added to working memory
+-- of an answer, as one number
+abbrev pub samplesAdded : Left → ℕ
+samplesAdded l = wholeOf (l .ran .counts .«added_high») (l .ran .counts .«added_low»)
+
+-- of a list of answers: a whole number, not a pair
+abbrev pub totalAdded : List Left → ℕ
+totalAdded [] = 0
+totalAdded (l ∷ ls) = samplesAdded l + totalAdded ls
+
+-- the counts of the first n records in bytes: offset 49 of each (SPECIFICATION 4.5)
+abbrev pub recordCounts : ℕ → List ℕ → List ℕ
+recordCounts zero bytes = []
+recordCounts (suc n) bytes = numberAt 2 bytes 49 ∷ recordCounts n (drop 66 bytes)
+
+-- in the records that a call wrote
+abbrev pub countsWritten : Left → List ℕ
+countsWritten l = recordCounts (l .ran .counts .records) (l .records)
+
+-- The number is the sum of the counts in the records that the call wrote, each of which is at most the reply limit.
+pub record CountsAdded (l : Left) : Type 0 where
+  pub sum : samplesAdded l ≡ sumOf (countsWritten l)
+  pub each : Each (λ n. n ≤ replyLimit four) (countsWritten l)
+  pub most : samplesAdded l ≤ replyLimit four * l .ran .counts .records
+
 -- some call answers Done
 abbrev pub ReachesDone : List Left → Type 0
 ReachesDone [] = ⊥
@@ -141,6 +168,12 @@ pub record Demand3 (tapsS tapsAC : List Float) (settings : List ℕ) (r : Run) :
   pub whole : (cs : List CallBuffers) → ReachesDone (calls r cs) → (ended (gen r) (gen r .t0) (drawsTaken r cs) ≡ true) × (length (samplesWritten r cs) ≡ 2 * r .state .total)
   -- (e) No reply adds before its first sample, nor to more than 1,094.
   pub reach : (cs : List CallBuffers) → Each (Reach (gen r)) (replies (gen r) (gen r .t0) (drawsTaken r cs))
+  -- Reply samples added (SPECIFICATION 9.5): of each call, those of the replies whose records it wrote; in all, those of the plain run. So a run's total is the same however it was cut.
+  pub adds : (cs : List CallBuffers) → Each CountsAdded (calls r cs)
+  pub total : (cs : List CallBuffers) → totalAdded (calls r cs) ≡ plainAdded (gen r) (drawsTaken r cs)
+  pub same-total :
+      (given′ : Opening.OpenBuffers) (r′ : Run) → Opens tapsS tapsAC settings given′ r′ → (cs cs′ : List CallBuffers) → ReachesDone (calls r cs) → ReachesDone (calls r′ cs′)
+      → drawsTaken r cs ≡ drawsTaken r′ cs′ → totalAdded (calls r cs) ≡ totalAdded (calls r′ cs′)
   -- Every number written is finite, and at most 2^53 in size.
   pub finite : (cs : List CallBuffers) → Each Finite53 (samplesWritten r cs)
   -- The state that comes back is the plain bench's: `written` counts the samples written so far, two numbers each.

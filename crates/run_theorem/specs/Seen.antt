@@ -2,6 +2,7 @@
 use Prim.Native.Nat.{ℕ}
 use mathlib.Core.List.{List, _∷_}
 use lib.Ieee.{Float}
+use Rattle.run_theory.specs.Added.{highHalf, lowHalf}
 use Rattle.run_theory.specs.PlainBench as Bench
 use Rattle.refusals.specs.Number.{numberOf, valuesOf}
 use Rattle.run_call.specs.declared.State.{State}
@@ -30,14 +31,15 @@ answerSeen (Answer.the-variants.Refused q) = refused (numberOf q ∷ valuesOf q)
 unfoldable pub seenLeft : Left → Seen
 seenLeft l = record { counts = l .ran .counts; answer = answerSeen (l .ran .answer); output = l .output; records = l .records }
 
--- of the plain bench's result: a refused call counts nothing
+-- of the plain bench's result: a refused call counts nothing, and the number of reply samples added is given as its two halves
 unfoldable pub countsOf : Bench.Answer → Counts
-countsOf (Bench.refused q) = record { taken = 0; samples = 0; noise = 0; records = 0 }
-countsOf (Bench.ran taken samples noise records stop) = record { taken = taken; samples = samples; noise = noise; records = records }
+countsOf (Bench.refused q) = record { taken = 0; samples = 0; noise = 0; records = 0; «added_high» = 0; «added_low» = 0 }
+countsOf (Bench.ran taken samples noise records added stop) =
+    record { taken = taken; samples = samples; noise = noise; records = records; «added_high» = highHalf added; «added_low» = lowHalf added }
 
 unfoldable pub answerOf : Bench.Answer → Numbered
 answerOf (Bench.refused q) = refused (Bench.numbers q)
-answerOf (Bench.ran taken samples noise records stop) = stopped (Bench.stopNumber stop)
+answerOf (Bench.ran taken samples noise records added stop) = stopped (Bench.stopNumber stop)
 
 module _ (s : State) (modeS modeAC : List Float) where
   unfoldable pub seenResult : Bench.Result (genOf s modeS modeAC) → Seen

@@ -1,14 +1,15 @@
 -- Demand 3 (SPECIFICATION 2.3) in terms of any generator: what is shown here of every list of calls, as a record `Demand3`. What callers are promised is `OpenedRuns` of `run_theorem`, over the calls of the code.
 use mathlib.Core.Bool.{Bool, true, false, _||_}
-use mathlib.Core.List.{List, [], _∷_, _++_}
+use mathlib.Core.List.{List, [], _∷_, _++_, map}
 use mathlib.Core.Option.{none}
 use mathlib.Core.Path.{_≡_}
-use Prim.Native.Nat.{ℕ, _*_}
+use Prim.Native.Nat.{ℕ, _+_, _*_, _≤_}
 use lib.ListN.{length, take}
 use Rattle.run_theory.specs.Each.{Each}
+use Rattle.run_theory.specs.Added.{sumOf}
 use Rattle.run_theory.specs.Generator.{Generator}
-use Rattle.run_theory.specs.PlainRun.{timeOf, ended, replies}
-use Rattle.run_theory.specs.PlainBench.{Stop, done, outputFull, wantsNoise, wantsDraws, recordsFull, Answer, refused, ran, pairs, flatten, Call, Result, drawsOf, drawRefusal, bench0, benchResults}
+use Rattle.run_theory.specs.PlainRun.{Reply, timeOf, ended, replies, plainAdded}
+use Rattle.run_theory.specs.PlainBench.{Stop, done, outputFull, wantsNoise, wantsDraws, recordsFull, Answer, refused, ran, pairs, flatten, join, Call, Result, drawsOf, drawRefusal, bench0, benchResults}
 use Rattle.run_theory.specs.Demand3.{Prefix, bench, plainOutput, plainLines, Reach}
 
 abbrev pub isDone : Stop → Bool
@@ -20,27 +21,31 @@ isDone recordsFull = false
 
 abbrev pub doneIn : Answer → Bool
 doneIn (refused r) = false
-doneIn (ran d s n r stop) = isDone stop
+doneIn (ran d s n r a stop) = isDone stop
 
--- the counts of an answer: draws taken, samples written, noise values used, records written
+-- the counts of an answer: draws taken, samples written, noise values used, records written, reply samples added
 abbrev pub drawsTaken : Answer → ℕ
 drawsTaken (refused r) = 0
-drawsTaken (ran d s n r stop) = d
+drawsTaken (ran d s n r a stop) = d
 
 abbrev pub samplesWritten : Answer → ℕ
 samplesWritten (refused r) = 0
-samplesWritten (ran d s n r stop) = s
+samplesWritten (ran d s n r a stop) = s
 
 abbrev pub noiseUsed : Answer → ℕ
 noiseUsed (refused r) = 0
-noiseUsed (ran d s n r stop) = n
+noiseUsed (ran d s n r a stop) = n
 
 abbrev pub recordsWritten : Answer → ℕ
 recordsWritten (refused r) = 0
-recordsWritten (ran d s n r stop) = r
+recordsWritten (ran d s n r a stop) = r
+
+abbrev pub samplesAdded : Answer → ℕ
+samplesAdded (refused r) = 0
+samplesAdded (ran d s n r a stop) = a
 
 module _ (G : Generator) where
-  open Generator G using (Value, Byte, Draw, t0, recordBytes, total)
+  open Generator G using (Value, Byte, Draw, Time, t0, entry, recordBytes, limit, total)
 
   -- all samples written, joined in order: of each output, what the answer counts
   abbrev pub allSamples : List (Result G) → List Value
@@ -50,6 +55,26 @@ module _ (G : Generator) where
   abbrev pub allRecords : List (Result G) → List Byte
   allRecords [] = []
   allRecords (r ∷ rs) = take (recordBytes * recordsWritten (r .answer)) (r .records) ++ allRecords rs
+
+  -- all reply samples added
+  abbrev pub allAdded : List (Result G) → ℕ
+  allAdded [] = 0
+  allAdded (r ∷ rs) = samplesAdded (r .answer) + allAdded rs
+
+  -- a reply whose record has its count, which is at most `limit`
+  pub record Recorded (r : Reply G) : Type 0 where
+    pub time : Time
+    pub draw : Draw
+    pub line : r .line ≡ entry time draw (r .first) (length (r .values))
+    pub few : length (r .values) ≤ limit
+
+  -- what a call adds: the samples of the replies whose records it wrote
+  pub record Adds (r : Result G) : Type 0 where
+    pub new : List (Reply G)
+    pub many : length new ≡ recordsWritten (r .answer)
+    pub lines : take (recordBytes * recordsWritten (r .answer)) (r .records) ≡ join (map (λ x. x .line) new)
+    pub added : samplesAdded (r .answer) ≡ sumOf (map (λ x. length (x .values)) new)
+    pub recorded : Each Recorded new
 
   -- some call answered Done
   abbrev pub reachesDone : List (Result G) → Bool
@@ -81,3 +106,5 @@ module _ (G : Generator) where
     pub written : (cs : List (Call G)) → length (allSamples (run cs)) ≡ 2 * length (bench G cs .used)
     pub whole : (cs : List (Call G)) → reachesDone (run cs) ≡ true → (ended G t0 (bench G cs .taken) ≡ true) × (length (allSamples (run cs)) ≡ 2 * total)
     pub reach : (cs : List (Call G)) → Each (Reach G) (replies G t0 (bench G cs .taken))
+    pub adds : (cs : List (Call G)) → Each Adds (run cs)
+    pub added : (cs : List (Call G)) → allAdded (run cs) ≡ plainAdded G (bench G cs .taken)

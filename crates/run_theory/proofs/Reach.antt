@@ -11,6 +11,7 @@ use Rattle.run_theory.specs.Laws.{Laws, InRange, AllInRange}
 use Rattle.run_theory.specs.Demand3.{Reach}
 use Rattle.run_theory.proofs.PlainFacts.{hit-before, hit-behind}
 use Rattle.run_theory.proofs.Reached.{good-on}
+use Rattle.run_theory.proofs.ListClaim.{Recorded}
 
 module _ (G : Generator) (L : Laws G) where
   open Generator G using (Draw, Time, after, adds, limit)
@@ -29,6 +30,10 @@ module _ (G : Generator) (L : Laws G) where
       go ignored e ih = ih
       go ends e ih = none
       go (reply s) e ih = more (after t d) d s good (h .0) e (replies G (after t d) ds) ih
+
+  -- each has its count in its record
+  pub all-recorded : (t : Time) (ds : List Draw) → L .Good t → AllInRange G ds → Each (Recorded G) (replies G t ds)
+  all-recorded = all-replies (Each (Recorded G)) tt (λ t d s g h e rs ih. (record { time = t; draw = d; line = refl; few = L .short t d s g h e }, ih))
 
   pub all-reach : (t : Time) (ds : List Draw) → L .Good t → AllInRange G ds → Each (Reach G) (replies G t ds)
   all-reach = all-replies (Each (Reach G)) tt (λ t d s g h e rs ih. (reach t d s (L .short t d s g h e), ih))

@@ -8,7 +8,7 @@ use native.Mathlib.Omega.{arith}
 use lib.ListN.{length, length-append}
 use lib.Seq.{take-all}
 use Rattle.run_theory.specs.Generator.{Generator, Sample, NoisePair, silence, noisy}
-use Rattle.run_theory.specs.PlainRun.{Kind, ignored, ends, reply, Reply, kind, timeOf, endsBy, ended, replyOf, push, replies, hit, sumFrom, sumAt, samplesFrom, plainSamples, plainRecords}
+use Rattle.run_theory.specs.PlainRun.{Kind, ignored, ends, reply, Reply, kind, timeOf, endsBy, ended, replyOf, push, replies, hit, sumFrom, sumAt, samplesFrom, plainSamples, plainRecords, plainCounts}
 use Rattle.run_theory.specs.PlainBench.{Remaining, jumpsBack, latest, Bench, bench0}
 use Rattle.run_theory.specs.Laws.{Laws, NotAfter, InRange, GapInRange, AllInRange, NoJump, Accepted}
 use Rattle.run_theory.proofs.PlainFacts.{length-snoc, time-append, ended-append, replies-still, replies-append, sum-append, hit-before, hit-behind, samplesFrom-append, samplesFrom-same}
@@ -231,6 +231,11 @@ module _ (G : Generator) (L : Laws G) where
     take-records =
         ap (λ (rs : List (Reply G)). map (λ r. r .line) rs) take-replies
         ∙ map-append (λ r. r .line) (replies G t0 (b .taken)) (push G k (after (timeOf G t0 (b .taken)) d) d [])
+
+    pub take-counts : plainCounts G (b .taken ++ (d ∷ [])) ≡ plainCounts G (b .taken) ++ map (λ r. length (r .values)) (push G k (after (timeOf G t0 (b .taken)) d) d [])
+    take-counts =
+        ap (λ (rs : List (Reply G)). map (λ r. length (r .values)) rs) take-replies
+        ∙ map-append (λ r. length (r .values)) (replies G t0 (b .taken)) (push G k (after (timeOf G t0 (b .taken)) d) d [])
 
     -- a reply that is taken starts at or after the samples written
     pub take-ahead : (x : ℕ) → k ≡ reply x → length (b .used) ≤ x

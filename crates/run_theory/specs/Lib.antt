@@ -1,6 +1,7 @@
 pub mod Zeros
 pub mod Each
 pub mod Generator
+pub mod Added
 pub mod PlainRun
 pub mod PlainBench
 pub mod Laws

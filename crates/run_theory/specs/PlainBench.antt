@@ -6,7 +6,8 @@ use Prim.Native.Nat.{ℕ, zero, suc, _+_, _-_, _*_, _/_, _%_}
 use lib.Dec.{eqb, leb, ltb}
 use lib.ListN.{length, drop}
 use Rattle.run_theory.specs.Generator.{Generator, Pair, Sample, NoisePair}
-use Rattle.run_theory.specs.PlainRun.{Kind, ignored, ends, reply, kind, timeOf, ended, plainSamples, plainRecords}
+use Rattle.run_theory.specs.PlainRun.{Kind, ignored, ends, reply, kind, timeOf, ended, plainSamples, plainRecords, plainCounts}
+use Rattle.run_theory.specs.Added.{sumOf}
 
 pub data Stop : Type 0 where
   done outputFull wantsNoise wantsDraws recordsFull : Stop
@@ -31,10 +32,10 @@ numbers wrongLength = 9 ∷ []
 numbers (wrongDraw d f) = 7 ∷ d ∷ f ∷ []
 numbers (wrongNoise p) = 8 ∷ p ∷ []
 
--- draws taken, samples written, noise values used, records written, and one stop
+-- draws taken, samples written, noise values used, records written, reply samples added to working memory, and one stop
 pub data Answer : Type 0 where
   refused : Refusal → Answer
-  ran : ℕ → ℕ → ℕ → ℕ → Stop → Answer
+  ran : ℕ → ℕ → ℕ → ℕ → ℕ → Stop → Answer
 
 -- ---- flat lists, as callers pass them
 -- numbers two by two; a last one with no partner is left over
@@ -219,8 +220,8 @@ module _ (G : Generator) where
   abbrev pub fuel : Remaining → ℕ
   fuel l = suc (length (l .draws) + l .room)
 
-  abbrev pub counts : Remaining → Remaining → Stop → Answer
-  counts l l′ s = ran (length (l .draws) - length (l′ .draws)) (l .room - l′ .room) (2 * (length (l .noise) - length (l′ .noise))) (l .slots - l′ .slots) s
+  abbrev pub counts : Remaining → Remaining → ℕ → Stop → Answer
+  counts l l′ added s = ran (length (l .draws) - length (l′ .draws)) (l .room - l′ .room) (2 * (length (l .noise) - length (l′ .noise))) (l .slots - l′ .slots) added s
 
   -- what a call gives: its answer, and the samples and records that it writes
   pub record Given : Type 0 where
@@ -228,10 +229,10 @@ module _ (G : Generator) where
     pub samples : List (Sample G)
     pub records : List (List Byte)
 
-  -- the plain run's new samples and records
+  -- the plain run's new samples and records, and the sum of its new counts: a reply's whole count belongs to the call that takes its draw and writes its record
   abbrev pub benchGiven : Bench → Remaining → Benched → Given
   benchGiven b l r = record {
-    answer = counts l (r .rest) (r .stop);
+    answer = counts l (r .rest) (sumOf (drop (length (plainCounts G (b .taken))) (plainCounts G (r .bench .taken)))) (r .stop);
     samples = drop (length (plainSamples G (b .taken) (b .used))) (plainSamples G (r .bench .taken) (r .bench .used));
     records = drop (length (plainRecords G (b .taken))) (plainRecords G (r .bench .taken));
   }

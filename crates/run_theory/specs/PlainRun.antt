@@ -4,6 +4,7 @@ use mathlib.Core.List.{List, [], _∷_, map}
 use Prim.Native.Nat.{ℕ, zero, suc, _+_, _-_}
 use lib.Dec.{leb}
 use lib.ListN.{length, take}
+use Rattle.run_theory.specs.Added.{sumOf}
 use Rattle.run_theory.specs.Generator.{Generator, Start, negative, from, Sample, NoisePair, silence, add, noisy}
 
 -- what step 4 makes of a draw: it is taken and ignored, it ends the run, or it is a reply that starts at a sample
@@ -89,3 +90,11 @@ module _ (G : Generator) where
   -- Records of the plain run, in tape order.
   abbrev pub plainRecords : List Draw → List (List Byte)
   plainRecords ds = map (λ r. r .line) (replies t0 ds)
+
+  -- Counts of the plain run's replies, in tape order: the number of samples that each adds to, as its record says.
+  abbrev pub plainCounts : List Draw → List ℕ
+  plainCounts ds = map (λ r. length (r .values)) (replies t0 ds)
+
+  -- Reply samples added, in all.
+  abbrev pub plainAdded : List Draw → ℕ
+  plainAdded ds = sumOf (plainCounts ds)

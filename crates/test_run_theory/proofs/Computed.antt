@@ -3,10 +3,11 @@
 use mathlib.Core.List.{List, [], _∷_}
 use mathlib.Core.Path.{_≡_, refl}
 use Prim.Native.Nat.{ℕ}
+use Rattle.run_theory.specs.PlainRun.{plainAdded}
 use Rattle.run_theory.specs.PlainBench.{Call, Result, refused, ran, wrongLength, wrongDraw, wrongNoise, done, outputFull, wantsNoise, wantsDraws, recordsFull, bench0, benchResults}
 use Rattle.run_theory.specs.Demand3.{bench, plainOutput, plainLines}
 use Rattle.run_call_model.specs.Machine.{runs}
-use Rattle.run_theory.proofs.ListClaim.{allSamples, allRecords}
+use Rattle.run_theory.proofs.ListClaim.{allSamples, allRecords, allAdded}
 use Rattle.test_run_theory.specs.Small.{smallOf, small}
 
 abbrev pub calls : List (Call small)
@@ -31,15 +32,15 @@ calls =
 
 abbrev pub results : List (Result small)
 results =
-    record { answer = ran 2 1 2 1 recordsFull; output = (1 ∷ []) ∷ (2 ∷ []) ∷ (99 ∷ []) ∷ (99 ∷ []) ∷ []; records = 2 ∷ 1 ∷ 3 ∷ 7 ∷ [] }
+    record { answer = ran 2 1 2 1 3 recordsFull; output = (1 ∷ []) ∷ (2 ∷ []) ∷ (99 ∷ []) ∷ (99 ∷ []) ∷ []; records = 2 ∷ 1 ∷ 3 ∷ 7 ∷ [] }
     ∷ record { answer = refused (wrongDraw 1 1); output = (99 ∷ []) ∷ (99 ∷ []) ∷ (99 ∷ []) ∷ (99 ∷ []) ∷ []; records = 7 ∷ 7 ∷ 7 ∷ [] }
     ∷ record { answer = refused (wrongNoise 1); output = (99 ∷ []) ∷ (99 ∷ []) ∷ (99 ∷ []) ∷ (99 ∷ []) ∷ []; records = 7 ∷ 7 ∷ 7 ∷ [] }
     ∷ record { answer = refused wrongLength; output = (99 ∷ []) ∷ (99 ∷ []) ∷ (99 ∷ []) ∷ (99 ∷ []) ∷ []; records = 7 ∷ 7 ∷ 7 ∷ [] }
-    ∷ record { answer = ran 1 1 2 1 wantsNoise; output = (10 ∷ 1 ∷ []) ∷ (2 ∷ []) ∷ (99 ∷ []) ∷ (99 ∷ []) ∷ []; records = 3 ∷ 3 ∷ 3 ∷ 7 ∷ 7 ∷ [] }
-    ∷ record { answer = ran 0 2 4 0 outputFull; output = (11 ∷ 3 ∷ []) ∷ (4 ∷ []) ∷ (12 ∷ 20 ∷ 5 ∷ []) ∷ (10 ∷ 6 ∷ []) ∷ []; records = 7 ∷ 7 ∷ 7 ∷ [] }
+    ∷ record { answer = ran 1 1 2 1 3 wantsNoise; output = (10 ∷ 1 ∷ []) ∷ (2 ∷ []) ∷ (99 ∷ []) ∷ (99 ∷ []) ∷ []; records = 3 ∷ 3 ∷ 3 ∷ 7 ∷ 7 ∷ [] }
+    ∷ record { answer = ran 0 2 4 0 0 outputFull; output = (11 ∷ 3 ∷ []) ∷ (4 ∷ []) ∷ (12 ∷ 20 ∷ 5 ∷ []) ∷ (10 ∷ 6 ∷ []) ∷ []; records = 7 ∷ 7 ∷ 7 ∷ [] }
     ∷ record { answer = refused (wrongDraw 0 0); output = (99 ∷ []) ∷ (99 ∷ []) ∷ []; records = 7 ∷ 7 ∷ 7 ∷ [] }
-    ∷ record { answer = ran 2 8 16 1 done; output = (21 ∷ 7 ∷ []) ∷ (8 ∷ []) ∷ (22 ∷ 40 ∷ 9 ∷ []) ∷ (20 ∷ 10 ∷ []) ∷ (41 ∷ 11 ∷ []) ∷ (12 ∷ []) ∷ (42 ∷ 13 ∷ []) ∷ (40 ∷ 14 ∷ []) ∷ (15 ∷ []) ∷ (16 ∷ []) ∷ (17 ∷ []) ∷ (18 ∷ []) ∷ (19 ∷ []) ∷ (20 ∷ []) ∷ (21 ∷ []) ∷ (22 ∷ []) ∷ (99 ∷ []) ∷ (99 ∷ []) ∷ (99 ∷ []) ∷ (99 ∷ []) ∷ (99 ∷ []) ∷ (99 ∷ []) ∷ (99 ∷ []) ∷ (99 ∷ []) ∷ (99 ∷ []) ∷ (99 ∷ []) ∷ (99 ∷ []) ∷ (99 ∷ []) ∷ (99 ∷ []) ∷ (99 ∷ []) ∷ []; records = 7 ∷ 5 ∷ 3 ∷ 7 ∷ 7 ∷ 7 ∷ 7 ∷ 7 ∷ 7 ∷ [] }
-    ∷ record { answer = ran 0 0 0 0 done; output = (99 ∷ []) ∷ (99 ∷ []) ∷ []; records = [] }
+    ∷ record { answer = ran 2 8 16 1 3 done; output = (21 ∷ 7 ∷ []) ∷ (8 ∷ []) ∷ (22 ∷ 40 ∷ 9 ∷ []) ∷ (20 ∷ 10 ∷ []) ∷ (41 ∷ 11 ∷ []) ∷ (12 ∷ []) ∷ (42 ∷ 13 ∷ []) ∷ (40 ∷ 14 ∷ []) ∷ (15 ∷ []) ∷ (16 ∷ []) ∷ (17 ∷ []) ∷ (18 ∷ []) ∷ (19 ∷ []) ∷ (20 ∷ []) ∷ (21 ∷ []) ∷ (22 ∷ []) ∷ (99 ∷ []) ∷ (99 ∷ []) ∷ (99 ∷ []) ∷ (99 ∷ []) ∷ (99 ∷ []) ∷ (99 ∷ []) ∷ (99 ∷ []) ∷ (99 ∷ []) ∷ (99 ∷ []) ∷ (99 ∷ []) ∷ (99 ∷ []) ∷ (99 ∷ []) ∷ (99 ∷ []) ∷ (99 ∷ []) ∷ []; records = 7 ∷ 5 ∷ 3 ∷ 7 ∷ 7 ∷ 7 ∷ 7 ∷ 7 ∷ 7 ∷ [] }
+    ∷ record { answer = ran 0 0 0 0 0 done; output = (99 ∷ []) ∷ (99 ∷ []) ∷ []; records = [] }
     ∷ []
 
 -- the machine gives them
@@ -69,17 +70,24 @@ plain-gives = refl
 pub plain-records : plainLines small (bench small calls .taken) ≡ records
 plain-records = refl
 
+-- reply samples added: three for each of three replies
+pub all-added : allAdded small results ≡ 9
+all-added = refl
+
+pub plain-added : plainAdded small (bench small calls .taken) ≡ 9
+plain-added = refl
+
 -- ---- short runs: a draw at time 1 that starts before sample 0, then one that starts at 1 - 1 = 0
 abbrev pub short : (total : ℕ) → List (Call (smallOf total))
 short total = record { draws = 1 ∷ 2 ∷ 10 ∷ 0 ∷ 1 ∷ 20 ∷ []; noise = (1 ∷ []) ∷ (2 ∷ []) ∷ (3 ∷ []) ∷ (4 ∷ []) ∷ []; output = [] ∷ [] ∷ [] ∷ [] ∷ []; records = 7 ∷ 7 ∷ 7 ∷ [] } ∷ []
 
 -- a run of 0 samples is Done once its end draw is taken
-pub no-samples : runs (smallOf 0) [] (short 0) ≡ record { answer = ran 2 0 0 0 done; output = [] ∷ [] ∷ [] ∷ [] ∷ []; records = 7 ∷ 7 ∷ 7 ∷ [] } ∷ []
+pub no-samples : runs (smallOf 0) [] (short 0) ≡ record { answer = ran 2 0 0 0 0 done; output = [] ∷ [] ∷ [] ∷ [] ∷ []; records = 7 ∷ 7 ∷ 7 ∷ [] } ∷ []
 no-samples = refl
 
 -- a run of as many samples as the limit holds no reply at all; one sample more, and it may hold one at 0
-pub at-limit : runs (smallOf 3) [] (short 3) ≡ record { answer = ran 2 2 4 0 outputFull; output = (1 ∷ []) ∷ (2 ∷ []) ∷ (3 ∷ []) ∷ (4 ∷ []) ∷ []; records = 7 ∷ 7 ∷ 7 ∷ [] } ∷ []
+pub at-limit : runs (smallOf 3) [] (short 3) ≡ record { answer = ran 2 2 4 0 0 outputFull; output = (1 ∷ []) ∷ (2 ∷ []) ∷ (3 ∷ []) ∷ (4 ∷ []) ∷ []; records = 7 ∷ 7 ∷ 7 ∷ [] } ∷ []
 at-limit = refl
 
-pub above-limit : runs (smallOf 4) [] (short 4) ≡ record { answer = ran 2 0 0 1 wantsDraws; output = [] ∷ [] ∷ [] ∷ [] ∷ []; records = 1 ∷ 0 ∷ 3 ∷ [] } ∷ []
+pub above-limit : runs (smallOf 4) [] (short 4) ≡ record { answer = ran 2 0 0 1 3 wantsDraws; output = [] ∷ [] ∷ [] ∷ [] ∷ []; records = 1 ∷ 0 ∷ 3 ∷ [] } ∷ []
 above-limit = refl

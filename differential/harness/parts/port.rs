@@ -73,7 +73,7 @@ impl Port {
         let (taps_s, taps_ac) = (floats(r.take(4 * s)), floats(r.take(4 * ac)));
         let (mut p, refusal, value) = Port::open(settings, &taps_s, &taps_ac, lengths);
         let mut b = Vec::new();
-        put_answer(&mut b, refusal, [value, 0], [0; 5]);
+        put_answer(&mut b, refusal, [value, 0], [0; 7]);
         for list in [&p.mode_s, &p.mode_ac, &p.memory] {
             put_floats(&mut b, list);
         }
@@ -101,20 +101,28 @@ impl Port {
             output: &mut output,
             records: &mut records,
         });
-        let counts = [ran.stop, ran.draws_taken, ran.samples_written, ran.noise_used, ran.records_written];
+        let counts = [
+            ran.stop,
+            ran.draws_taken,
+            ran.samples_written,
+            ran.noise_used,
+            ran.records_written,
+            ran.samples_added_high,
+            ran.samples_added_low,
+        ];
         put_answer(b, ran.refusal, [ran.value, ran.field], counts);
         put_floats(b, &output);
         b.extend(&records);
     }
 }
 
-/// Samples and records of a tape that the rules accept, lent so many samples of noise and output at a time. Where it is to be
+/// Samples and records of a tape that the rules accept, and the reply samples added in all, lent so many samples of noise and output at a time. Where it is to be
 /// stored, the run is stored as bytes after each call, and the next call is made on the run that those bytes give. Where
 /// nothing goes on before it is done, what is missing shows in the comparison.
-pub fn run_whole(tape: &Tape, samples: usize, stored: bool) -> (Vec<f32>, Vec<u8>) {
+pub fn run_whole(tape: &Tape, samples: usize, stored: bool) -> (Vec<f32>, Vec<u8>, u128) {
     let (taps_s, taps_ac) = tape.taps.split_at(MODE_S_TAPS);
     let draws: Vec<u8> = tape.draws.iter().flat_map(draw_to_bytes).collect();
-    let mut all = (Vec::new(), Vec::new());
+    let mut all = (Vec::new(), Vec::new(), 0);
     let (mut taken, mut used) = (0, 0);
     let mut next = Run::open(&tape.settings.to_bytes(), taps_s, taps_ac).ok();
     while let Some(mut run) = next {
@@ -129,6 +137,7 @@ pub fn run_whole(tape: &Tape, samples: usize, stored: bool) -> (Vec<f32>, Vec<u8
         );
         all.0.extend(&output[..2 * ran.samples_written as usize]);
         all.1.extend(&records[..RECORD_BYTES * ran.records_written as usize]);
+        all.2 += ran.samples_added();
         taken += ran.draws_taken as usize;
         used += ran.noise_used as usize;
         if ran.refusal != 0 || ran.stop == STOP_DONE || ran.draws_taken + ran.samples_written == 0 {
@@ -148,15 +157,18 @@ fn taken_up(bytes: &[u8]) -> Option<Run> {
 }
 
 /// A refusal with its values, or a stop and the counts.
-fn put_answer(b: &mut Vec<u8>, refusal: u64, values: [u64; 2], counts: [u64; 5]) {
+fn put_answer(b: &mut Vec<u8>, refusal: u64, values: [u64; 2], counts: [u64; 7]) {
     let held = match refusal {
         2 | 4 | 8 => 1,
         7 => 2,
         _ => 0,
     };
     let words = match refusal {
-        0 => [0, counts[0], counts[1], counts[2], counts[3], counts[4]],
-        _ => [1, refusal, held, values[0], values[1], 0],
+        0 => {
+            let [stop, taken, samples, noise, records, high, low] = counts;
+            [0, stop, taken, samples, noise, records, high, low]
+        }
+        _ => [1, refusal, held, values[0], values[1], 0, counts[5], counts[6]],
     };
     for w in words {
         b.extend(w.to_le_bytes());

@@ -1,5 +1,5 @@
 -- `add` meets its contract, from what its calls give.
-use Rattle.run_add_reply.proofs.Joined.{added, recorded}
+use Rattle.run_add_reply.proofs.Joined.{added, counted, recorded}
 use borrow.Author.Needs.{needs}
 use Rattle.run_add_reply.proofs.add.Statement.{statement}
 use Rattle.run_add_reply.proofs.add.Tie as tie
@@ -46,6 +46,7 @@ returns c =
     let sum = r .add-reply .ensures in (
       added (a .pending) (a .delays) (a .first) (a .rest .now) _ _ _ _ _ here type loudness picks made (a .mode-s .now) (a .mode-ac .now) (a .memory .now) _ (sum .0),
       recorded (a .pending) (a .delays) (a .first) (a .rest .now) _ _ _ _ _ here type loudness picks made (a .memory .now) (a .records .now) _ (a .at) _ (sum .1) (q .put .ensures .1),
+      counted (a .pending) (a .delays) (a .first) (a .rest .now) _ _ _ _ _ here type loudness picks made (a .memory .now) _ (sum .1),
     )
 
 pub add-spec : {M : Type 1} → statement M

@@ -87,6 +87,9 @@ mul-add c = omega (arith, c .before .before .before .before .before .before .bef
 add-requires : tie.Need-add-requires
 add-requires c κs = search needs
 
+after-step-requires-2 : tie.Need-after-step-requires-2
+after-step-requires-2 c κs = search needs
+
 returns : tie.Need-returns
 returns c =
     let z = c .before .before in halted (planned z) _ (c .enum-told .given .1) _ (z .after-step .ensures)
@@ -133,10 +136,10 @@ same-length-6 c = search needs
 
 returns-6 : tie.Need-returns-6
 returns-6 c =
-    let w = c .before .before .before .before in
+    let w = c .before .before .before .before .before in
     let p = w .before .before .before .before in
     let z = p .before .before in
-    added (planned z) _ _ (p .p3 .given .1) _ _ _ (z .after-step .ensures) (w .add .ensures .0) (w .add .ensures .1)
+    added (planned z) _ _ (p .p3 .given .1) (w .add .result) (omega (arith, w .add .ok)) _ _ _ (c .after-step2 .ensures) (w .add .ensures .0) (w .add .ensures .1) (w .add .ensures .2)
 
 pub step-spec : {M : Type 1} → statement M
 step-spec =
@@ -160,6 +163,7 @@ step-spec =
     enum-known-p-3
     mul-add
     add-requires
+    after-step-requires-2
     returns
     same-length
     same-length-2
