@@ -82,6 +82,7 @@ static void check_calls(void) {
     expect("its samples", 0, added.samples_written);
     expect("its samples added", records[49] + 256 * records[50], added.samples_added_low);
     expect("their high half", 0, added.samples_added_high);
+    put_f64(draws, 200.0);
     const more1090_run_result written = called(added.state, MORE1090_DRAW_LEN, 2, 400, 0);
     expect("a sample written later", 1, written.samples_written);
     expect("nothing added", 0, written.samples_added_low);
