@@ -38,7 +38,7 @@ module _ (r : List ℕ) where
   unfolding accepted
   whole-record h = ap (λ (t : Bool). t && by-first) (le-leb 66 (length r) h)
 
-  number-is : (n at v : ℕ) → at + n ≤ length r → v ≡ numberAt n r at → v ≡ leAt n r at
+  pub number-is : (n at v : ℕ) → at + n ≤ length r → v ≡ numberAt n r at → v ≡ leAt n r at
   number-is n at v h e = e ∙ read-there n r at (sym (le-leb _ (length r) h)) (λ v. v) 0 refl
 
   module _ (h : 66 ≤ length r) (first : ℕ) (e : first ≡ numberAt 8 r 40) where
