@@ -22,7 +22,7 @@ pub enum RecordFault {
 }
 
 // The message length of a type, 0 above the last.
-fn type_length(kind: u8) -> u8
+pub fn type_length(kind: u8) -> u8
     ensures { λ r. ⌜ r ≡ typeLength kind ⌝ }
 {
     if kind < TYPES {
