@@ -1,6 +1,6 @@
 -- Records on paper (SPECIFICATION 11.5): their pages, and what is answered.
 use Prim.Native.Nat.{ℕ, zero, suc, _+_, _-_, _*_, _/_, _%_}
-use mathlib.Core.Bool.{cond}
+use mathlib.Core.Bool.{Bool, true, false, cond}
 use mathlib.Core.List.{List, [], _++_}
 use lib.Dec.{eqb, leb}
 use lib.ListN.{length}
@@ -13,7 +13,7 @@ use Rattle.record_check.specs.declared.RecordFault.{RecordFault}
 use Rattle.record_check.specs.declared.RecordFault.the-variants.{NoFault, At}
 use Rattle.page_line.specs.Line.{pageLine, blankLine, withFeed}
 use Rattle.page_fill.specs.declared.Pages.{Pages}
-use Rattle.page_fill.specs.declared.Pages.the-variants.{Written, Refused}
+use Rattle.page_fill.specs.declared.Pages.the-variants.{Written, WrongLength, WrongRecord}
 
 -- the pages of n records, 60 on each; none for none
 unfoldable pub pageCount : ℕ → ℕ
@@ -36,24 +36,27 @@ pagesText records = recordLines (length records / 66) records ++ blankLines (60 
 -- what is answered where the lengths are right: refusal 18 with the first record at fault, or the pages written
 unfoldable pub byFault : RecordFault → ℕ → Pages
 byFault NoFault pages = Written pages
-byFault (At k) pages = Refused (Record k)
+byFault (At k) pages = WrongRecord k
 
 -- what is answered for records and room in bytes: refusal 9 for record bytes no multiple of 66 or room for fewer bytes than the pages have, before 18
 unfoldable pub pagesAnswer : List ℕ → ℕ → Pages
 pagesAnswer records room =
     cond (eqb (length records % 66) 0)
-    (cond (leb (4380 * pageCount (length records / 66)) room) (byFault (firstFault records) (pageCount (length records / 66))) (Refused Length))
-    (Refused Length)
+    (cond (leb (4380 * pageCount (length records / 66)) room) (byFault (firstFault records) (pageCount (length records / 66))) WrongLength)
+    WrongLength
+
+-- whether pages are written
+unfoldable pub written : Pages → Bool
+written (Written pages) = true
+written WrongLength = false
+written (WrongRecord k) = false
 
 -- the buffer after it: the pages from its start on, or as it was
-unfoldable pub leftBy : Pages → List ℕ → List ℕ → List ℕ
-leftBy (Written pages) records out = overwritten out 0 (pagesText records)
-leftBy (Refused refusal) records out = out
-
 unfoldable pub pagesLeft : List ℕ → List ℕ → List ℕ
-pagesLeft records out = leftBy (pagesAnswer records (length out)) records out
+pagesLeft records out = cond (written (pagesAnswer records (length out))) (overwritten out 0 (pagesText records)) out
 
--- in the specification's terms
+-- in the specification's terms: refusal 9, and 18 with the record's index
 unfoldable pub given : Pages → Answer ℕ
 given (Written pages) = accepted pages
-given (Refused refusal) = refused refusal
+given WrongLength = refused Length
+given (WrongRecord k) = refused (Record k)

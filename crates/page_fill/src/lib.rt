@@ -1,15 +1,16 @@
 // Records on paper: pages of 60 lines (SPECIFICATION 11.5). `fill` is equal to its definition of specs/ on every input.
 ghost use mathlib.Core.Path.{_≡_};
+ghost use mathlib.Core.Bool.{cond};
 ghost use Prim.Native.Nat.{_+_, _*_, _/_, _≤_};
 ghost use lib.ListN.{length};
 ghost use Rattle.le_read.specs.LeBytes.{overwritten};
 ghost use Rattle.record_check.specs.FirstFault.{firstFault};
 ghost use Rattle.record_check.specs.declared.RecordFault.the-variants.{NoFault};
-ghost use Rattle.page_fill.specs.Pages.{pageCount, recordLines, blankLines, pagesText, pagesAnswer, pagesLeft};
+ghost use Rattle.page_fill.specs.Pages.{pageCount, recordLines, blankLines, pagesText, pagesAnswer, written, pagesLeft};
+ghost use Rattle.page_fill.specs.WriteModel.{Writable};
 use constants::RECORD_LEN;
 use page_line::LINE_LEN;
 use record_check::RecordFault;
-use refusals::Refusal;
 
 // Lines of a page, and its bytes.
 const PAGE_LINES: usize = 60;
@@ -19,7 +20,8 @@ pub const PAGE_LEN: usize = 4380;
 // What putting records on paper answers: the pages written, or a refusal.
 pub enum Pages {
     Written(u64),
-    Refused(Refusal),
+    WrongLength,
+    WrongRecord(u64),
 }
 
 // The pages that records take, the last one padded.
@@ -35,14 +37,14 @@ fn judge(records: &[u8], room: usize) -> Pages
     ensures { λ r. ⌜ r ≡ pagesAnswer (now (records .entry)) room ⌝ }
 {
     if 0 < records.len() % RECORD_LEN {
-        return Pages::Refused(Refusal::Length);
+        return Pages::WrongLength;
     }
     let pages = page_count(records.len() / RECORD_LEN);
     if room / PAGE_LEN < pages {
-        return Pages::Refused(Refusal::Length);
+        return Pages::WrongLength;
     }
     match record_check::first_fault(records) {
-        RecordFault::At(k) => Pages::Refused(Refusal::Record(k)),
+        RecordFault::At(k) => Pages::WrongRecord(k),
         RecordFault::NoFault => Pages::Written(pages as u64),
     }
 }
@@ -86,16 +88,34 @@ fn put_pages(records: &[u8], out: &mut [u8])
     put_blank_lines(lines - n, out, LINE_LEN * n);
 }
 
+// Whether an answer has pages written.
+fn writes(answer: Pages) -> bool
+    ensures { λ r. ⌜ r ≡ written answer ⌝ }
+{
+    match answer {
+        Pages::Written(_) => true,
+        Pages::WrongLength => false,
+        Pages::WrongRecord(_) => false,
+    }
+}
+
+// The pages, or nothing.
+fn put_if(write: bool, records: &[u8], out: &mut [u8])
+    requires { ⌜ Writable write (now records) (length (now out)) ⌝ }
+    ensures { λ _. ⌜ now (out .exit) ≡ cond write (overwritten (now (out .entry)) 0 (pagesText (now (records .entry)))) (now (out .entry)) ⌝ }
+{
+    if write {
+        put_pages(records, out);
+        return;
+    }
+}
+
 // Records on paper: the pages written, or a refusal that leaves all of out as it was. Bytes behind the pages stay.
 pub fn fill(records: &[u8], out: &mut [u8]) -> Pages
     ensures { λ r. ⌜ (r ≡ pagesAnswer (now (records .entry)) (length (now (out .entry)))) × (now (out .exit) ≡ pagesLeft (now (records .entry)) (now (out .entry))) ⌝ }
 {
     let answer = judge(records, out.len());
-    match answer {
-        Pages::Written(n) => {
-            put_pages(records, out);
-            Pages::Written(n)
-        }
-        Pages::Refused(q) => Pages::Refused(q),
-    }
+    let write = writes(answer);
+    put_if(write, records, out);
+    answer
 }
