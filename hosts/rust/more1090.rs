@@ -5,11 +5,12 @@ mod more1090_generator;
 mod shell;
 mod commands {
     pub mod message;
+    pub mod pages;
 }
 
 use shell::{Command, Failure};
 
-const COMMANDS: &[Command] = &[commands::message::COMMAND];
+const COMMANDS: &[Command] = &[commands::message::COMMAND, commands::pages::COMMAND];
 
 const VERSION: &str = include_str!("../../VERSION");
 
