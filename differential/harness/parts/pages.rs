@@ -146,7 +146,7 @@ fn any_bytes(t: &mut Tally, r: &mut Random) {
 }
 
 pub fn compare(t: &mut Tally, r: &mut Random, count: u64) {
-    for n in [0, 1, 2, 59, 60, 61, 119, 120, 121] {
+    for n in [0usize, 1, 2, 59, 60, 61, 119, 120, 121] {
         let records: Vec<Record> = (0..n).map(|_| Record::any(r)).collect();
         let room = 4_380 * n.div_ceil(60);
         for extra in [0, 1, 65] {
