@@ -177,6 +177,7 @@ enum { MORE1090_NO_READING, MORE1090_II, MORE1090_SI, MORE1090_UNASSIGNED };
  * bytes, however many, it answers MORE1090_NO_READING. code must point to a number. */
 uint32_t more1090_interrogator(const uint8_t *message, size_t message_length, uint32_t *code);
 
+#define MORE1090_ERR_RECORD 18 /* a record that is not accepted; value: its index */
 #define MORE1090_LINE_LENGTH 72
 #define MORE1090_PAGE_LENGTH 4380
 

@@ -29,6 +29,6 @@ flat-record k e = ap flatPages (sym e)
 abbrev pub lineMade : ℕ → ℕ → ℕ → ℕ → ℕ → FlatLine
 lineMade found first kind count size = record { found = found; first = first; kind = kind; count = count; size = size }
 
-pub flat-line : (f g : LineFields) {found : ℕ} → found ≡ cond (f .found) 1 0 → f ≡ g → lineMade found (f .first) (f .kind) (f .count) (f .size) ≡ flatLine g
+pub flat-line : (f g : LineFields) {found first kind count size : ℕ} → found ≡ cond (f .found) 1 0 → first ≡ f .first → kind ≡ f .kind → count ≡ f .count → size ≡ f .size → f ≡ g → lineMade found first kind count size ≡ flatLine g
 unfolding flatLine
-flat-line f g b e = (λ i. lineMade (b i) (f .first) (f .kind) (f .count) (f .size)) ∙ ap flatLine e
+flat-line f g b x y z w e = (λ i. lineMade (b i) (x i) (y i) (z i) (w i)) ∙ ap flatLine e

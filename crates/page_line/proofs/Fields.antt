@@ -7,7 +7,7 @@ use native.Mathlib.Numerals.{add-one}
 use native.Mathlib.Omega.{arith}
 use lib.Dec.{eqb}
 use lib.ListN.{length, getD, take, drop, set, length-append, length-take, length-replicate, replicate-append-replicate}
-use borrow.Author.Tests.{le-leb}
+use borrow.Author.Tests.{le-leb, eq-eqb}
 use Rattle.le_read.specs.LeBytes.{inside, overwritten, numberAt}
 use Rattle.le_read.proofs.Halves.{overwritten-append}
 use Rattle.le_read.proofs.RoundTrip.{length-overwritten}
@@ -18,7 +18,7 @@ use Rattle.record_check.proofs.Accepting.{number-is}
 use Rattle.tape_text.specs.Text.{decimal, hex, hexLine, messageOf, messageFits, messageAt, messageEnd}
 use Rattle.tape_text.proofs.Puts.{length-hex}
 use Rattle.page_line.specs.Line.{blanks, rightAligned, leftAligned, numberField, numbers, messageField, pageLine, blankLine, withFeed, lineFits, lineAt, blankAt}
-use Rattle.page_line.specs.TensModel.{tens}
+use Rattle.page_line.specs.TensModel.{tensDigit, tens}
 use Rattle.page_line.proofs.Aligned.{length-tens, aligned, length-aligned}
 use Rattle.page_line.proofs.Columns.{byte-behind}
 use Rattle.page_line.proofs.Laid.{laid-over}
@@ -146,10 +146,10 @@ module _ (r : List ℕ) (i : InRange r) where
         e ∙ ap (λ (t : Bool). cond t (at + 24 + length (hexLine (messageOf r))) (at + 24)) fits
         ∙ omega (arith, length-append (hex (messageOf r)) (10 ∷ []), length-hex (messageOf r))
 
-    pub line-put : {end n start : ℕ} {e g : List ℕ} → end ≡ messageEnd r d (at + 24) → e ≡ messageAt r d (at + 24) → n ≡ at + 73 - end → start ≡ end - 1 → g ≡ overwritten e start (blanks n ++ (10 ∷ []))
+    pub line-put : {end n start : ℕ} {e g : List ℕ} → end ≡ messageEnd r d (at + 24) → e ≡ messageAt r d (at + 24) → g ≡ overwritten e start (blanks n ++ (10 ∷ [])) → n ≡ at + 73 - end → start ≡ end - 1
         → g ≡ overwritten s at (withFeed (pageLine r))
     unfolding messageAt withFeed pageLine
-    line-put {end} {n} {start} {e} {g} o t w x q =
+    line-put {end} {n} {start} {e} {g} o t q w x =
         let k = length (messageOf r) in
         let z = ends o in
         let y = message-short r in
@@ -189,3 +189,8 @@ module _ (r s : List ℕ) (at : ℕ) {t : Bool} (room : t ≡ inside 73 s at) wh
   pub blank-done : {out : List ℕ} → t ≡ true → out ≡ overwritten s at (blanks 72 ++ (10 ∷ [])) → LeftBlank true out
   unfolding blankAt withFeed blankLine
   blank-done f p = (sym f ∙ room, p ∙ sym (ap (λ (b : Bool). cond b (overwritten s at (withFeed blankLine)) s) (sym room ∙ f)))
+
+-- a 0 in front of a number is blank
+pub zero-blank : (n : ℕ) → n ≡ 0 → 32 ≡ tensDigit n
+unfolding tensDigit
+zero-blank n e = sym (ap (λ (b : Bool). cond b 32 (48 + n % 10)) (eq-eqb n 0 e))

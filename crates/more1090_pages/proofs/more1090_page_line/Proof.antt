@@ -1,5 +1,5 @@
 -- `more1090_page_line` meets its contract.
-use mathlib.Core.Path.{ap}
+use mathlib.Core.Path.{refl, ap}
 use Rattle.page_read.specs.Fields.{fieldsOf}
 use Rattle.page_read.specs.declared.LineFields.{LineFields}
 use Rattle.more1090_pages.proofs.Flat.{flat-line}
@@ -26,7 +26,7 @@ cast-t8 c = search needs
 returns : tie.Need-returns
 returns c =
     let e = c .before .before .before .before .before .read .ensures in
-    (flat-line (c .before .before .before .before .before .read .result) (fieldsOf (c .before .before .before .before .before .before .before .args .line .now)) (c .before .before .before .bit .ensures) e, ap (λ (f : LineFields). f .message) e)
+    (flat-line (c .before .before .before .before .before .read .result) (fieldsOf (c .before .before .before .before .before .before .before .args .line .now)) (c .before .before .before .bit .ensures) refl refl refl refl e, ap (λ (f : LineFields). f .message) e)
 
 pub more1090-page-line-spec : {M : Type 1} → statement M
 more1090-page-line-spec =

@@ -1,6 +1,9 @@
 -- `page_line::put` meets its contract.
-use mathlib.Core.Path.{sym, refl, _∙_}
+use Prim.Native.Nat.{_+_}
+use mathlib.Core.Path.{_≡_, sym, refl, _∙_}
 use mathlib.Core.Bool.{_&&_}
+use lib.Dec.{leb}
+use lib.ListN.{length}
 use borrow.Author.Tests.{leb-true}
 use Rattle.page_line.proofs.Fields.{kept, done}
 use borrow.Author.Needs.{needs}
@@ -15,7 +18,10 @@ accepts-requires : tie.Need-accepts-requires
 accepts-requires c κs = search needs
 
 put-line-requires : tie.Need-put-line-requires
-put-line-requires c κs = (sym (c .before .before .before .accepts .ensures) ∙ c .before .before .if1 .taken, leb-true _ _ (sym (c .before .before .before .before .holds .ensures) ∙ c .before .if2 .taken))
+put-line-requires c κs =
+    let a = c .before .before .before .before .before .before .before .args in
+    let room : c .before .before .before .before .holds .result ≡ leb (a .at + 73) (length (a .out .now)) = c .before .before .before .before .holds .ensures in
+    (sym (c .before .before .before .accepts .ensures) ∙ c .before .before .if1 .taken, leb-true (a .at + 73) (length (a .out .now)) (sym room ∙ c .before .if2 .taken))
 
 same-length : tie.Need-same-length
 same-length c = search needs

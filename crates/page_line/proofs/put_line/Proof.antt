@@ -89,7 +89,7 @@ returns c =
     let u = c .before .before .before .before .before .before .before .before .before .before .before .before .before .before .before .u64-at .ensures in
     let b = c .before .before .before .before .before .before .before .before .before .before .before .before .wide .ensures .0 ∙ c .before .before .before .before .before .before .before .before .before .before .before .before .before .before .byte-at .ensures in
     let v = c .before .before .before .before .before .before .before .before .before .before .before .before .before .u16-at .ensures in
-    line-put r i (s .args .out .now) (s .args .at) (s .pre .1) u b v (c .before .before .before .before .before .before .before .before .before .before .put-numbers .ensures) (c .before .before .before .before .before .before .message-at .ensures .0) (c .before .before .before .before .before .before .message-at .ensures .1) refl refl (c .before .before .put-blanks .ensures)
+    line-put r i (s .args .out .now) (s .args .at) (s .pre .1) u b v (c .before .before .before .before .before .before .before .before .before .before .put-numbers .ensures) (c .before .before .before .before .before .before .message-at .ensures .0) (c .before .before .before .before .before .before .message-at .ensures .1) (c .before .before .put-blanks .ensures) refl refl
 
 pub put-line-spec : {M : Type 1} → statement M
 put-line-spec =

@@ -24,7 +24,9 @@ add-put-number-2 : tie.Need-add-put-number-2
 add-put-number-2 c = search needs
 
 put-number-requires-3 : tie.Need-put-number-requires-3
-put-number-requires-3 c κs = search needs
+put-number-requires-3 c κs =
+    let s = c .before .before .before .before .before .before .before .before .before .before in
+    (omega (arith, s .pre .2), omega (arith, s .pre .3))
 
 same-length : tie.Need-same-length
 same-length c = search needs

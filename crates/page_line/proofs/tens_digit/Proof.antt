@@ -3,14 +3,14 @@ use borrow.Author.Needs.{needs}
 use mathlib.Core.Path.{sym, ap}
 use mathlib.Core.Bool.{Bool, cond}
 use Prim.Native.Nat.{_+_, _%_}
-use borrow.Author.Tests.{eq-eqb, ne-eqb}
+use borrow.Author.Tests.{ne-eqb}
 use Rattle.page_line.specs.TensModel.{tensDigit}
+use Rattle.page_line.proofs.Fields.{zero-blank}
 use Rattle.page_line.proofs.tens_digit.Statement.{statement}
 use Rattle.page_line.proofs.tens_digit.Tie as tie
 
 returns : tie.Need-returns
-unfolding tensDigit
-returns c = let n = c .before .args .n in sym (ap (λ (b : Bool). cond b 32 (48 + n % 10)) (eq-eqb n 0 (c .if1 .taken)))
+returns c = zero-blank (c .before .args .n) (c .if1 .taken)
 
 cast-result : tie.Need-cast-result
 cast-result c = search needs

@@ -1,7 +1,10 @@
 -- `tape_text::message_at` meets its contract.
 use borrow.Author.Needs.{needs}
 use native.Mathlib.Omega.{arith}
-use mathlib.Core.Path.{sym, _∙_}
+use Prim.Native.Nat.{_+_}
+use mathlib.Core.Path.{_≡_, sym, _∙_}
+use lib.Dec.{leb}
+use lib.ListN.{length}
 use borrow.Author.Tests.{leb-true}
 use Rattle.tape_text.proofs.MessageAt.{not-whole, no-room, was-put}
 use Rattle.tape_text.proofs.message_at.Statement.{statement}
@@ -14,7 +17,10 @@ holds-requires : tie.Need-holds-requires
 holds-requires c κs = search needs
 
 put-message-requires : tie.Need-put-message-requires
-put-message-requires c κs = (search needs, leb-true _ _ (sym (c .before .before .holds .ensures) ∙ c .before .if2 .taken))
+put-message-requires c κs =
+    let a = c .before .before .before .before .before .before .args in
+    let room : c .before .before .holds .result ≡ leb (a .at + 29) (length (a .out .now)) = c .before .before .holds .ensures in
+    (omega arith, leb-true (a .at + 29) (length (a .out .now)) (sym room ∙ c .before .if2 .taken))
 
 same-length : tie.Need-same-length
 same-length c = search needs
