@@ -4,13 +4,14 @@
 mod more1090_generator;
 mod shell;
 mod commands {
+    pub mod level;
     pub mod message;
     pub mod pages;
 }
 
 use shell::{Command, Failure};
 
-const COMMANDS: &[Command] = &[commands::message::COMMAND, commands::pages::COMMAND];
+const COMMANDS: &[Command] = &[commands::level::COMMAND, commands::message::COMMAND, commands::pages::COMMAND];
 
 const VERSION: &str = include_str!("../../VERSION");
 
