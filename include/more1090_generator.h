@@ -72,7 +72,8 @@ enum {
     MORE1090_ERR_LENGTH = 9,          /* settings, memory, a prototype, output (0 or odd) or draws (no multiple of 65) of a wrong
                                  * length */
     MORE1090_ERR_LEVEL = 13,    /* a level above 200.0 dB, by more1090_level alone */
-    MORE1090_ERR_TRIGGER_LEVEL = 14 /* a trigger level below 0.1 or above 0.9, or a NaN */
+    MORE1090_ERR_TRIGGER_LEVEL = 14, /* a trigger level below 0.1 or above 0.9, or a NaN */
+    MORE1090_ERR_RECORD = 18    /* a record that is not accepted, by more1090_pages; value: its index */
 };
 
 /* Why a run call came back. */
@@ -197,6 +198,34 @@ uint32_t more1090_interrogator(const uint8_t *message, size_t message_length, ui
  * tenths above 2000, whatever their size, and leaves it. amplitude must point to a float. (crates/more1090_level) */
 uint64_t more1090_level(uint64_t tenths, float *amplitude);
 
+#define MORE1090_LINE_LEN 72
+#define MORE1090_PAGE_LEN 4380
+
+/* refusal is 0 for none; value is then 0, and else the record at fault for refusal 18. */
+typedef struct {
+    uint64_t refusal, value, pages;
+} more1090_pages_result;
+
+/* Records of 66 bytes on paper: a line for each record, of 72 bytes and a line feed, 60 lines a page of
+ * MORE1090_PAGE_LEN bytes, the last page padded with lines of blanks; none for no records. A line has the first sample
+ * right-aligned in 16 columns, the type in 1, the count right-aligned in 4, each with a space behind it, the message in
+ * hexadecimal left-aligned in 28, Mode A/C high byte first, and 20 blanks. Checks 9 for record bytes that are no multiple of
+ * 66, and for output shorter than the pages, then 18 for the first record with a first sample above 2^52, a type above 6, a
+ * count above 9,999 or a length other than its type's (14, 7 or 2), with its index as the value. Then nothing is written.
+ * Else answers the pages written, from the start of output on; output behind them is unchanged. Every record that a run
+ * writes is accepted. (crates/more1090_pages) */
+more1090_pages_result more1090_pages(const uint8_t *records, size_t records_length, uint8_t *output, size_t output_length);
+
+typedef struct {
+    uint64_t found, first_sample, type, count, message_length;
+} more1090_line_result;
+
+/* Reads a line of MORE1090_LINE_LEN bytes, without its line feed, back. Of the line of every accepted record it gives the
+ * first sample, the type, the count, and the message with its length, in the record's order of bytes, zeros behind it to 14
+ * bytes. found is 0, and all else 0, for another number of bytes, and where column 17 has no type 0 to 6, so for a line of
+ * blanks. Of other bytes a column without a digit reads as 0. message must point to 14 bytes; all are written. */
+more1090_line_result more1090_page_line(const uint8_t *line, size_t line_length, uint8_t *message);
+
 #ifdef __cplusplus
 }
 #define MORE1090_ASSERT(holds) static_assert(holds, "layout")
@@ -207,6 +236,7 @@ MORE1090_ASSERT(sizeof(more1090_state) == 184 && offsetof(more1090_state, ended)
 MORE1090_ASSERT(sizeof(more1090_open_result) == 200 && offsetof(more1090_open_result, refusal) == 184);
 MORE1090_ASSERT(sizeof(more1090_run_result) == 264 && offsetof(more1090_run_result, draws_taken) == 184);
 MORE1090_ASSERT(offsetof(more1090_run_result, samples_added_high) == 248);
+MORE1090_ASSERT(sizeof(more1090_pages_result) == 24 && sizeof(more1090_line_result) == 40);
 #undef MORE1090_ASSERT
 
 #endif

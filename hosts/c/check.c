@@ -108,6 +108,21 @@ static void check_levels(void) {
     }
 }
 
+static void check_pages(void) {
+    uint8_t record[MORE1090_RECORD_LEN] = {0}, page[MORE1090_PAGE_LEN + 1], message[14];
+    record[51] = 14;
+    page[MORE1090_PAGE_LEN] = 7;
+    expect("no records, no output", 0, more1090_pages(NULL, 0, NULL, 0).pages);
+    expect("no output", MORE1090_ERR_LENGTH, more1090_pages(record, sizeof record, NULL, 0).refusal);
+    expect("a page", 1, more1090_pages(record, sizeof record, page, sizeof page).pages);
+    expect("output behind the page", 7, page[MORE1090_PAGE_LEN]);
+    expect("a line read back", 14, more1090_page_line(page, MORE1090_LINE_LEN, message).message_length);
+    expect("a blank line", 0, more1090_page_line(page + MORE1090_LINE_LEN + 1, MORE1090_LINE_LEN, message).found);
+    expect("no line", 0, more1090_page_line(NULL, 0, message).found);
+    record[48] = 7;
+    expect("a record of type 7", MORE1090_ERR_RECORD, more1090_pages(record, sizeof record, page, sizeof page).refusal);
+}
+
 int main(void) {
     make_settings(settings, 0.5f);
     make_taps(taps_s, MORE1090_MODE_S_TAPS_LEN);
@@ -116,5 +131,6 @@ int main(void) {
     check_opening();
     check_calls();
     check_levels();
+    check_pages();
     return failed;
 }

@@ -6,11 +6,12 @@ mod shell;
 mod commands {
     pub mod level;
     pub mod message;
+    pub mod pages;
 }
 
 use shell::{Command, Failure};
 
-const COMMANDS: &[Command] = &[commands::level::COMMAND, commands::message::COMMAND];
+const COMMANDS: &[Command] = &[commands::level::COMMAND, commands::message::COMMAND, commands::pages::COMMAND];
 
 const VERSION: &str = include_str!("../../VERSION");
 

@@ -239,4 +239,55 @@ pub fn tenths_of_db(text: &str) -> Option<u64> {
         return None;
     }
     Some(format!("{whole}{tenth}").parse().unwrap_or(u64::MAX))
+
+pub const LINE_LEN: usize = 72;
+pub const PAGE_LEN: usize = 4380;
+pub const PAGE_LINES: usize = 60;
+
+#[repr(C)]
+#[derive(Clone, Copy, Debug, PartialEq, Eq)]
+pub struct PagesResult {
+    pub refusal: u64,
+    pub value: u64,
+    pub pages: u64,
+}
+
+#[repr(C)]
+struct LineResult {
+    found: u64,
+    first_sample: u64,
+    kind: u64,
+    count: u64,
+    message_length: u64,
+}
+
+unsafe extern "C" {
+    fn more1090_pages(records: *const u8, records_length: usize, output: *mut u8, output_length: usize) -> PagesResult;
+    fn more1090_page_line(line: *const u8, line_length: usize, message: *mut u8) -> LineResult;
+}
+
+/// `more1090_pages`, on slices of any length: records on paper, from the start of output on.
+pub fn pages(records: &[u8], output: &mut [u8]) -> PagesResult {
+    unsafe { more1090_pages(records.as_ptr(), records.len(), output.as_mut_ptr(), output.len()) }
+}
+
+/// What a record's line shows; the message in the record's order of bytes.
+#[derive(Clone, Debug, PartialEq, Eq)]
+pub struct Line {
+    pub first_sample: u64,
+    pub kind: u8,
+    pub count: u16,
+    pub message: Vec<u8>,
+}
+
+/// A line of 72 bytes, without its line feed, read back; none where it shows no type.
+pub fn page_line(line: &[u8]) -> Option<Line> {
+    let mut message = [0; 14];
+    let read = unsafe { more1090_page_line(line.as_ptr(), line.len(), message.as_mut_ptr()) };
+    (read.found == 1).then(|| Line {
+        first_sample: read.first_sample,
+        kind: read.kind as u8,
+        count: read.count as u16,
+        message: message[..read.message_length as usize].to_vec(),
+    })
 }

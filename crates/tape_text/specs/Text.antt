@@ -1,11 +1,11 @@
 -- What the tape program prints (SPECIFICATION 11.1). Text is a list of ASCII codes.
 use Prim.Native.Nat.{ℕ, zero, suc, _+_, _/_, _%_, min}
-use mathlib.Core.Bool.{cond}
+use mathlib.Core.Bool.{Bool, cond, _&&_}
 use mathlib.Core.Path.{_≡_}
 use mathlib.Core.List.{List, [], _∷_, _++_}
-use lib.Dec.{eqb, ltb}
+use lib.Dec.{eqb, leb, ltb}
 use lib.ListN.{length, getD, take, drop}
-use Rattle.le_read.specs.LeBytes.{leAt, overwritten}
+use Rattle.le_read.specs.LeBytes.{leAt, inside, overwritten}
 
 -- a number in decimal, with k digits at most
 unfoldable pub digitsOf : ℕ → ℕ → List ℕ
@@ -69,3 +69,15 @@ refusedText n = refusedWord ++ number n 10
 pub record Put (text before : List ℕ) (at : ℕ) (after : List ℕ) (end : ℕ) : Type 0 where
   pub held : after ≡ overwritten before at text
   pub ends : end ≡ at + length text
+
+-- ---- the message of one record alone, put at an offset
+-- whether the record at the start of the bytes is whole, and 29 bytes are left from the offset, as many as the longest message and its line's end take
+unfoldable pub messageFits : List ℕ → List ℕ → ℕ → Bool
+messageFits r out at = leb 66 (length r) && inside 29 out at
+
+-- the buffer after it, and where the line's end ends; the buffer as it was, and the offset, where it does not fit
+unfoldable pub messageAt : List ℕ → List ℕ → ℕ → List ℕ
+messageAt r out at = cond (messageFits r out at) (overwritten out at (hexLine (messageOf r))) out
+
+unfoldable pub messageEnd : List ℕ → List ℕ → ℕ → ℕ
+messageEnd r out at = cond (messageFits r out at) (at + length (hexLine (messageOf r))) at

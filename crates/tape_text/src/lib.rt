@@ -5,7 +5,7 @@ ghost use lib.ListN.{length, getD, take};
 ghost use mathlib.Core.List.{_∷_, []};
 ghost use Rattle.io.specs.Counts.{Counts};
 ghost use Rattle.le_read.specs.LeBytes.{overwritten};
-ghost use Rattle.tape_text.specs.Text.{number, hexDigit, hex, hexLine, messageOf, lineOf, linesOf, runText, refusedText, Put};
+ghost use Rattle.tape_text.specs.Text.{number, hexDigit, hex, hexLine, messageOf, lineOf, linesOf, runText, refusedText, Put, messageAt, messageEnd};
 use constants::RECORD_LEN;
 use constants::least;
 use le_read::wide;
@@ -15,6 +15,9 @@ pub const TEXT_LEN: usize = 40960;
 
 // Lines of text, one for each draw at most.
 const MAX_LINES: usize = 400;
+
+// Bytes of the longest message in hexadecimal and its line's end.
+const MESSAGE_LEN: usize = 29;
 
 fn hex_digit(d: u8) -> u8
     requires { ⌜ d < 16 ⌝ }
@@ -95,6 +98,19 @@ fn put_message(rec: &[u8], out: &mut [u8], at: usize) -> usize
     }
     let n = least(wide(rec[51]) as usize, 14);
     put_hex_line(&rec[52..], n, out, at)
+}
+
+// The same on any input: nothing is put where the record is not whole, or 29 bytes from the offset run past the end.
+pub fn message_at(rec: &[u8], out: &mut [u8], at: usize) -> usize
+    ensures { λ r. ⌜ (r ≡ messageEnd (now (rec .entry)) (now (out .entry)) at) × (now (out .exit) ≡ messageAt (now (rec .entry)) (now (out .entry)) at) ⌝ }
+{
+    if rec.len() < RECORD_LEN {
+        return at;
+    }
+    if le_read::holds(out.len(), at, MESSAGE_LEN) {
+        return put_message(rec, out, at);
+    }
+    at
 }
 
 // The line of the record at the start of the bytes, put at an offset; where it ends.

@@ -1,0 +1,4 @@
+pub mod Laid
+pub mod Aligned
+pub mod Columns
+pub mod Fields

@@ -1,0 +1,1 @@
+// Theory alone: every record that a run writes is accepted.
