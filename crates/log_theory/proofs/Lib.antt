@@ -1,0 +1,9 @@
+pub mod Basics
+pub mod Picks
+pub mod Best
+pub mod Lists
+pub mod Counts
+pub mod Examples
+pub mod Window
+pub mod Link
+pub mod PairingLaws

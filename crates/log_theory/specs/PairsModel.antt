@@ -1,0 +1,37 @@
+-- The pairing as the code makes it: two lists of indices and a count, changed entry by entry.
+use mathlib.Core.Bool.{Bool}
+use mathlib.Core.List.{List}
+use Prim.Native.Nat.{ℕ, zero, suc, _+_, _<_}
+use lib.Dec.{eqb}
+use lib.ListN.{getD, set, replicate}
+use Rattle.log_theory.specs.declared.Partner.{Partner}
+use Rattle.log_theory.specs.declared.Partner.the-variants.{Alone as alone, With as partner}
+use Rattle.log_theory.specs.Pairing.{Logs, earliest}
+use Rattle.log_theory.specs.Report.{nobody}
+
+-- records with no partner yet
+abbrev pub freeIn : List ℕ → ℕ → Bool
+freeIn owners j = eqb (getD owners j nobody) nobody
+
+abbrev pub Below : ℕ → Partner → Type 0
+Below n alone = Unit {0}
+Below n (partner g) = g < n
+
+-- each entry's record, each record's entry, and the pairs so far
+pub record Lists : Type 0 where
+  pub partners : List ℕ
+  pub owners : List ℕ
+  pub pairs : ℕ
+
+abbrev pub paired : Lists → ℕ → Partner → Lists
+paired s i alone = s
+paired s i (partner g) = record { partners = set (s .partners) i g; owners = set (s .owners) g i; pairs = s .pairs + 1 }
+
+-- l entries are left, from i on
+unfoldable pub pairUp : Logs → ℕ → ℕ → Lists → Lists
+pairUp L zero i s = s
+pairUp L (suc l) i s = pairUp L l (i + 1) (paired s i (earliest L (freeIn (s .owners)) i))
+
+-- lists of n entries and m records that name nobody
+abbrev pub blank : ℕ → ℕ → Lists
+blank n m = record { partners = replicate n nobody; owners = replicate m nobody; pairs = 0 }
