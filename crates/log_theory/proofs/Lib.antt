@@ -6,4 +6,6 @@ pub mod Counts
 pub mod Examples
 pub mod Window
 pub mod Link
+pub mod Turns
+pub mod Choices
 pub mod PairingLaws

@@ -13,9 +13,9 @@ use borrow.Author.Tests.{eq-eqb, ne-eqb}
 use Rattle.log_theory.specs.declared.Partner.{Partner}
 use Rattle.log_theory.specs.declared.Partner.the-variants.{Alone as alone, With as partner}
 use Rattle.log_theory.specs.Pairing.{Logs, Pair, All, without, cand, earliest, taking, greedy, every, shown, count, one, push, pairsOf}
-use Rattle.log_theory.specs.Report.{nobody, index, indices, entryOf, entriesFrom}
+use Rattle.log_theory.specs.Report.{nobody, index, indices, entryOf, entriesFrom, Lists, reportOf}
 use Rattle.log_theory.specs.PairingLaws.{Earliest}
-use Rattle.log_theory.specs.PairsModel.{freeIn, Lists, paired, pairUp, blank}
+use Rattle.log_theory.specs.PairsModel.{freeIn, paired, pairUp, blank}
 use Rattle.log_theory.proofs.Basics.{without-other, true-at, same-or-not, cand-without}
 use Rattle.log_theory.proofs.Picks.{found}
 use Rattle.log_theory.proofs.Best.{Fits, equal-or-not, greedy-fits}
@@ -184,5 +184,6 @@ module _ (L : Logs) where
         from-zero k = omega arith
 
     -- the two lists and the count are those of the pairing that is reported
-    pub reported : pairUp L (L .heard) 0 start ≡ record { partners = indices (shown L); owners = entriesFrom (pairsOf 0 (shown L)) (L .sent) 0; pairs = length (pairsOf 0 (shown L)) }
+    pub reported : pairUp L (L .heard) 0 start ≡ reportOf L
+    unfolding reportOf
     reported = λ t. record { partners = partners-are t; owners = owners-are t; pairs = pairs-are t }

@@ -1,13 +1,15 @@
 -- The pairing as the code makes it: two lists of indices and a count, changed entry by entry.
-use mathlib.Core.Bool.{Bool}
+use mathlib.Core.Bool.{Bool, false}
+use mathlib.Core.Logic.{_⊎_}
+use mathlib.Core.Path.{_≡_}
 use mathlib.Core.List.{List}
-use Prim.Native.Nat.{ℕ, zero, suc, _+_, _<_}
+use Prim.Native.Nat.{ℕ, zero, suc, _+_, _≤_, _<_}
 use lib.Dec.{eqb}
 use lib.ListN.{getD, set, replicate}
 use Rattle.log_theory.specs.declared.Partner.{Partner}
 use Rattle.log_theory.specs.declared.Partner.the-variants.{Alone as alone, With as partner}
 use Rattle.log_theory.specs.Pairing.{Logs, earliest}
-use Rattle.log_theory.specs.Report.{nobody}
+use Rattle.log_theory.specs.Report.{nobody, Lists}
 
 -- records with no partner yet
 abbrev pub freeIn : List ℕ → ℕ → Bool
@@ -16,12 +18,6 @@ freeIn owners j = eqb (getD owners j nobody) nobody
 abbrev pub Below : ℕ → Partner → Type 0
 Below n alone = Unit {0}
 Below n (partner g) = g < n
-
--- each entry's record, each record's entry, and the pairs so far
-pub record Lists : Type 0 where
-  pub partners : List ℕ
-  pub owners : List ℕ
-  pub pairs : ℕ
 
 abbrev pub paired : Lists → ℕ → Partner → Lists
 paired s i alone = s
@@ -35,3 +31,11 @@ pairUp L (suc l) i s = pairUp L l (i + 1) (paired s i (earliest L (freeIn (s .ow
 -- lists of n entries and m records that name nobody
 abbrev pub blank : ℕ → ℕ → Lists
 blank n m = record { partners = replicate n nobody; owners = replicate m nobody; pairs = 0 }
+
+-- a record's first sample is at most `back` below that of any record before it
+pub record Back (first : ℕ → ℕ) (n back : ℕ) : Type 0 where
+  pub steps : (j k : ℕ) → j ≤ k → k < n → first j ≤ first k + back
+
+-- the records before lo are taken, or too early for an entry at sample h
+pub record Past (first : ℕ → ℕ) (d : ℕ) (F : ℕ → Bool) (h lo : ℕ) : Type 0 where
+  pub gone : (k : ℕ) → k < lo → (F k ≡ false) ⊎ (first k + d < h)

@@ -5,9 +5,10 @@ use mathlib.Core.Logic.{_⊎_}
 use mathlib.Core.List.{List, [], _∷_}
 use Prim.Native.Nat.{ℕ, zero, suc, _+_}
 use lib.Dec.{eqb}
+use lib.ListN.{length}
 use Rattle.log_theory.specs.declared.Partner.{Partner}
 use Rattle.log_theory.specs.declared.Partner.the-variants.{Alone as alone, With as partner}
-use Rattle.log_theory.specs.Pairing.{Pair, taking}
+use Rattle.log_theory.specs.Pairing.{Logs, Pair, taking, shown, pairsOf}
 
 -- 2^64 - 1 for no partner
 abbrev pub nobody : ℕ
@@ -30,6 +31,15 @@ entryOf (x ∷ ps) j = cond (eqb (x .reply) j) (partner (x .entry)) (entryOf ps 
 unfoldable pub entriesFrom : List Pair → ℕ → ℕ → List ℕ
 entriesFrom ps zero j = []
 entriesFrom ps (suc n) j = index (entryOf ps j) ∷ entriesFrom ps n (suc j)
+
+-- each entry's record, each record's entry, and the number of pairs
+pub record Lists : Type 0 where
+  pub partners : List ℕ
+  pub owners : List ℕ
+  pub pairs : ℕ
+
+unfoldable pub reportOf : Logs → Lists
+reportOf L = record { partners = indices (shown L); owners = entriesFrom (pairsOf 0 (shown L)) (L .sent) 0; pairs = length (pairsOf 0 (shown L)) }
 
 abbrev pub In : Pair → List Pair → Type 0
 In x [] = ⊥
