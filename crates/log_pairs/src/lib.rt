@@ -5,7 +5,7 @@ ghost use Prim.Native.Nat.{_+_, _/_, _<_, _≤_};
 ghost use lib.Dec.{leb, ltb};
 ghost use lib.ListN.{length, replicate};
 ghost use Rattle.log_theory.specs.Pairing.{cand, better as betterOf, earliest as earliestOf};
-ghost use Rattle.log_theory.specs.Report.{nobody, Lists};
+ghost use Rattle.log_theory.specs.Report.{nobody, Lists, reportOf};
 ghost use Rattle.log_theory.specs.PairsModel.{freeIn, Below, paired, pairUp, Back, Past};
 ghost use Rattle.log_entry.specs.Entries.{sampleOf, firstOf, logs};
 ghost use Rattle.log_pairs.specs.Paired.{pairedOf};
@@ -29,7 +29,15 @@ fn candidate(log: &[u8], i: usize, records: &[u8], j: usize, owners: &[u64], d: 
 }
 
 // The earlier one of what was found and record j.
-fn better(log: &[u8], i: usize, records: &[u8], j: usize, owners: &[u64], d: u64, best: Partner) -> Partner
+fn better(
+    log: &[u8],
+    i: usize,
+    records: &[u8],
+    j: usize,
+    owners: &[u64],
+    d: u64,
+    best: Partner,
+) -> Partner
     requires { ⌜ j < length (now owners) ⌝ }
     ensures { λ r. ⌜ r ≡ betterOf (logs (now (log .entry)) (now (records .entry)) d) (freeIn (now (owners .entry))) i j best ⌝ }
 {
@@ -60,7 +68,16 @@ fn limit(records: &[u8], best: Partner, latest: u64, back: u64) -> u64
 }
 
 // The earliest free and allowed record for entry i, whose sample is h.
-fn earliest(log: &[u8], i: usize, records: &[u8], owners: &[u64], h: u64, lo: usize, back: u64, d: u64) -> Partner
+fn earliest(
+    log: &[u8],
+    i: usize,
+    records: &[u8],
+    owners: &[u64],
+    h: u64,
+    lo: usize,
+    back: u64,
+    d: u64,
+) -> Partner
     requires { ⌜ (h ≡ sampleOf (now log) i) × (lo ≤ length (now records) / 66) × (length (now owners) ≡ length (now records) / 66) × Past (firstOf (now records)) d (freeIn (now owners)) h lo × Back (firstOf (now records)) (length (now records) / 66) back ⌝ }
     ensures { λ r. ⌜ (r ≡ earliestOf (logs (now (log .entry)) (now (records .entry)) d) (freeIn (now (owners .entry))) i) × Below (length (now (records .entry)) / 66) r ⌝ }
 {
@@ -91,21 +108,21 @@ fn gone(records: &[u8], k: usize, owners: &[u64], h: u64, d: u64) -> bool
 }
 
 // The mark, from the start where the log falls.
-fn mark(lo: usize, before: u64, h: u64) -> usize
-    ensures { λ r. ⌜ r ≡ cond (leb before h) lo 0 ⌝ }
+fn mark(lo: usize, previous: u64, h: u64) -> usize
+    ensures { λ r. ⌜ r ≡ cond (leb previous h) lo 0 ⌝ }
 {
-    if before <= h {
+    if previous <= h {
         return lo;
     }
     0
 }
 
-// The mark moved past records that are taken or too early, for an entry at sample h that follows one at `before`.
-fn advance(records: &[u8], owners: &[u64], before: u64, h: u64, lo: usize, d: u64) -> usize
-    requires { ⌜ (lo ≤ length (now owners)) × Past (firstOf (now records)) d (freeIn (now owners)) before lo ⌝ }
+// The mark moved past records that are taken or too early, for an entry at sample h that follows one at `previous`.
+fn advance(records: &[u8], owners: &[u64], previous: u64, h: u64, lo: usize, d: u64) -> usize
+    requires { ⌜ (lo ≤ length (now owners)) × Past (firstOf (now records)) d (freeIn (now owners)) previous lo ⌝ }
     ensures { λ r. ⌜ (r ≤ length (now (owners .entry))) × Past (firstOf (now (records .entry))) d (freeIn (now (owners .entry))) h r ⌝ }
 {
-    let mut k = mark(lo, before, h);
+    let mut k = mark(lo, previous, h);
     while k < owners.len() {
         if gone(records, k, owners, h, d) {
             k = k + 1;
@@ -175,28 +192,58 @@ fn settle(partners: &mut [u64], owners: &mut [u64], i: usize, p: Partner, pairs:
 }
 
 // Each entry's record, one entry after the other; the number of pairs.
-fn pair_each(log: &[u8], records: &[u8], d: u64, back: u64, partners: &mut [u64], owners: &mut [u64]) -> usize
+fn pair_each(
+    log: &[u8],
+    records: &[u8],
+    d: u64,
+    back: u64,
+    partners: &mut [u64],
+    owners: &mut [u64],
+) -> usize
     requires { ⌜ Back (firstOf (now records)) (length (now records) / 66) back × (length (now partners) ≡ length (now log) / 23) × (length (now owners) ≡ length (now records) / 66) ⌝ }
     ensures { λ r. ⌜ record { partners = now (partners .exit); owners = now (owners .exit); pairs = r } ≡ pairUp (logs (now (log .entry)) (now (records .entry)) d) (length (now (log .entry)) / 23) 0 (record { partners = now (partners .entry); owners = now (owners .entry); pairs = 0 }) ⌝ }
 {
     let n = log.len() / ENTRY_LEN;
     let mut pairs: usize = 0;
     let mut lo: usize = 0;
-    let mut before: u64 = 0;
+    let mut previous: u64 = 0;
     let mut i: usize = 0;
     while i < n {
         let h = log_entry::sample_at(log, i);
-        lo = advance(records, owners, before, h, lo, d);
+        lo = advance(records, owners, previous, h, lo, d);
         let p = earliest(log, i, records, owners, h, lo, back, d);
         pairs = settle(partners, owners, i, p, pairs);
-        before = h;
+        previous = h;
         i = i + 1;
     }
     pairs
 }
 
+// The pairing in two lists of fitting lengths.
+fn pair_fitting(
+    log: &[u8],
+    records: &[u8],
+    d: u64,
+    partners: &mut [u64],
+    owners: &mut [u64],
+) -> usize
+    requires { ⌜ (length (now partners) ≡ length (now log) / 23) × (length (now owners) ≡ length (now records) / 66) ⌝ }
+    ensures { λ r. ⌜ record { partners = now (partners .exit); owners = now (owners .exit); pairs = r } ≡ reportOf (logs (now (log .entry)) (now (records .entry)) d) ⌝ }
+{
+    fill(partners);
+    fill(owners);
+    let back = step_back(records);
+    pair_each(log, records, d, back, partners, owners)
+}
+
 // The pairing, in two lists with one number for each entry and each record; the number of pairs. Lists of other lengths are left as they are.
-pub fn pair_up(log: &[u8], records: &[u8], d: u64, partners: &mut [u64], owners: &mut [u64]) -> usize
+pub fn pair_up(
+    log: &[u8],
+    records: &[u8],
+    d: u64,
+    partners: &mut [u64],
+    owners: &mut [u64],
+) -> usize
     ensures { λ r. ⌜ record { partners = now (partners .exit); owners = now (owners .exit); pairs = r } ≡ pairedOf (now (log .entry)) (now (records .entry)) d (now (partners .entry)) (now (owners .entry)) ⌝ }
 {
     if partners.len() != log.len() / ENTRY_LEN {
@@ -205,8 +252,5 @@ pub fn pair_up(log: &[u8], records: &[u8], d: u64, partners: &mut [u64], owners:
     if owners.len() != records.len() / RECORD_LEN {
         return 0;
     }
-    fill(partners);
-    fill(owners);
-    let back = step_back(records);
-    pair_each(log, records, d, back, partners, owners)
+    pair_fitting(log, records, d, partners, owners)
 }

@@ -30,7 +30,7 @@ module _ (L : Logs) (F : ℕ → Bool) (i j : ℕ) where
   pub better-later : (b : Partner) (g : ℕ) → b ≡ partner g → cand L F i j ≡ true → L .first g ≤ L .first j → partner g ≡ better L F i j b
   better-later b g q e l = both-is g false e (le-ltb (L .first j) (L .first g) l) ∙ sym (ap (better L F i j) q)
 
-getD-other : (l : List ℕ) (j a b : ℕ) → j < length l → getD l j a ≡ getD l j b
+pub getD-other : (l : List ℕ) (j a b : ℕ) → j < length l → getD l j a ≡ getD l j b
 getD-other mathlib.Core.List.[] j a b h = absurd (omega arith)
 getD-other (mathlib.Core.List._∷_ x l) zero a b h = refl
 getD-other (mathlib.Core.List._∷_ x l) (suc j) a b h = getD-other l j a b (omega arith)

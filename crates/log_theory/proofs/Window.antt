@@ -108,6 +108,7 @@ module _ (first : ℕ → ℕ) where
       same : (j : ℕ) → (j ≡ n) ⊎ (j < n) → first j ≤ first n + b
       same j (inl g) = subst (λ (x : ℕ). first x ≤ first n + b) (sym g) (omega arith)
       same j (inr lt) = omega (arith, o .over j lt)
+
       at : (j k : ℕ) → j ≤ k → (k ≡ n) ⊎ (k < n) → first j ≤ first k + b
       at j k h (inl g) = subst (λ (x : ℕ). first j ≤ first x + b) (sym g) (same j (last-or j n (omega arith)))
       at j k h (inr lt) = omega (arith, t .steps j k h lt)

@@ -2,9 +2,9 @@
 use mathlib.Core.Path.{_≡_, refl, sym, ap, _∙_}
 use mathlib.Core.Bool.{Bool, true, false, not, cond}
 use mathlib.Core.Logic.{_⊎_, inl, inr}
-use Prim.Native.Nat.{ℕ, _+_, _-_, _≤_, _<_}
+use Prim.Native.Nat.{ℕ, suc, _+_, _-_, _≤_, _<_}
 use native.Mathlib.Omega.{arith}
-use lib.Dec.{T, leb, leb→le, nleb→lt}
+use lib.Dec.{T, leb, ltb, leb→le, nleb→lt}
 use borrow.Author.Tests.{le-leb, lt-leb}
 use Rattle.log_theory.specs.Pairing.{both, near}
 use Rattle.log_tolerance.specs.Capped.{capped}
@@ -54,3 +54,9 @@ capped-below n f le lt = go (le-or-lt n 18446744073709551615)
     go : (n ≤ 18446744073709551615) ⊎ (18446744073709551615 < n) → n < f
     go (inl h) = omega (arith, capped-within n h)
     go (inr h) = absurd (omega (arith, capped-over n h))
+
+pub capped-ltb : (n f : ℕ) → f ≤ 18446744073709551615 → ltb (capped n) f ≡ ltb n f
+capped-ltb n f le = leb-same (suc (capped n)) f (suc n) f (λ q. capped-below n f le q) (λ q. at q)
+  where
+    at : suc n ≤ f → suc (capped n) ≤ f
+    at q = omega (arith, capped-within n (omega arith))

@@ -39,7 +39,7 @@ sample-at-requires-2 : tie.Need-sample-at-requires-2
 sample-at-requires-2 c κs = search needs
 
 returns-2 : tie.Need-returns-2
-returns-2 c = 
+returns-2 c =
     let a = c .before .before .before .before .before .before .before .before .args in
     entry-after (a .log .now) (a .i) (c .before .before .before .before .before .wide .result) (c .before .before .before .before .before .wide .ensures .0) (sym (c .before .before .before .before .known-length .ensures) ∙ c .before .before .before .if1 .taken) (c .before .before .if2 .left) (c .before .sample-at .result) (c .sample-at2 .result) (c .before .sample-at .ensures) (c .sample-at2 .ensures)
 

@@ -31,19 +31,19 @@ loop-less : tie.Need-loop-less Inv-loop μ-loop
 loop-less c = search needs
 
 loop-again : tie.Need-loop-again Inv-loop μ-loop
-loop-again c = 
+loop-again c =
     let l = c .before .before .before .loop in
     let g = c .before .before .before .before .before .args .log .now in
     (search needs, l .inv .1, sym (accepted-on g (length g / 23) (l .k) (c .before .before .loop-test .taken) (sym (c .before .entry-accepts .ensures) ∙ c .if1 .taken)) ∙ l .inv .2)
 
 returns : tie.Need-returns Inv-loop μ-loop
-returns c = 
+returns c =
     let l = c .before .before .before .loop in
     let g = c .before .before .before .before .before .args .log .now in
     sym (accepted-off g (length g / 23) (l .k) (c .before .before .loop-test .taken) (sym (c .before .entry-accepts .ensures) ∙ c .if1 .left)) ∙ l .inv .2
 
 returns-2 : tie.Need-returns-2 Inv-loop μ-loop
-returns-2 c = 
+returns-2 c =
     let l = c .before .loop in
     let g = c .before .before .before .args .log .now in
     sym (accepted-end g (length g / 23) (l .k) (c .loop-test .left)) ∙ l .inv .2

@@ -1,3 +1,8 @@
+-- `log_pairs::gone` meets its contract.
+use Rattle.log_entry.specs.Entries.{firstOf}
+use lib.Dec.{ltb}
+use Prim.Native.Nat.{_+_}
+use Rattle.log_pairs.proofs.Marks.{gone-taken, gone-early}
 use borrow.Author.Needs.{needs}
 use native.Mathlib.Omega.{arith}
 use Rattle.log_pairs.proofs.gone.Statement.{statement}
@@ -7,29 +12,23 @@ use Rattle.log_pairs.proofs.gone.Lts as lts
 use Rattle.log_entry.proofs.first_at.Reads as first-at-reads
 use Rattle.log_tolerance.proofs.sum.Reads as sum-reads
 
--- src/lib.rt:87:8
 mul-if1 : tie.Need-mul-if1
 mul-if1 c = search needs
 
--- src/lib.rt:87:8
 shared-slice-read-if1 : tie.Need-shared-slice-read-if1
 shared-slice-read-if1 c = search needs
 
--- src/lib.rt:88:9
 returns : tie.Need-returns
-returns c = search needs
+returns c = let a = c .before .before .before .before .args in gone-taken (a .owners .now) (a .k) (c .before .before .before .before .pre) (ltb (firstOf (a .records .now) (a .k) + a .d) (a .h)) (c .if1 .taken)
 
--- src/lib.rt:90:24
 first-at-requires : tie.Need-first-at-requires
 first-at-requires c κs = search needs
 
--- src/lib.rt:90:5
 sum-requires : tie.Need-sum-requires
 sum-requires c κs = search needs
 
--- src/lib.rt:83:1
 returns-2 : tie.Need-returns-2
-returns-2 c = search needs
+returns-2 c = let a = c .before .before .before .before .before .before .args in gone-early (a .owners .now) (a .k) (c .before .before .before .before .before .before .pre) (firstOf (a .records .now) (a .k)) (a .d) (a .h) (c .before .first-at .result) (c .sum .result) (c .before .before .if1 .left) (search needs) (c .before .first-at .ensures) (c .sum .ensures)
 
 pub gone-spec : {M : Type 1} → statement M
 gone-spec =

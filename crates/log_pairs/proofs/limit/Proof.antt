@@ -1,3 +1,6 @@
+-- `log_pairs::limit` meets its contract.
+use Rattle.log_entry.specs.Entries.{firstOf}
+use Rattle.log_pairs.proofs.Marks.{limit-none, limit-found}
 use borrow.Author.Needs.{needs}
 use native.Mathlib.Omega.{arith}
 use Rattle.log_pairs.proofs.limit.Statement.{statement}
@@ -7,29 +10,23 @@ use Rattle.log_pairs.proofs.limit.Lts as lts
 use Rattle.log_entry.proofs.first_at.Reads as first-at-reads
 use Rattle.log_tolerance.proofs.sum.Reads as sum-reads
 
--- src/lib.rt:57:27
 enum-told : tie.Need-enum-told
 enum-told c = search needs
 
--- src/lib.rt:58:23
 enum-known-best : tie.Need-enum-known-best
 enum-known-best c = search needs
 
--- src/lib.rt:58:48
 first-at-requires : tie.Need-first-at-requires
 first-at-requires c κs = search needs
 
--- src/lib.rt:58:29
 sum-requires : tie.Need-sum-requires
 sum-requires c κs = search needs
 
--- src/lib.rt:53:1
 returns : tie.Need-returns
-returns c = search needs
+returns c = let a = c .before .before .before .args in limit-none (firstOf (a .records .now)) (a .back) (a .latest) (a .best) (c .enum-told .given .1)
 
--- src/lib.rt:53:1
 returns-2 : tie.Need-returns-2
-returns-2 c = search needs
+returns-2 c = let a = c .before .before .before .before .before .before .args in limit-found (firstOf (a .records .now)) (a .back) (a .latest) (a .best) (c .before .first-at .result) (c .sum .result) _ (c .before .before .before .best .given .1) (c .before .first-at .ensures) (c .sum .ensures)
 
 pub limit-spec : {M : Type 1} → statement M
 limit-spec =

@@ -1,3 +1,6 @@
+-- `log_pairs::settle` meets its contract.
+use lib.ListN.{length}
+use Rattle.log_theory.proofs.Turns.{below-with, settled, settled-none}
 use borrow.Author.Needs.{needs}
 use native.Mathlib.Omega.{arith}
 use Rattle.log_pairs.proofs.settle.Statement.{statement}
@@ -5,48 +8,38 @@ use Rattle.log_pairs.proofs.settle.Tie as tie
 use Rattle.log_pairs.proofs.settle.Reads as reads
 use Rattle.log_pairs.proofs.settle.Lts as lts
 
--- src/lib.rt:169:26
 enum-known-p : tie.Need-enum-known-p
 enum-known-p c = search needs
 
--- src/lib.rt:170:9
 mul-partners : tie.Need-mul-partners
 mul-partners c = search needs
 
--- src/lib.rt:170:9
 slice-write-partners : tie.Need-slice-write-partners
 slice-write-partners c = search needs
 
--- src/lib.rt:171:9
 mul-owners : tie.Need-mul-owners
-mul-owners c = search needs
+mul-owners c = omega (arith, below-with {n = length (c .before .before .before .args .owners .now)} (c .before .p .given .1) (c .before .before .before .pre .1))
 
--- src/lib.rt:171:9
 slice-write-owners : tie.Need-slice-write-owners
-slice-write-owners c = search needs
+slice-write-owners c = below-with {n = length (c .before .before .before .args .owners .now)} (c .before .p .given .1) (c .before .before .before .pre .1)
 
--- src/lib.rt:172:16
 add-result : tie.Need-add-result
 add-result c = search needs
 
--- src/lib.rt:172:9
 same-length : tie.Need-same-length
 same-length c = search needs
 
--- src/lib.rt:172:9
 same-length-2 : tie.Need-same-length-2
 same-length-2 c = search needs
 
--- src/lib.rt:172:9
 returns : tie.Need-returns
-returns c = search needs
+returns c = let a = c .before .before .before .args in settled (a .partners .now) (a .owners .now) (a .pairs) (a .i) (c .before .p .given .1)
 
 enum-told : tie.Need-enum-told
 enum-told c = search needs
 
--- src/lib.rt:165:1
 returns-2 : tie.Need-returns-2
-returns-2 c = search needs
+returns-2 c = let a = c .before .before .args in settled-none (a .partners .now) (a .owners .now) (a .pairs) (a .i) (c .enum-told .given .1)
 
 pub settle-spec : {M : Type 1} → statement M
 settle-spec =
