@@ -91,5 +91,8 @@ module _ (log records : List ℕ) (d : ℕ) (p o : List ℕ) where
     pub other-owners : (length o ≡ length records / 66 → ⊥) → kept p o ≡ pairedOf log records d p o
     other-owners h = sym (partners-fit ∙ ap (λ (t : Bool). cond t (reportOf (logs log records d)) (kept p o)) (ne-eqb (length o) (length records / 66) h))
 
+    pub both-fits : length o ≡ length records / 66 → pairedOf log records d p o ≡ reportOf (logs log records d)
+    both-fits h = partners-fit ∙ ap (λ (t : Bool). cond t (reportOf (logs log records d)) (kept p o)) (eq-eqb (length o) (length records / 66) h)
+
     pub both-fit : (s : Lists) → length o ≡ length records / 66 → s ≡ reportOf (logs log records d) → s ≡ pairedOf log records d p o
-    both-fit s h q = q ∙ sym (partners-fit ∙ ap (λ (t : Bool). cond t (reportOf (logs log records d)) (kept p o)) (eq-eqb (length o) (length records / 66) h))
+    both-fit s h q = q ∙ sym (both-fits h)
