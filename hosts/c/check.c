@@ -1,5 +1,6 @@
 /* What the header says of lengths, tried: a pointer lent with length 0 may be NULL, and settings, prototypes and working
- * memory of another length are refused 9 before anything else is looked at. It exits with 0 where all is so.
+ * memory of another length are refused 9 before anything else is looked at. And what it says of levels that are refused. It
+ * exits with 0 where all is so.
  *
  *     c_check */
 #include "inputs.h"
@@ -68,11 +69,28 @@ static void check_calls(void) {
     expect("no draws, no noise, no records", MORE1090_STOP_WANTS_DRAWS, called(state, 0, 0, 400, 0).stop);
     expect("no noise", MORE1090_STOP_WANTS_NOISE, called(state, sizeof draws, 0, 400, sizeof records).stop);
     expect("no output", MORE1090_ERR_LENGTH, called(state, sizeof draws, 2, 0, sizeof records).refusal);
-    expect("noise for one sample", 1, called(state, sizeof draws, 2, 400, 0).samples);
+    expect("noise for one sample", 1, called(state, sizeof draws, 2, 400, 0).samples_written);
     put_f64(draws, 20.0); /* a first reply that starts within 32 samples: its record comes before any sample */
     expect("no records", MORE1090_STOP_RECORDS_FULL, called(state, sizeof draws, 2, 400, 0).stop);
     expect("nothing", MORE1090_ERR_LENGTH,
            more1090_run(state, NULL, 0, NULL, 0, NULL, 0, NULL, 0, NULL, 0, NULL, 0, NULL, 0).refusal);
+}
+
+static uint32_t bits_of(float x) {
+    uint32_t bits;
+    memcpy(&bits, &x, 4);
+    return bits;
+}
+
+static void check_levels(void) {
+    const uint64_t too_high[] = {2001, 65536, 4294967296, UINT64_MAX};
+    float amplitude = 0.0f;
+    expect("200.0 dB", MORE1090_OK, more1090_level(MORE1090_HIGHEST_LEVEL, &amplitude));
+    expect("its bits", 0x45989680, bits_of(amplitude));
+    for (int k = 0; k < 4; k++) {
+        expect("a level above 200.0 dB", MORE1090_ERR_LEVEL, more1090_level(too_high[k], &amplitude));
+        expect("what it leaves", 0x45989680, bits_of(amplitude));
+    }
 }
 
 int main(void) {
@@ -82,5 +100,6 @@ int main(void) {
     expect("all that is asked for", MORE1090_OK, opened_without(NULL));
     check_opening();
     check_calls();
+    check_levels();
     return failed;
 }

@@ -46,10 +46,10 @@ pub fn pending(all: Distributions, last: f64, rest: &[u8]) -> MessageConfig
     let kind = kind_of(type_drawn(draw::byte_at(rest, 8)));
     MessageConfig {
         time: draw::time_after(last, rest),
-        cn0: le_floats::f64_at(rest, 9),
-        offset: drawn_values::offset_of(carrier, le_read_floats::f64_at(rest, 21)),
-        phase: drawn_values::phase_of(phase, le_read_floats::f64_at(rest, 29)),
-        error: drawn_values::error_of(clock, le_read_floats::f64_at(rest, 37)),
+        cn0: le_read_floats::f64_at(rest, 9),
+        offset: draw_parameters::offset_of(carrier, le_read_floats::f64_at(rest, 21)),
+        phase: draw_parameters::phase_of(phase, le_read_floats::f64_at(rest, 29)),
+        error: draw_parameters::error_of(clock, le_read_floats::f64_at(rest, 37)),
         reply: Reply {
             kind: kind,
             bytes: [0; 14],

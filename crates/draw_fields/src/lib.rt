@@ -47,7 +47,7 @@ pub fn picks(s: &[u8]) -> Picks
         capability: draw::byte_at(s, 46),
         overlay: draw::byte_at(s, 47),
         bytes: b,
-        data: le_at::u16_at(s, 62),
+        data: le_read_or_zero::u16_at(s, 62),
         spi: draw::byte_at(s, 64),
     }
 }
@@ -58,13 +58,13 @@ pub fn read(s: &[u8]) -> Draw
 {
     let p = picks(s);
     Draw {
-        gap: le_floats::f64_at(s, 0),
+        gap: le_read_floats::f64_at(s, 0),
         kind: draw::byte_at(s, 8),
-        cn0: le_floats::f64_at(s, 9),
-        amplitude: le_floats::f32_at(s, 17),
-        carrier: le_floats::f64_at(s, 21),
-        phase: le_floats::f64_at(s, 29),
-        clock: le_floats::f64_at(s, 37),
+        cn0: le_read_floats::f64_at(s, 9),
+        amplitude: le_read_floats::f32_at(s, 17),
+        carrier: le_read_floats::f64_at(s, 21),
+        phase: le_read_floats::f64_at(s, 29),
+        clock: le_read_floats::f64_at(s, 37),
         picks: p,
     }
 }

@@ -48,8 +48,8 @@ fn wave_of(c: MessageConfig, amplitude: f32, delays: Delays, len: usize) -> Wave
 {
     let o = c.onset(delays);
     Wave {
-        clock: filter_clock::start_clock(o.clock_phase),
-        step: filter_clock::clock_step(o.clock_error),
+        clock: filterbank_apply::start_clock(o.clock_phase),
+        step: filterbank_apply::clock_step(o.clock_error),
         phase: o.carrier_phase,
         rate: o.carrier_rate,
         amplitude: amplitude,

@@ -91,11 +91,11 @@ fn first_out_of_range(noise: &[f32]) -> NoiseFault
     NoiseFault::None
 }
 
-fn still_in_range(in_range: bool, x: f32) -> bool
-    ensures { λ r. ⌜ r ≡ cond (outOfRange x) false in_range ⌝ }
+fn still_in_range(within: bool, x: f32) -> bool
+    ensures { λ r. ⌜ r ≡ cond (outOfRange x) false within ⌝ }
 {
     if float_range::within_f32(x, NOISE_LIMIT) {
-        return in_range;
+        return within;
     }
     false
 }
@@ -104,13 +104,13 @@ fn still_in_range(in_range: bool, x: f32) -> bool
 fn all_in_range(noise: &[f32]) -> bool
     ensures { λ r. ⌜ cond r (outOfRangeFrom 0 (now (noise .entry))) none ≡ none ⌝ }
 {
-    let mut in_range = true;
+    let mut within = true;
     let mut k: usize = 0;
     while k < noise.len() {
-        in_range = still_in_range(in_range, noise[k]);
+        within = still_in_range(within, noise[k]);
         k = k + 1;
     }
-    in_range
+    within
 }
 
 // Refusal 8.

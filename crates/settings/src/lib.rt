@@ -57,13 +57,13 @@ fn rates_at(s: &[u8], at: usize) -> MessagesPerSecond
     ensures { λ r. ⌜ r ≡ ratesAt (now (s .entry)) at ⌝ }
 {
     MessagesPerSecond {
-        extended_squitter: le_floats::f64_at(s, at),
-        acquisition_squitter: le_floats::f64_at(s, at + 8),
-        short_ap: le_floats::f64_at(s, at + 16),
-        all_call_reply: le_floats::f64_at(s, at + 24),
-        long_ap: le_floats::f64_at(s, at + 32),
-        military_extended_squitter: le_floats::f64_at(s, at + 40),
-        mode_ac: le_floats::f64_at(s, at + 48),
+        extended_squitter: le_read_floats::f64_at(s, at),
+        acquisition_squitter: le_read_floats::f64_at(s, at + 8),
+        short_ap: le_read_floats::f64_at(s, at + 16),
+        all_call_reply: le_read_floats::f64_at(s, at + 24),
+        long_ap: le_read_floats::f64_at(s, at + 32),
+        military_extended_squitter: le_read_floats::f64_at(s, at + 40),
+        mode_ac: le_read_floats::f64_at(s, at + 48),
     }
 }
 
@@ -72,9 +72,9 @@ fn raw_distribution_at(s: &[u8], at: usize) -> RawDistribution
     ensures { λ r. ⌜ r ≡ rawDistributionAt (now (s .entry)) at ⌝ }
 {
     RawDistribution {
-        kind: le_at::byte_at(s, at),
-        first: le_floats::f64_at(s, at + 1),
-        second: le_floats::f64_at(s, at + 9),
+        kind: le_read_or_zero::byte_at(s, at),
+        first: le_read_floats::f64_at(s, at + 1),
+        second: le_read_floats::f64_at(s, at + 9),
     }
 }
 
@@ -87,8 +87,8 @@ pub fn read(s: &[u8]) -> Settings
     let phase = raw_distribution_at(s, 85);
     let clock = raw_distribution_at(s, 102);
     Settings {
-        seconds: le_at::u64_at(s, 0),
-        nanoseconds: le_at::u32_at(s, 8),
+        seconds: le_read_or_zero::u64_at(s, 0),
+        nanoseconds: le_read_or_zero::u32_at(s, 8),
         rates: rates,
         carrier: carrier,
         phase: phase,

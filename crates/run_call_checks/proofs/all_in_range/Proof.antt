@@ -1,4 +1,4 @@
--- `all_in_range` meets its contract. The loop's invariant: while all were quiet, the first fault of the rest is that of all.
+-- `all_in_range` meets its contract. The loop's invariant: while all were in range, the first fault of the rest is that of all.
 use mathlib.Core.Path.{_≡_, refl}
 use mathlib.Core.Bool.{cond}
 use mathlib.Core.Option.{none}
@@ -11,10 +11,10 @@ use Rattle.run_call_checks.proofs.all_in_range.Statement.{statement}
 use Rattle.run_call_checks.proofs.all_in_range.Tie as tie
 
 abbrev Inv-loop : tie.InvT-loop
-Inv-loop noise in_range₀ k₀ in_range k = (k ≤ length noise) × (cond in_range (outOfRangeFrom k (drop k noise)) none ≡ cond in_range (outOfRangeFrom 0 noise) none)
+Inv-loop noise within₀ k₀ within k = (k ≤ length noise) × (cond within (outOfRangeFrom k (drop k noise)) none ≡ cond within (outOfRangeFrom 0 noise) none)
 
 abbrev μ-loop : tie.MeasureT-loop
-μ-loop noise in_range₀ k₀ in_range k = length noise - k
+μ-loop noise within₀ k₀ within k = length noise - k
 
 loop-holds : tie.Need-loop-holds Inv-loop μ-loop
 loop-holds c = (search needs, refl)
@@ -42,7 +42,7 @@ loop-again c =
 returns : tie.Need-returns Inv-loop μ-loop
 returns c =
     let l = c .before .loop in
-    in-range-end (c .before .before .before .args .noise .now) (l .k) (l .in-range) (c .loop-test .left) (l .inv .1)
+    in-range-end (c .before .before .before .args .noise .now) (l .k) (l .within) (c .loop-test .left) (l .inv .1)
 
 pub all-in-range-spec : {M : Type 1} → statement M
 all-in-range-spec =

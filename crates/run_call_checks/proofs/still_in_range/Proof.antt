@@ -12,7 +12,7 @@ returns : tie.Need-returns
 returns c = in-range-value _ _ (sym (c .before .within-f32 .ensures) ∙ c .if1 .taken)
 
 returns-2 : tie.Need-returns-2
-returns-2 c = out-of-range-value _ (c .before .before .args .in-range) (sym (c .before .within-f32 .ensures) ∙ c .if1 .left)
+returns-2 c = out-of-range-value _ (c .before .before .args .within) (sym (c .before .within-f32 .ensures) ∙ c .if1 .left)
 
 pub still-in-range-spec : {M : Type 1} → statement M
 still-in-range-spec = tie.close (tie.spec within-f32-requires returns returns-2)
