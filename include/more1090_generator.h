@@ -70,7 +70,10 @@ enum {
     MORE1090_ERR_NOISE = 8,         /* a noise value not finite or above 64 in size; value: its place */
     MORE1090_ERR_LENGTH = 9,          /* settings, memory, a prototype, output (0 or odd) or draws (no multiple of 65) of a wrong
                                  * length */
-    MORE1090_ERR_LEVEL = 13     /* a level above 200.0 dB, by more1090_level alone */
+    MORE1090_ERR_LEVEL = 13,    /* a level above 200.0 dB, by more1090_level alone */
+    MORE1090_ERR_LOG = 16,      /* a log out of order, or a message length in it other than 2, 7 or 14, by more1090_compare_log */
+    MORE1090_ERR_RECORD = 18    /* a record that no run writes: first sample above 2^52, type above 6, count above 9,999, or a
+                                 * length not its type's; value: the first such record */
 };
 
 /* Why a run call came back. */
@@ -191,6 +194,33 @@ uint32_t more1090_interrogator(const uint8_t *message, size_t message_length, ui
  * tenths above 2000, whatever their size, and leaves it. amplitude must point to a float. (crates/more1090_level) */
 uint64_t more1090_level(uint64_t tenths, float *amplitude);
 
+#define MORE1090_ENTRY_LEN 23
+#define MORE1090_NOBODY UINT64_MAX
+
+/* The counts of pairs, of records unheard and of entries unsent. refusal: 0, or its number; then the counts are 0. */
+typedef struct more1090_log_result {
+    uint64_t pairs;
+    uint64_t unheard;
+    uint64_t unsent;
+    uint64_t refusal;
+    uint64_t value;
+} more1090_log_result;
+
+/* What a receiver heard, held against the records of a run. The log has entries of 23 bytes: sample u64, message length u8,
+ * message u8[14], in rising order of sample, equal ones allowed. An entry may be paired with a record whose message has the same
+ * length and the same bytes up to it, and whose first sample differs by at most `tolerance` samples, any number. Each entry, in
+ * the log's order, gets the record still free and allowed that has the lowest first sample, of equal ones the first in
+ * `records`. No pairing has more pairs. Records may be in any order; where first samples fall by at most 32, as a run writes
+ * them, the time is in proportion to entries and records, times those that lie within the tolerance of one entry.
+ *
+ * Writes to `partners` each entry's record and to `owners` each record's entry, by their indices from 0, or MORE1090_NOBODY.
+ * Refuses, first to last: MORE1090_ERR_LENGTH for a log of no multiple of 23 bytes, records of no multiple of 66 bytes, or a list
+ * without exactly one number for each; MORE1090_ERR_RECORD; MORE1090_ERR_LOG. A refusal writes to neither list.
+ * (SPECIFICATION 13; crates/more1090_log) */
+more1090_log_result more1090_compare_log(const uint8_t *log, size_t log_length, const uint8_t *records, size_t records_length,
+                                         uint64_t tolerance, uint64_t *partners, size_t partners_length, uint64_t *owners,
+                                         size_t owners_length);
+
 #ifdef __cplusplus
 }
 #define MORE1090_ASSERT(holds) static_assert(holds, "layout")
@@ -200,6 +230,7 @@ uint64_t more1090_level(uint64_t tenths, float *amplitude);
 MORE1090_ASSERT(sizeof(more1090_state) == 184 && offsetof(more1090_state, ended) == 176);
 MORE1090_ASSERT(sizeof(more1090_open_result) == 200 && offsetof(more1090_open_result, refusal) == 184);
 MORE1090_ASSERT(sizeof(more1090_run_result) == 248 && offsetof(more1090_run_result, draws_taken) == 184);
+MORE1090_ASSERT(sizeof(more1090_log_result) == 40 && offsetof(more1090_log_result, value) == 32);
 #undef MORE1090_ASSERT
 
 #endif

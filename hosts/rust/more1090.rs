@@ -4,13 +4,14 @@
 mod more1090_generator;
 mod shell;
 mod commands {
+    pub mod heard;
     pub mod level;
     pub mod message;
 }
 
 use shell::{Command, Failure};
 
-const COMMANDS: &[Command] = &[commands::level::COMMAND, commands::message::COMMAND];
+const COMMANDS: &[Command] = &[commands::heard::COMMAND, commands::level::COMMAND, commands::message::COMMAND];
 
 const VERSION: &str = include_str!("../../VERSION");
 

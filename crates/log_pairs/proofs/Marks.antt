@@ -52,6 +52,9 @@ module _ (owners : List ℕ) (k : ℕ) (lt : k < length owners) where
       ap (λ (x : ℕ). ltb x h) (q ∙ ap (λ (x : ℕ). capped (x + d)) p) ∙ capped-ltb (f + d) h le
       ∙ sym (ap (λ (t : Bool). cond t (ltb (f + d) h) true) (eq-eqb (getD owners k nobody) nobody (getD-other owners k nobody 0 lt ∙ e)))
 
+pub owner-taken : (owners : List ℕ) (k : ℕ) → k < length owners → (getD owners k 0 ≡ nobody → ⊥) → freeIn owners k ≡ false
+owner-taken owners k lt n = ne-eqb (getD owners k nobody) nobody (λ e. n (getD-other owners k 0 nobody lt ∙ e))
+
 pub gone-says : (free : Bool) (a h : ℕ) → cond free (ltb a h) true ≡ true → (free ≡ false) ⊎ (a < h)
 gone-says true a h e = inr (ltb-true a h e)
 gone-says false a h e = inl refl

@@ -6,7 +6,7 @@ ghost use lib.Dec.{leb, ltb};
 ghost use lib.ListN.{length, replicate};
 ghost use Rattle.log_theory.specs.Pairing.{cand, better as betterOf, earliest as earliestOf};
 ghost use Rattle.log_theory.specs.Report.{nobody, Lists, reportOf};
-ghost use Rattle.log_theory.specs.PairsModel.{freeIn, Below, paired, pairUp, Back, Past};
+ghost use Rattle.log_theory.specs.PairsModel.{freeIn, Below, paired, pairUp, Back, Past, Taken};
 ghost use Rattle.log_entry.specs.Entries.{sampleOf, firstOf, logs};
 ghost use Rattle.log_pairs.specs.Paired.{pairedOf};
 ghost use Rattle.log_pairs.specs.WindowModel.{limitOf};
@@ -67,6 +67,21 @@ fn limit(records: &[u8], best: Partner, latest: u64, back: u64) -> u64
     }
 }
 
+// The first free record from an index on. Taken ones are passed by without a look at their bytes.
+fn next_free(owners: &[u64], from: usize) -> usize
+    requires { ⌜ from ≤ length (now owners) ⌝ }
+    ensures { λ r. ⌜ (r ≤ length (now (owners .entry))) × Taken (freeIn (now (owners .entry))) from r ⌝ }
+{
+    let mut k = from;
+    while k < owners.len() {
+        if owners[k] == NOBODY {
+            return k;
+        }
+        k = k + 1;
+    }
+    k
+}
+
 // The earliest free and allowed record for entry i, whose sample is h.
 fn earliest(
     log: &[u8],
@@ -83,7 +98,7 @@ fn earliest(
 {
     let latest = log_tolerance::sum(log_tolerance::sum(h, d), back);
     let mut best = Partner::Alone;
-    let mut j = lo;
+    let mut j = next_free(owners, lo);
     while j < owners.len() {
         let f = log_entry::first_at(records, j);
         let last = limit(records, best, latest, back);
@@ -91,7 +106,7 @@ fn earliest(
             return best;
         }
         best = better(log, i, records, j, owners, d, best);
-        j = j + 1;
+        j = next_free(owners, j + 1);
     }
     best
 }

@@ -11,7 +11,7 @@ use Rattle.log_theory.specs.declared.Partner.{Partner}
 use Rattle.log_theory.specs.declared.Partner.the-variants.{Alone as alone, With as partner}
 use Rattle.log_theory.specs.Pairing.{Logs, cand, better, earliest}
 use Rattle.log_theory.specs.PairingLaws.{Before, Earliest}
-use Rattle.log_theory.specs.PairsModel.{Below, Back, Past}
+use Rattle.log_theory.specs.PairsModel.{Below, Back, Past, Taken}
 use Rattle.log_theory.proofs.Basics.{near, cand-free, cand-allowed}
 use Rattle.log_theory.proofs.Picks.{step, found, only}
 
@@ -45,6 +45,19 @@ module _ (L : Logs) (F : ℕ → Bool) (i : ℕ) where
       at : (k : ℕ) → k < L .sent → T (cand L F i k) → (j ≤ k) ⊎ (k < j) → Before L F i g k
       at k lt c (inl q) = record { no-later = omega (arith, h k q lt); in-order = λ z. absurd (omega (arith, h k q lt)) }
       at k lt c (inr q) = e .2 k q c
+
+  -- taken records may be passed by
+  pub skipped : (j k : ℕ) (b : Partner) → Taken F j k → Earliest L F i j b → Earliest L F i k b
+  skipped j k alone t e = λ m lt c. at m lt c (le-or-lt j m)
+    where
+      at : (m : ℕ) → m < k → T (cand L F i m) → (j ≤ m) ⊎ (m < j) → ⊥
+      at m lt c (inl q) = subst (λ (b : Bool). T b) (t .taken m q lt) (cand-free L F i m c)
+      at m lt c (inr q) = e m q c
+  skipped j k (partner g) t e = (omega (arith, e .0, t .from), e .1, λ m lt c. at m lt c (le-or-lt j m))
+    where
+      at : (m : ℕ) → m < k → T (cand L F i m) → (j ≤ m) ⊎ (m < j) → Before L F i g m
+      at m lt c (inl q) = absurd (subst (λ (b : Bool). T b) (t .taken m q lt) (cand-free L F i m c))
+      at m lt c (inr q) = e .2 m q c
 
   pub is-earliest : (b : Partner) → Earliest L F i (L .sent) b → b ≡ earliest L F i
   is-earliest b h = only L F i (L .sent) b (earliest L F i) h (found L F i)
@@ -112,3 +125,13 @@ module _ (first : ℕ → ℕ) where
       at : (j k : ℕ) → j ≤ k → (k ≡ n) ⊎ (k < n) → first j ≤ first k + b
       at j k h (inl g) = subst (λ (x : ℕ). first j ≤ first x + b) (sym g) (same j (last-or j n (omega arith)))
       at j k h (inr lt) = omega (arith, t .steps j k h lt)
+
+pub taken-none : (F : ℕ → Bool) (a : ℕ) → Taken F a a
+taken-none F a = record { from = omega arith; taken = λ k p q. absurd (omega arith) }
+
+pub taken-more : (F : ℕ → Bool) (a b : ℕ) → F b ≡ false → Taken F a b → Taken F a (b + 1)
+taken-more F a b e t = record { from = omega (arith, t .from); taken = λ k p q. at k p (last-or k b q) }
+  where
+    at : (k : ℕ) → a ≤ k → (k ≡ b) ⊎ (k < b) → F k ≡ false
+    at k p (inl g) = subst (λ (x : ℕ). F x ≡ false) (sym g) e
+    at k p (inr lt) = t .taken k p lt

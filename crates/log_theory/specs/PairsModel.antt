@@ -39,3 +39,8 @@ pub record Back (first : ℕ → ℕ) (n back : ℕ) : Type 0 where
 -- the records before lo are taken, or too early for an entry at sample h
 pub record Past (first : ℕ → ℕ) (d : ℕ) (F : ℕ → Bool) (h lo : ℕ) : Type 0 where
   pub gone : (k : ℕ) → k < lo → (F k ≡ false) ⊎ (first k + d < h)
+
+-- the records from a on and before b are taken
+pub record Taken (F : ℕ → Bool) (a b : ℕ) : Type 0 where
+  pub from : a ≤ b
+  pub taken : (k : ℕ) → a ≤ k → k < b → F k ≡ false

@@ -36,7 +36,7 @@ wide-requires-2 c κs = search needs
 returns : tie.Need-returns
 returns c =
     let a = c .before .before .before .before .before .before .before .args in
-    alike-no (a .log .now) (a .records .now) (a .i) (a .j) (c .before .before .before .wide .result) (c .before .wide2 .result) (c .before .before .before .wide .ensures .0) (c .before .wide2 .ensures .0) (c .if1 .taken)
+    alike-no (a .log .now) (a .records .now) (a .i) (a .j) (c .before .before .before .wide .result) (c .before .wide2 .result) (c .before .before .before .wide .ensures .0) (c .before .wide2 .ensures .0) (λ e. omega (arith, c .if1 .taken))
 
 mul-same-bytes : tie.Need-mul-same-bytes
 mul-same-bytes c = search needs
@@ -58,7 +58,7 @@ same-bytes-requires c κs =
 returns-2 : tie.Need-returns-2
 returns-2 c =
     let a = c .before .before .before .before .before .before .before .before .args in
-    alike-yes (a .log .now) (a .records .now) (a .i) (a .j) (c .before .before .before .before .wide .result) (c .before .before .wide2 .result) (c .same-bytes .result) (c .before .before .before .before .wide .ensures .0) (c .before .before .wide2 .ensures .0) (c .before .if1 .left) (c .same-bytes .ensures)
+    alike-yes (a .log .now) (a .records .now) (a .i) (a .j) (c .before .before .before .before .wide .result) (c .before .before .wide2 .result) (c .same-bytes .result) (c .before .before .before .before .wide .ensures .0) (c .before .before .wide2 .ensures .0) (omega (arith, c .before .if1 .left)) (c .same-bytes .ensures)
 
 pub message-alike-spec : {M : Type 1} → statement M
 message-alike-spec =

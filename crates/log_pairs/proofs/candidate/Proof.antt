@@ -16,13 +16,13 @@ shared-slice-read-if1 : tie.Need-shared-slice-read-if1
 shared-slice-read-if1 c = search needs
 
 returns : tie.Need-returns
-returns c = let a = c .before .before .before .before .before .args in cand-taken (logs (a .log .now) (a .records .now) (a .d)) (a .owners .now) (a .i) (a .j) (c .before .before .before .before .before .pre) (c .if1 .taken)
+returns c = let a = c .before .before .before .before .before .args in cand-taken (logs (a .log .now) (a .records .now) (a .d)) (a .owners .now) (a .i) (a .j) (c .before .before .before .before .before .pre) (λ e. omega (arith, c .if1 .taken))
 
 allowed-requires : tie.Need-allowed-requires
 allowed-requires c κs = search needs
 
 returns-2 : tie.Need-returns-2
-returns-2 c = let a = c .before .before .before .before .before .before .args in cand-free-is (logs (a .log .now) (a .records .now) (a .d)) (a .owners .now) (a .i) (a .j) (c .before .before .before .before .before .before .pre) (c .allowed .result) (c .before .if1 .left) (c .allowed .ensures)
+returns-2 c = let a = c .before .before .before .before .before .before .args in cand-free-is (logs (a .log .now) (a .records .now) (a .d)) (a .owners .now) (a .i) (a .j) (c .before .before .before .before .before .before .pre) (c .allowed .result) (omega (arith, c .before .if1 .left)) (c .allowed .ensures)
 
 pub candidate-spec : {M : Type 1} → statement M
 candidate-spec =
