@@ -1,6 +1,6 @@
 //! A log held against records: the seconds that `more1090_compare_log` takes on a long run.
 //!
-//! `heard [RECORDS]`: so many records (10,000,000), in a run's order, with first samples that fall by at most 32. Nine in ten are
+//! `heard [RECORDS]`: RECORDS records (10,000,000) in a run's order, with first samples that fall by at most 32. Nine in ten are
 //! heard, some samples later, and one entry in ten was not sent. One line for each mean gap between replies and tolerance.
 #![allow(dead_code)]
 #[path = "../hosts/rust/more1090_generator.rs"]

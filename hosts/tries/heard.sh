@@ -40,6 +40,7 @@ expect 1 "refused 18: record 1" heard "$scratch/log" <(record 0a 01; record 05 0
 expect 1 "refused 9" heard "$scratch/log" "$scratch/log" 5
 expect 1 "LOG, line 1: a message has 2, 7 or 14 bytes" heard <(echo '*8D4840;') "$scratch/records" 5 --format avr
 expect 1 "LOG, line 2: no \`;\`" heard <(printf '*0102;\n*0102\n') "$scratch/records" 5 --format avr
+expect 1 "no timestamp of 12 hexadecimal digits" heard <(echo '@+0000000000F0102;') "$scratch/records" 5 --format avr
 expect 1 "a timestamp before --start" heard "$scratch/avr" "$scratch/records" 5 --format avr --start 16
 expect 2 "TOLERANCE: -1 is no number" heard "$scratch/log" "$scratch/records" -1
 expect 2 "an argument is missing" heard "$scratch/log" "$scratch/records"

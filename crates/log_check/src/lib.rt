@@ -5,8 +5,16 @@ ghost use lib.ListN.{length};
 ghost use Rattle.log_check.specs.LogChecks.{knownLength, entryAccepted, logAccepted, lengthsFit, checkedOf, contentsRefusal, compareRefusal};
 use constants::RECORD_LEN;
 use log_entry::ENTRY_LEN;
+use log_entry::HEARD_LENGTH;
 use record_check::RecordFault;
 use refusals::Refusal;
+
+// The bytes of a message.
+const MODE_AC_LEN: u64 = 2;
+
+const SHORT_LEN: u64 = 7;
+
+const LONG_LEN: u64 = 14;
 
 // Accepted, or the first cause to refuse.
 pub enum Checked {
@@ -18,13 +26,13 @@ pub enum Checked {
 fn known_length(n: u64) -> bool
     ensures { λ r. ⌜ r ≡ knownLength n ⌝ }
 {
-    if n == 2 {
+    if n == MODE_AC_LEN {
         return true;
     }
-    if n == 7 {
+    if n == SHORT_LEN {
         return true;
     }
-    n == 14
+    n == LONG_LEN
 }
 
 // Whether entry i has a known length, and a sample not below that of the entry before it.
@@ -32,7 +40,7 @@ fn entry_accepts(log: &[u8], i: usize) -> bool
     requires { ⌜ i < length (now log) / 23 ⌝ }
     ensures { λ r. ⌜ r ≡ entryAccepted (now (log .entry)) i ⌝ }
 {
-    if known_length(le_read::wide(log[23 * i + 8])) {
+    if known_length(le_read::wide(log[ENTRY_LEN * i + HEARD_LENGTH])) {
         if i == 0 {
             return true;
         }

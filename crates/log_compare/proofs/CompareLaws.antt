@@ -55,8 +55,8 @@ module _ (log records : List ℕ) (d : ℕ) (p o : List ℕ) where
         largest = laws .largest (logs-orderly log records d (rises log (log-accepted e)));
         earliest-free = laws .earliest-free;
         pairs-counted = refl;
-        unheard-counted = omega (arith, laws .records-counted);
-        unsent-counted = omega (arith, laws .entries-counted);
+        unheard-counted = λ few. omega (arith, laws .records-counted, laws .records-unnamed few);
+        unsent-counted = λ few. omega (arith, laws .entries-counted, laws .entries-unnamed few);
       }
 
   pub compare-laws : CompareLaws log records d p o

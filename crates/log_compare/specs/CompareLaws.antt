@@ -8,13 +8,13 @@ use Rattle.refusals.specs.Answer.{accepted, refused}
 use Rattle.refusals.specs.declared.Refusal.{Refusal}
 use Rattle.log_theory.specs.declared.Partner.the-variants.{Alone as alone, With as partner}
 use Rattle.log_theory.specs.Pairing.{Logs, Pair, Pairing, every, shown}
-use Rattle.log_theory.specs.Report.{indices, entryOf, entriesFrom, In, left, tally, unsent}
+use Rattle.log_theory.specs.Report.{nobody, indices, entryOf, entriesFrom, unnamed, In, left}
 use Rattle.log_theory.specs.PairingLaws.{Earliest, pairs}
 use Rattle.log_entry.specs.Entries.{logs}
 use Rattle.log_check.specs.LogChecks.{compareRefusal}
 use Rattle.log_compare.specs.Comparison.{Counts, Comparison, comparedOf}
 
--- of a log and records that are accepted
+-- of a log and records that are accepted; `nobody` is above every index of a slice, so its condition asks nothing of a caller
 pub record Reported (L : Logs) (c : Comparison) : Type 0 where
   pub counts : Counts
   pub answer : c .answer ≡ accepted counts
@@ -28,10 +28,10 @@ pub record Reported (L : Logs) (c : Comparison) : Type 0 where
   pub largest : (ps : List Pair) → Pairing L ps → length ps ≤ counts .pairs
   -- each entry, in log order, has the earliest record still free and allowed
   pub earliest-free : (i : ℕ) → i < L .heard → Earliest L (left every (take i (shown L))) i (L .sent) (getD (shown L) i alone)
-  -- the counts are those of the lists
+  -- the counts are those of the lists: the pairs, and how many numbers name nobody
   pub pairs-counted : counts .pairs ≡ length (pairs L)
-  pub unheard-counted : counts .unheard ≡ tally (L .sent) (left every (shown L))
-  pub unsent-counted : counts .unsent ≡ unsent (shown L)
+  pub unheard-counted : L .heard ≤ nobody → counts .unheard ≡ unnamed (c .owners)
+  pub unsent-counted : L .sent ≤ nobody → counts .unsent ≡ unnamed (c .partners)
 
 pub record CompareLaws (log records : List ℕ) (tolerance : ℕ) (partners owners : List ℕ) : Type 0 where
   pub reports : compareRefusal log records (length partners) (length owners) ≡ none → Reported (logs log records tolerance) (comparedOf log records tolerance partners owners)

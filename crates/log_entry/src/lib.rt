@@ -8,6 +8,18 @@ use constants::RECORD_LEN;
 
 pub const ENTRY_LEN: usize = 23;
 
+// Offsets in an entry (SPECIFICATION 13.1): the message's length and bytes.
+pub const HEARD_LENGTH: usize = 8;
+
+const HEARD_BYTES: usize = 9;
+
+// Offsets in a record (SPECIFICATION 4.5).
+const FIRST_SAMPLE: usize = 40;
+
+const SENT_LENGTH: usize = 51;
+
+const SENT_BYTES: usize = 52;
+
 // No slice has so many entries or records, and below that no offset overflows.
 const TOO_MANY_ENTRIES: usize = 0x0800_0000_0000_0000;
 
@@ -18,7 +30,7 @@ pub fn sample_at(log: &[u8], i: usize) -> u64
     ensures { λ r. ⌜ r ≡ sampleOf (now (log .entry)) i ⌝ }
 {
     if i < TOO_MANY_ENTRIES {
-        return le_read_or_zero::u64_at(log, 23 * i);
+        return le_read_or_zero::u64_at(log, ENTRY_LEN * i);
     }
     0
 }
@@ -28,7 +40,7 @@ pub fn first_at(records: &[u8], j: usize) -> u64
     ensures { λ r. ⌜ r ≡ firstOf (now (records .entry)) j ⌝ }
 {
     if j < TOO_MANY_RECORDS {
-        return le_read_or_zero::u64_at(records, 66 * j + 40);
+        return le_read_or_zero::u64_at(records, RECORD_LEN * j + FIRST_SAMPLE);
     }
     0
 }
@@ -53,12 +65,18 @@ fn message_alike(log: &[u8], i: usize, records: &[u8], j: usize) -> bool
     requires { ⌜ (i < length (now log) / 23) × (j < length (now records) / 66) ⌝ }
     ensures { λ r. ⌜ r ≡ messageAlike (now (log .entry)) (now (records .entry)) i j ⌝ }
 {
-    let n = le_read::wide(log[23 * i + 8]) as usize;
-    let m = le_read::wide(records[66 * j + 51]) as usize;
+    let n = le_read::wide(log[ENTRY_LEN * i + HEARD_LENGTH]) as usize;
+    let m = le_read::wide(records[RECORD_LEN * j + SENT_LENGTH]) as usize;
     if n != m {
         return false;
     }
-    same_bytes(log, 23 * i + 9, records, 66 * j + 52, n)
+    same_bytes(
+        log,
+        ENTRY_LEN * i + HEARD_BYTES,
+        records,
+        RECORD_LEN * j + SENT_BYTES,
+        n,
+    )
 }
 
 // Whether entry i may be paired with record j: both are there, their messages are alike, and their samples differ by at most d.

@@ -3,6 +3,7 @@ pub mod Picks
 pub mod Best
 pub mod Lists
 pub mod Counts
+pub mod Unnamed
 pub mod Examples
 pub mod Window
 pub mod Link

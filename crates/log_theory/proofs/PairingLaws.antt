@@ -12,6 +12,7 @@ use Rattle.log_theory.specs.Report.{left}
 use Rattle.log_theory.specs.PairingLaws.{Earliest, pairs, PairingLaws}
 use Rattle.log_theory.proofs.Picks.{found}
 use Rattle.log_theory.proofs.Lists.{shown-pairs, no-more}
+use Rattle.log_theory.proofs.Unnamed.{records-unnamed, entries-unnamed}
 use Rattle.log_theory.proofs.Counts.{sent-counted, heard-counted, entry-in, in-entry}
 
 module _ (L : Logs) where
@@ -35,6 +36,8 @@ module _ (L : Logs) where
     earliest-free = λ i h. subst (λ (x : ℕ). Earliest L (left every (take i (shown L))) x (L .sent) (getD (shown L) i alone)) (to-zero i) (earliest-at every (L .heard) 0 i h);
     records-counted = sent-counted L;
     entries-counted = heard-counted L;
+    records-unnamed = records-unnamed L;
+    entries-unnamed = entries-unnamed L;
     entry-paired = λ j i e. entry-in (pairs L) j i e;
     pair-entered = λ x e. in-entry (pairs L) x (shown-pairs L .once) e;
   }

@@ -8,7 +8,7 @@ use lib.ListN.{length, take, getD}
 use Rattle.log_theory.specs.declared.Partner.{Partner}
 use Rattle.log_theory.specs.declared.Partner.the-variants.{Alone as alone, With as partner}
 use Rattle.log_theory.specs.Pairing.{Logs, Pair, Pairing, cand, every, shown, pairsOf}
-use Rattle.log_theory.specs.Report.{entryOf, In, left, tally, unsent}
+use Rattle.log_theory.specs.Report.{nobody, indices, entryOf, entriesFrom, unnamed, In, left, tally, unsent}
 
 -- the log is in rising order, and messages are compared by what they are
 pub record Orderly (L : Logs) : Type 0 where
@@ -39,6 +39,9 @@ pub record PairingLaws (L : Logs) : Type 0 where
   -- pairs and unheard records are all records; pairs and unsent entries are all entries
   pub records-counted : length (pairs L) + tally (L .sent) (left every (shown L)) ≡ L .sent
   pub entries-counted : length (pairs L) + unsent (shown L) ≡ L .heard
+  -- and so many numbers of the lists name nobody, where every index is a u64 below 2^64 - 1
+  pub records-unnamed : L .heard ≤ nobody → tally (L .sent) (left every (shown L)) ≡ unnamed (entriesFrom (pairs L) (L .sent) 0)
+  pub entries-unnamed : L .sent ≤ nobody → unsent (shown L) ≡ unnamed (indices (shown L))
   -- a record's entry is the one that it is paired with
   pub entry-paired : (j i : ℕ) → entryOf (pairs L) j ≡ partner i → In (record { entry = i; reply = j }) (pairs L)
   pub pair-entered : (x : Pair) → In x (pairs L) → entryOf (pairs L) (x .reply) ≡ partner (x .entry)

@@ -32,6 +32,11 @@ unfoldable pub entriesFrom : List Pair → ℕ → ℕ → List ℕ
 entriesFrom ps zero j = []
 entriesFrom ps (suc n) j = index (entryOf ps j) ∷ entriesFrom ps n (suc j)
 
+-- how many of a list's numbers name nobody
+abbrev pub unnamed : List ℕ → ℕ
+unnamed [] = 0
+unnamed (x ∷ l) = cond (eqb x nobody) 1 0 + unnamed l
+
 -- each entry's record, each record's entry, and the number of pairs
 pub record Lists : Type 0 where
   pub partners : List ℕ

@@ -159,14 +159,14 @@ fn same(t: &mut Tally, r: &mut Random, heard: &[Message], sent: &[Message], tole
 }
 
 pub fn compare(t: &mut Tally, r: &mut Random, count: u64) {
-    for _ in 0..count / 10 {
+    for _ in 0..count {
         let (h, s) = (below(r, 7), below(r, 7));
         let (back, gap, different, tolerance) = (below(r, 40), below(r, 12), 1 + below(r, 2), below(r, 30));
         let (heard, sent) = lists(r, h, s, back, gap, different);
         same(t, r, &heard, &sent, tolerance, true);
     }
     for size in [50, 300, 2000] {
-        for _ in 0..1 + count / 100 / size {
+        for _ in 0..1 + count / 10 / size {
             let (back, gap, different, tolerance) = (below(r, 40), 1 + below(r, 50), 1 + below(r, 4), below(r, 300));
             let (h, s) = (below(r, size), below(r, size));
             let (heard, sent) = lists(r, h, s, back, gap, different);

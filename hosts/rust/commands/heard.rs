@@ -37,7 +37,8 @@ fn entries_of(text: &[u8], start: u64, rate: u64) -> Result<Vec<u8>, Failure> {
         let message = if let Some(message) = body.strip_prefix('*') {
             message
         } else if let Some((time, message)) = body.strip_prefix('@').and_then(|b| b.split_at_checked(TIMESTAMP_DIGITS)) {
-            let ticks = u64::from_str_radix(time, 16).map_err(|_| wrong("no timestamp of 12 hexadecimal digits"))?;
+            let time = bytes_of(time).map_err(|_| wrong("no timestamp of 12 hexadecimal digits"))?;
+            let ticks = time.iter().fold(0, |v: u64, &b| v << 8 | u64::from(b));
             let since = ticks.checked_sub(start).ok_or_else(|| wrong("a timestamp before --start"))?;
             sample = sample_of(since, rate);
             message
