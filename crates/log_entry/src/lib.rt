@@ -20,7 +20,7 @@ const SENT_LENGTH: usize = 51;
 
 const SENT_BYTES: usize = 52;
 
-// No slice has so many entries or records, and below that no offset overflows.
+// No slice holds these many entries or records, and no offset below them overflows.
 const TOO_MANY_ENTRIES: usize = 0x0800_0000_0000_0000;
 
 const TOO_MANY_RECORDS: usize = 0x0200_0000_0000_0000;

@@ -1,4 +1,4 @@
--- What is shown of the pairing (SPECIFICATION 13.2), for any log and any records.
+-- What is shown of the pairing (SPECIFICATION 13.5), for any log and any records.
 use mathlib.Core.Path.{_≡_}
 use mathlib.Core.Bool.{Bool}
 use mathlib.Core.List.{List}
@@ -39,7 +39,7 @@ pub record PairingLaws (L : Logs) : Type 0 where
   -- pairs and unheard records are all records; pairs and unsent entries are all entries
   pub records-counted : length (pairs L) + tally (L .sent) (left every (shown L)) ≡ L .sent
   pub entries-counted : length (pairs L) + unsent (shown L) ≡ L .heard
-  -- and so many numbers of the lists name nobody, where every index is a u64 below 2^64 - 1
+  -- what is left over are the numbers of the lists that name nobody, where every index is below 2^64 - 1
   pub records-unnamed : L .heard ≤ nobody → tally (L .sent) (left every (shown L)) ≡ unnamed (entriesFrom (pairs L) (L .sent) 0)
   pub entries-unnamed : L .sent ≤ nobody → unsent (shown L) ≡ unnamed (indices (shown L))
   -- a record's entry is the one that it is paired with

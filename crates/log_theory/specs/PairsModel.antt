@@ -15,6 +15,7 @@ use Rattle.log_theory.specs.Report.{nobody, Lists}
 abbrev pub freeIn : List ℕ → ℕ → Bool
 freeIn owners j = eqb (getD owners j nobody) nobody
 
+-- a partner's index is below n
 abbrev pub Below : ℕ → Partner → Type 0
 Below n alone = Unit {0}
 Below n (partner g) = g < n

@@ -32,7 +32,7 @@ unfoldable pub entriesFrom : List Pair → ℕ → ℕ → List ℕ
 entriesFrom ps zero j = []
 entriesFrom ps (suc n) j = index (entryOf ps j) ∷ entriesFrom ps n (suc j)
 
--- how many of a list's numbers name nobody
+-- the number of a list's elements that name nobody
 abbrev pub unnamed : List ℕ → ℕ
 unnamed [] = 0
 unnamed (x ∷ l) = cond (eqb x nobody) 1 0 + unnamed l
