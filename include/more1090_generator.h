@@ -74,6 +74,9 @@ enum {
     MORE1090_ERR_LEVEL = 13,    /* a level above 200.0 dB, by more1090_level alone */
     MORE1090_ERR_TRIGGER_LEVEL = 14, /* a trigger level below 0.1 or above 0.9, or a NaN */
     MORE1090_ERR_RECORD = 18    /* a record that is not accepted, by more1090_pages; value: its index */
+    MORE1090_ERR_LOG = 16,      /* a log out of order, or a message length in it other than 2, 7 or 14, by more1090_compare_log */
+    MORE1090_ERR_RECORD = 18    /* a record that no run writes: first sample above 2^52, type above 6, count above 9,999, or a
+                                 * length not its type's; value: the first such record */
 };
 
 /* Why a run call came back. */
@@ -216,7 +219,6 @@ typedef struct {
  * writes is accepted. (crates/more1090_pages) */
 more1090_pages_result more1090_pages(const uint8_t *records, size_t records_length, uint8_t *output, size_t output_length);
 
-typedef struct {
     uint64_t found, first_sample, type, count, message_length;
 } more1090_line_result;
 
@@ -225,6 +227,32 @@ typedef struct {
  * bytes. found is 0, and all else 0, for another number of bytes, and where column 17 has no type 0 to 6, so for a line of
  * blanks. Of other bytes a column without a digit reads as 0. message must point to 14 bytes; all are written. */
 more1090_line_result more1090_page_line(const uint8_t *line, size_t line_length, uint8_t *message);
+#define MORE1090_ENTRY_LEN 23
+#define MORE1090_NOBODY UINT64_MAX
+
+/* The counts of pairs, of records unheard and of entries unsent. refusal: 0, or its number; then the counts are 0. */
+typedef struct more1090_log_result {
+    uint64_t pairs;
+    uint64_t unheard;
+    uint64_t unsent;
+    uint64_t refusal;
+    uint64_t value;
+} more1090_log_result;
+
+/* What a receiver heard, held against the records of a run. The log has entries of 23 bytes: sample u64, message length u8,
+ * message u8[14], in rising order of sample, equal ones allowed. An entry may be paired with a record whose message has the same
+ * length and the same bytes up to it, and whose first sample differs by at most `tolerance` samples, any number. Each entry, in
+ * the log's order, gets the record still free and allowed that has the lowest first sample, of equal ones the first in
+ * `records`. No pairing has more pairs. Records may be in any order; where first samples fall by at most 32, as a run writes
+ * them, the time is in proportion to entries and records, times those that lie within the tolerance of one entry.
+ *
+ * Writes to `partners` each entry's record and to `owners` each record's entry, by their indices from 0, or MORE1090_NOBODY.
+ * Refuses, first to last: MORE1090_ERR_LENGTH for a log of no multiple of 23 bytes, records of no multiple of 66 bytes, or a list
+ * without exactly one number for each; MORE1090_ERR_RECORD; MORE1090_ERR_LOG. A refusal writes to neither list.
+ * (SPECIFICATION 13; crates/more1090_log) */
+more1090_log_result more1090_compare_log(const uint8_t *log, size_t log_length, const uint8_t *records, size_t records_length,
+                                         uint64_t tolerance, uint64_t *partners, size_t partners_length, uint64_t *owners,
+                                         size_t owners_length);
 
 #ifdef __cplusplus
 }
@@ -237,6 +265,7 @@ MORE1090_ASSERT(sizeof(more1090_open_result) == 200 && offsetof(more1090_open_re
 MORE1090_ASSERT(sizeof(more1090_run_result) == 264 && offsetof(more1090_run_result, draws_taken) == 184);
 MORE1090_ASSERT(offsetof(more1090_run_result, samples_added_high) == 248);
 MORE1090_ASSERT(sizeof(more1090_pages_result) == 24 && sizeof(more1090_line_result) == 40);
+MORE1090_ASSERT(sizeof(more1090_log_result) == 40 && offsetof(more1090_log_result, value) == 32);
 #undef MORE1090_ASSERT
 
 #endif

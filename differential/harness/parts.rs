@@ -16,6 +16,7 @@ mod parts {
     pub mod carrier;
     pub mod flips;
     pub mod floats;
+    pub mod heard;
     pub mod interrogators;
     pub mod levels;
     pub mod pages;
@@ -47,6 +48,7 @@ fn main() {
     parts::interrogators::compare(&mut tally, &mut Random::new(seed), count);
     parts::levels::compare(&mut tally, &mut Random::new(seed), count);
     parts::pages::compare(&mut tally, &mut Random::new(seed), count);
+    parts::heard::compare(&mut tally, &mut Random::new(seed), count);
     parts::shape::compare(&mut tally, &mut r, count);
     parts::starts::compare(&mut tally, &mut r, count);
     parts::runs::compare(&mut tally, &mut Random::new(seed), number(3, 1000));

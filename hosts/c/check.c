@@ -123,6 +123,27 @@ static void check_pages(void) {
     expect("a record of type 7", MORE1090_ERR_RECORD, more1090_pages(record, sizeof record, page, sizeof page).refusal);
 }
 
+static void check_logs(void) {
+    uint8_t log[MORE1090_ENTRY_LEN] = {7, 0, 0, 0, 0, 0, 0, 0, 2};
+    uint8_t sent[MORE1090_RECORD_LEN] = {0};
+    uint64_t partners[1] = {5}, owners[1] = {5};
+    sent[40] = 9;
+    sent[48] = 6;
+    sent[51] = 2;
+    expect("nothing heard, nothing sent", MORE1090_OK, more1090_compare_log(NULL, 0, NULL, 0, 5, NULL, 0, NULL, 0).refusal);
+    expect("no lists", MORE1090_ERR_LENGTH, more1090_compare_log(log, sizeof log, sent, sizeof sent, 5, NULL, 0, NULL, 0).refusal);
+    expect("too far", 0, more1090_compare_log(log, sizeof log, sent, sizeof sent, 1, partners, 1, owners, 1).pairs);
+    expect("the entry's record", MORE1090_NOBODY, partners[0]);
+    expect("the record's entry", MORE1090_NOBODY, owners[0]);
+    expect("within 2 samples", 1, more1090_compare_log(log, sizeof log, sent, sizeof sent, 2, partners, 1, owners, 1).pairs);
+    expect("the entry's record", 0, partners[0]);
+    sent[48] = 7;
+    partners[0] = 5;
+    expect("a record of type 7", MORE1090_ERR_RECORD,
+           more1090_compare_log(log, sizeof log, sent, sizeof sent, 2, partners, 1, owners, 1).refusal);
+    expect("what it leaves", 5, partners[0]);
+}
+
 int main(void) {
     make_settings(settings, 0.5f);
     make_taps(taps_s, MORE1090_MODE_S_TAPS_LEN);
@@ -132,5 +153,6 @@ int main(void) {
     check_calls();
     check_levels();
     check_pages();
+    check_logs();
     return failed;
 }

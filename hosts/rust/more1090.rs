@@ -4,6 +4,7 @@
 mod more1090_generator;
 mod shell;
 mod commands {
+    pub mod heard;
     pub mod level;
     pub mod message;
     pub mod pages;
@@ -11,7 +12,7 @@ mod commands {
 
 use shell::{Command, Failure};
 
-const COMMANDS: &[Command] = &[commands::level::COMMAND, commands::message::COMMAND, commands::pages::COMMAND];
+const COMMANDS: &[Command] = &[commands::heard::COMMAND, commands::level::COMMAND, commands::message::COMMAND, commands::pages::COMMAND];
 
 const VERSION: &str = include_str!("../../VERSION");
 

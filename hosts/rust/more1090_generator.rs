@@ -291,3 +291,57 @@ pub fn page_line(line: &[u8]) -> Option<Line> {
         message: message[..read.message_length as usize].to_vec(),
     })
 }
+
+/// The bytes of a log's entry: sample u64, message length u8, message u8[14].
+pub const ENTRY_LEN: usize = 23;
+/// No partner.
+pub const NOBODY: u64 = u64::MAX;
+
+#[repr(C)]
+#[derive(Clone, Copy, Debug, PartialEq, Eq)]
+pub struct LogResult {
+    pub pairs: u64,
+    pub unheard: u64,
+    pub unsent: u64,
+    pub refusal: u64,
+    pub value: u64,
+}
+
+unsafe extern "C" {
+    #[rustfmt::skip]
+    fn more1090_compare_log(log: *const u8, log_length: usize, records: *const u8, records_length: usize, tolerance: u64,
+        partners: *mut u64, partners_length: usize, owners: *mut u64, owners_length: usize) -> LogResult;
+}
+
+/// A log held against records: the counts, and the partner of each entry and of each record, or `NOBODY`.
+#[derive(Clone, Debug, PartialEq, Eq)]
+pub struct Heard {
+    pub pairs: u64,
+    pub unheard: u64,
+    pub unsent: u64,
+    /// Each entry's record, by its index.
+    pub partners: Vec<u64>,
+    /// Each record's entry, by its index.
+    pub owners: Vec<u64>,
+}
+
+/// `more1090_compare_log`, with lists of the lengths that it asks for; or the refusal's number and value.
+pub fn compare_log(log: &[u8], records: &[u8], tolerance: u64) -> Result<Heard, (u64, u64)> {
+    let mut partners = vec![NOBODY; log.len() / ENTRY_LEN];
+    let mut owners = vec![NOBODY; records.len() / RECORD_LEN];
+    let r = compare_log_into(log, records, tolerance, &mut partners, &mut owners);
+    match r.refusal {
+        0 => Ok(Heard { pairs: r.pairs, unheard: r.unheard, unsent: r.unsent, partners, owners }),
+        number => Err((number, r.value)),
+    }
+}
+
+/// `more1090_compare_log`, on slices of any length.
+pub fn compare_log_into(log: &[u8], records: &[u8], tolerance: u64, partners: &mut [u64], owners: &mut [u64]) -> LogResult {
+    unsafe {
+        more1090_compare_log(
+            log.as_ptr(), log.len(), records.as_ptr(), records.len(), tolerance,
+            partners.as_mut_ptr(), partners.len(), owners.as_mut_ptr(), owners.len(),
+        )
+    }
+}

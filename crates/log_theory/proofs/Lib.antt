@@ -1,0 +1,12 @@
+pub mod Basics
+pub mod Picks
+pub mod Best
+pub mod Lists
+pub mod Counts
+pub mod Unnamed
+pub mod Examples
+pub mod Window
+pub mod Link
+pub mod Turns
+pub mod Choices
+pub mod PairingLaws

@@ -1,0 +1,4 @@
+pub mod Pairing
+pub mod Report
+pub mod PairingLaws
+pub mod PairsModel
