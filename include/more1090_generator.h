@@ -73,10 +73,9 @@ enum {
                                  * length */
     MORE1090_ERR_LEVEL = 13,    /* a level above 200.0 dB, by more1090_level alone */
     MORE1090_ERR_TRIGGER_LEVEL = 14, /* a trigger level below 0.1 or above 0.9, or a NaN */
-    MORE1090_ERR_RECORD = 18    /* a record that is not accepted, by more1090_pages; value: its index */
     MORE1090_ERR_LOG = 16,      /* a log out of order, or a message length in it other than 2, 7 or 14, by more1090_compare_log */
     MORE1090_ERR_RECORD = 18    /* a record that no run writes: first sample above 2^52, type above 6, count above 9,999, or a
-                                 * length not its type's; value: the first such record */
+                                 * length not its type's; by more1090_pages and more1090_compare_log; value: the first such record */
 };
 
 /* Why a run call came back. */
@@ -205,7 +204,7 @@ uint64_t more1090_level(uint64_t tenths, float *amplitude);
 #define MORE1090_PAGE_LEN 4380
 
 /* refusal is 0 for none; value is then 0, and else the record at fault for refusal 18. */
-typedef struct {
+typedef struct more1090_pages_result {
     uint64_t refusal, value, pages;
 } more1090_pages_result;
 
@@ -219,6 +218,7 @@ typedef struct {
  * writes is accepted. (crates/more1090_pages) */
 more1090_pages_result more1090_pages(const uint8_t *records, size_t records_length, uint8_t *output, size_t output_length);
 
+typedef struct more1090_line_result {
     uint64_t found, first_sample, type, count, message_length;
 } more1090_line_result;
 
@@ -227,6 +227,7 @@ more1090_pages_result more1090_pages(const uint8_t *records, size_t records_leng
  * bytes. found is 0, and all else 0, for another number of bytes, and where column 17 has no type 0 to 6, so for a line of
  * blanks. Of other bytes a column without a digit reads as 0. message must point to 14 bytes; all are written. */
 more1090_line_result more1090_page_line(const uint8_t *line, size_t line_length, uint8_t *message);
+
 #define MORE1090_ENTRY_LEN 23
 #define MORE1090_NOBODY UINT64_MAX
 
