@@ -7,40 +7,12 @@
 //! noise have a generator each, so that what comes out does not depend on how much is lent at a time.
 mod draws;
 mod more1090_generator;
-use draws::{CLOCK_MAX, Random, WEIGHTS};
+use draws::{Random, lowpass, settings};
 use more1090_generator::{
-    STOP_DONE, DRAW_LEN, MODE_AC_TAPS_LEN, MODE_S_TAPS_LEN, RECORD_LEN, Run, SETTINGS_LEN,
+    STOP_DONE, DRAW_LEN, MODE_AC_TAPS_LEN, MODE_S_TAPS_LEN, RECORD_LEN, Run,
 };
-use std::f64::consts::PI;
 use std::fs::File;
 use std::io::{BufWriter, Error, ErrorKind, Result, Write, sink, stdout};
-
-/// A lowpass of sum 1: a sinc under a Hamming window. The cutoff is in parts of 1 / 256 of the taps' rate.
-fn lowpass(taps: usize, cutoff: f64) -> Vec<f32> {
-    let last = (taps - 1) as f64;
-    let tap = |k: usize| {
-        let x = 2.0 * PI * cutoff / 256.0 * (k as f64 - last / 2.0);
-        let sinc = if x == 0.0 { 1.0 } else { x.sin() / x };
-        sinc * (0.54 - 0.46 * (2.0 * PI * k as f64 / last).cos())
-    };
-    let sum: f64 = (0..taps).map(tap).sum();
-    (0..taps).map(|k| (tap(k) / sum) as f32).collect()
-}
-
-fn settings(seconds: f64, rate: f64) -> [u8; SETTINGS_LEN] {
-    let mut s = Vec::new();
-    s.extend((seconds as u64).to_le_bytes());
-    s.extend(((seconds.fract() * 1e9) as u32).to_le_bytes());
-    WEIGHTS
-        .iter()
-        .for_each(|w| s.extend((w * rate).to_le_bytes()));
-    for [first, second] in [[100e3, 1e6], [0.0, 0.0], [CLOCK_MAX, 0.0f64]] {
-        s.push(1);
-        s.extend(first.to_le_bytes());
-        s.extend(second.to_le_bytes());
-    }
-    s.try_into().unwrap()
-}
 
 fn line(r: &[u8]) -> String {
     let number = |at: usize| f64::from_le_bytes(r[at..at + 8].try_into().unwrap());
