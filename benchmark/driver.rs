@@ -118,5 +118,11 @@ fn main() {
     }
     let load = Load::new(RATES[1], 1);
     let [a, b] = both(101, || timed(|| theirs::open(&load)).1, || timed(|| ours::open(&load)).1);
+    println!("\na rack of sixteen feeds, in ns a sample of the run:");
+    const SAMPLES: usize = 1 << 21;
+    for call in CALLS {
+        let times = (0..turns).map(|_| ours::rack(SAMPLES, call)).collect();
+        println!("{:16} {:7.2}", call, median(times) * 1e9 / SAMPLES as f64);
+    }
     println!("\nopening, in microseconds: Rust {:.0}, port {:.0}, ratio {:.2}", a * 1e6, b * 1e6, b / a);
 }

@@ -6,7 +6,7 @@ mod more1090_generator;
 use crate::loads::{Load, MODE_S_TAPS};
 use crate::{Given, summed, timed};
 use lent::NOISE;
-use more1090_generator::{STOP_DONE, DRAW_LEN, RECORD_LEN, Run};
+use more1090_generator::{DRAW_LEN, RECORD_LEN, Rack, Run, STOP_DONE};
 use std::hint::black_box;
 
 fn opened(load: &Load) -> Run {
@@ -53,4 +53,18 @@ fn calls(run: &mut Run, load: &Load, call: usize, check: bool) -> Given {
             return given;
         }
     }
+}
+
+/// How long a rack of sixteen feeds takes for so many samples, in calls of the size given.
+pub fn rack(samples: usize, call: usize) -> f64 {
+    let delays: Vec<u64> = (0..16).map(|i| 273 * i).collect();
+    let mut rack = Rack::open(&delays, &[0.9; 16]).expect("delays and gains in range");
+    let (input, mut room) = (vec![0.5; 2 * call], vec![0.0; 32 * call]);
+    let feed = || {
+        for _ in 0..samples / call {
+            rack.call(black_box(&input), &mut room).expect("lengths that fit");
+            black_box(&room);
+        }
+    };
+    timed(feed).1
 }

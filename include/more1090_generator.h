@@ -74,6 +74,7 @@ enum {
     MORE1090_ERR_LEVEL = 13,    /* a level above 200.0 dB, by more1090_level alone */
     MORE1090_ERR_TRIGGER_LEVEL = 14, /* a trigger level below 0.1 or above 0.9, or a NaN */
     MORE1090_ERR_LOG = 16,      /* a log out of order, or a message length in it other than 2, 7 or 14, by more1090_compare_log */
+    MORE1090_ERR_FEEDS = 17,    /* no feed or more than 16, or a delay or gain out of range, by more1090_rack_open */
     MORE1090_ERR_RECORD = 18    /* a record that no run writes: first sample above 2^52, type above 6, count above 9,999, or a
                                  * length not its type's; by more1090_pages and more1090_compare_log; value: the first such record */
 };
@@ -255,6 +256,41 @@ more1090_log_result more1090_compare_log(const uint8_t *log, size_t log_length, 
                                          uint64_t tolerance, uint64_t *partners, size_t partners_length, uint64_t *owners,
                                          size_t owners_length);
 
+#define MORE1090_RACK_FEEDS 16
+#define MORE1090_RACK_MEMORY_LEN 8190 /* floats */
+
+/* A rack between two calls: plain data with no pointers and no padding, to be stored with its memory. Any bytes are taken as
+ * one: more than 16 feeds are read as 16, and a delay or `seen` above 4,095 as 4,095. */
+typedef struct more1090_rack {
+    uint64_t feeds;
+    uint64_t seen; /* samples taken so far, counted up to 4,095 */
+    uint64_t delays[MORE1090_RACK_FEEDS];
+    float gains[MORE1090_RACK_FEEDS];
+} more1090_rack;
+
+typedef struct more1090_rack_result {
+    more1090_rack rack; /* for the next call */
+    uint64_t refusal;   /* 0, 9 or 17 */
+} more1090_rack_result;
+
+/* Opens a rack of 1 to 16 feeds, each with a delay of 0 to 4,095 samples and a gain of 0 to 1 (-0.0 is in range, a NaN is
+ * not). Checks 9 (memory not MORE1090_RACK_MEMORY_LEN, delays and gains of unlike lengths), then 17, and answers the first
+ * that fails: rack is then all zero, and memory is unchanged. Else the refusal is 0 and memory is all 0.0.
+ * (crates/more1090_rack, and rack_theory/specs/OpenedRacks.antt for lists of calls) */
+more1090_rack_result more1090_rack_open(float *memory, size_t memory_length,
+                                        const uint64_t *delays, size_t delays_length,
+                                        const float *gains, size_t gains_length);
+
+/* Takes samples, two floats each, and writes as many for each feed to room, feed 0's first: room_length must be the number
+ * of feeds times samples_length. Feed i at sample n, counted from the opening, is its gain times sample n minus its delay, a
+ * product for each of the two floats, and +0.0 before that. No samples, and room of length 0, are accepted. 9 (memory,
+ * samples of odd length, room of another length) changes nothing, and no other refusal comes. What more1090_run wrote may be
+ * taken in any parts: how it is cut changes no feed, and neither do the other feeds. */
+more1090_rack_result more1090_rack_run(more1090_rack rack,
+                                       float *memory, size_t memory_length,
+                                       const float *samples, size_t samples_length,
+                                       float *room, size_t room_length);
+
 #ifdef __cplusplus
 }
 #define MORE1090_ASSERT(holds) static_assert(holds, "layout")
@@ -267,6 +303,8 @@ MORE1090_ASSERT(sizeof(more1090_run_result) == 264 && offsetof(more1090_run_resu
 MORE1090_ASSERT(offsetof(more1090_run_result, samples_added_high) == 248);
 MORE1090_ASSERT(sizeof(more1090_pages_result) == 24 && sizeof(more1090_line_result) == 40);
 MORE1090_ASSERT(sizeof(more1090_log_result) == 40 && offsetof(more1090_log_result, value) == 32);
+MORE1090_ASSERT(sizeof(more1090_rack) == 208 && offsetof(more1090_rack, gains) == 144);
+MORE1090_ASSERT(sizeof(more1090_rack_result) == 216 && offsetof(more1090_rack_result, refusal) == 208);
 #undef MORE1090_ASSERT
 
 #endif

@@ -50,3 +50,13 @@ GUARDED(more1090_run_result, run,
          size_t noise_length, float *output, size_t output_length, uint8_t *records, size_t records_length),
         (state, mode_s, mode_s_length, mode_ac, mode_ac_length, memory, memory_length, draws, draws_length, noise, noise_length,
          output, output_length, records, records_length))
+
+GUARDED(more1090_rack_result, rack_open,
+        (float *memory, size_t memory_length, const uint64_t *delays, size_t delays_length, const float *gains,
+         size_t gains_length),
+        (memory, memory_length, delays, delays_length, gains, gains_length))
+
+GUARDED(more1090_rack_result, rack_run,
+        (more1090_rack rack, float *memory, size_t memory_length, const float *samples, size_t samples_length, float *room,
+         size_t room_length),
+        (rack, memory, memory_length, samples, samples_length, room, room_length))

@@ -21,6 +21,7 @@ mod parts {
     pub mod levels;
     pub mod pages;
     pub mod port;
+    pub mod rack;
     pub mod replies;
     pub mod runs;
     pub mod shape;
@@ -49,6 +50,7 @@ fn main() {
     parts::levels::compare(&mut tally, &mut Random::new(seed), count);
     parts::pages::compare(&mut tally, &mut Random::new(seed), count);
     parts::heard::compare(&mut tally, &mut Random::new(seed), count);
+    parts::rack::compare(&mut tally, &mut Random::new(seed), count);
     parts::shape::compare(&mut tally, &mut r, count);
     parts::starts::compare(&mut tally, &mut r, count);
     parts::runs::compare(&mut tally, &mut Random::new(seed), number(3, 1000));

@@ -144,6 +144,20 @@ static void check_logs(void) {
     expect("what it leaves", 5, partners[0]);
 }
 
+/* A rack of one feed that is lent nothing where the length is 0. */
+static void check_rack(void) {
+    static float held[MORE1090_RACK_MEMORY_LEN];
+    const uint64_t delay = 0;
+    const float gain = 1;
+    const more1090_rack rack = more1090_rack_open(held, MORE1090_RACK_MEMORY_LEN, &delay, 1, &gain, 1).rack;
+    expect("rack without memory", MORE1090_ERR_LENGTH, more1090_rack_open(NULL, 0, &delay, 1, &gain, 1).refusal);
+    expect("rack without feeds", MORE1090_ERR_FEEDS,
+           more1090_rack_open(held, MORE1090_RACK_MEMORY_LEN, NULL, 0, NULL, 0).refusal);
+    expect("feeds of the rack", 1, rack.feeds);
+    expect("no samples, no room", MORE1090_OK, more1090_rack_run(rack, held, MORE1090_RACK_MEMORY_LEN, NULL, 0, NULL, 0).refusal);
+    expect("no memory", MORE1090_ERR_LENGTH, more1090_rack_run(rack, NULL, 0, NULL, 0, NULL, 0).refusal);
+}
+
 int main(void) {
     make_settings(settings, 0.5f);
     make_taps(taps_s, MORE1090_MODE_S_TAPS_LEN);
@@ -154,5 +168,6 @@ int main(void) {
     check_levels();
     check_pages();
     check_logs();
+    check_rack();
     return failed;
 }

@@ -1,4 +1,6 @@
-//! What the published Rust draws at random, in its shapes and with its default numbers: draws for replies, and noise.
+//! What the published Rust draws at random, in its shapes and with its default numbers: draws for replies, and noise; and
+//! settings and lowpasses for a run of them.
+use crate::more1090_generator::SETTINGS_LEN;
 use std::f64::consts::{PI, SQRT_2};
 
 /// Typical weights of the types, in the order of `MessageType::ALL`.
@@ -74,4 +76,33 @@ impl Random {
         draw.push(u8::from(self.uniform() < 0.05));
         draw
     }
+}
+
+/// A lowpass of sum 1: a sinc under a Hamming window. The cutoff is in parts of 1 / 256 of the taps' rate.
+pub fn lowpass(taps: usize, cutoff: f64) -> Vec<f32> {
+    let last = (taps - 1) as f64;
+    let tap = |k: usize| {
+        let x = 2.0 * PI * cutoff / 256.0 * (k as f64 - last / 2.0);
+        let sinc = if x == 0.0 { 1.0 } else { x.sin() / x };
+        sinc * (0.54 - 0.46 * (2.0 * PI * k as f64 / last).cos())
+    };
+    let sum: f64 = (0..taps).map(tap).sum();
+    (0..taps).map(|k| (tap(k) / sum) as f32).collect()
+}
+
+/// Settings of a run with n replies a second of all types, `rate`.
+pub fn settings(seconds: f64, rate: f64, trigger_level: f32) -> [u8; SETTINGS_LEN] {
+    let mut s = Vec::new();
+    s.extend((seconds as u64).to_le_bytes());
+    s.extend(((seconds.fract() * 1e9) as u32).to_le_bytes());
+    WEIGHTS
+        .iter()
+        .for_each(|w| s.extend((w * rate).to_le_bytes()));
+    for [first, second] in [[100e3, 1e6], [0.0, 0.0], [CLOCK_MAX, 0.0f64]] {
+        s.push(1);
+        s.extend(first.to_le_bytes());
+        s.extend(second.to_le_bytes());
+    }
+    s.extend(trigger_level.to_le_bytes());
+    s.try_into().unwrap()
 }

@@ -1,6 +1,7 @@
 //! The program `more1090`: commands over the library, each a file in commands/ and a line in `COMMANDS`.
 //!
 //! Exit status: 0 done; 1 refused; 2 wrong use; 3 a file or pipe failed.
+mod draws;
 mod more1090_generator;
 mod shell;
 mod commands {
@@ -8,11 +9,12 @@ mod commands {
     pub mod level;
     pub mod message;
     pub mod pages;
+    pub mod rack;
 }
 
 use shell::{Command, Failure};
 
-const COMMANDS: &[Command] = &[commands::heard::COMMAND, commands::level::COMMAND, commands::message::COMMAND, commands::pages::COMMAND];
+const COMMANDS: &[Command] = &[commands::heard::COMMAND, commands::level::COMMAND, commands::message::COMMAND, commands::pages::COMMAND, commands::rack::COMMAND];
 
 const VERSION: &str = include_str!("../../VERSION");
 

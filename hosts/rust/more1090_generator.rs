@@ -344,5 +344,73 @@ pub fn compare_log_into(log: &[u8], records: &[u8], tolerance: u64, partners: &m
             log.as_ptr(), log.len(), records.as_ptr(), records.len(), tolerance,
             partners.as_mut_ptr(), partners.len(), owners.as_mut_ptr(), owners.len(),
         )
+/// The most feeds of a rack, and its memory in f32.
+pub const RACK_FEEDS: usize = 16;
+pub const RACK_MEMORY: usize = 8190;
+
+#[repr(C)]
+#[derive(Clone, Copy, Debug, PartialEq)]
+pub struct RackState {
+    pub feeds: u64,
+    pub seen: u64,
+    pub delays: [u64; RACK_FEEDS],
+    pub gains: [f32; RACK_FEEDS],
+}
+
+#[repr(C)]
+pub struct RackResult {
+    pub state: RackState,
+    pub refusal: u64,
+}
+
+const _: () = assert!(size_of::<RackState>() == 208 && size_of::<RackResult>() == 216);
+
+#[rustfmt::skip]
+unsafe extern "C" {
+    fn more1090_rack_open(memory: *mut f32, memory_length: usize, delays: *const u64, delays_length: usize,
+        gains: *const f32, gains_length: usize) -> RackResult;
+    fn more1090_rack_run(rack: RackState, memory: *mut f32, memory_length: usize, samples: *const f32, samples_length: usize,
+        room: *mut f32, room_length: usize) -> RackResult;
+}
+
+/// `more1090_rack_open`, on slices of any length.
+#[rustfmt::skip]
+pub fn rack_open(memory: &mut [f32], delays: &[u64], gains: &[f32]) -> RackResult {
+    unsafe {
+        more1090_rack_open(memory.as_mut_ptr(), memory.len(), delays.as_ptr(), delays.len(), gains.as_ptr(), gains.len())
+    }
+}
+
+/// `more1090_rack_run`, on any state and slices of any length.
+#[rustfmt::skip]
+pub fn rack_run(state: RackState, memory: &mut [f32], samples: &[f32], room: &mut [f32]) -> RackResult {
+    unsafe {
+        more1090_rack_run(state, memory.as_mut_ptr(), memory.len(), samples.as_ptr(), samples.len(),
+            room.as_mut_ptr(), room.len())
+    }
+}
+
+/// A rack of delayed feeds with its memory.
+pub struct Rack {
+    pub state: RackState,
+    memory: Vec<f32>,
+}
+
+impl Rack {
+    /// Opens a rack of feeds with these delays, in samples, and gains; or answers the refusal's number.
+    pub fn open(delays: &[u64], gains: &[f32]) -> Result<Rack, u64> {
+        let mut memory = vec![0.0; RACK_MEMORY];
+        let opened = rack_open(&mut memory, delays, gains);
+        if opened.refusal != 0 {
+            return Err(opened.refusal);
+        }
+        Ok(Rack { state: opened.state, memory })
+    }
+
+    /// Takes samples, and writes as many for each feed to `room`, feed 0's first; or answers the refusal's number.
+    pub fn call(&mut self, samples: &[f32], room: &mut [f32]) -> Result<(), u64> {
+        let ran = rack_run(self.state, &mut self.memory, samples, room);
+        self.state = ran.state;
+        if ran.refusal == 0 { Ok(()) } else { Err(ran.refusal) }
     }
 }

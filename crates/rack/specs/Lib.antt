@@ -1,0 +1,4 @@
+pub mod Feeds
+pub mod Memory
+pub mod Opening
+pub mod WrittenModel

@@ -1,0 +1,2 @@
+pub mod ThreeParts
+pub mod Test

@@ -1,0 +1,69 @@
+-- `clear_stretch` meets its contract: i numbers are 0.0.
+use Prim.Native.Nat.{_-_, _≤_}
+use mathlib.Core.Path.{_≡_, ap, _∙_}
+use lib.ListN.{length, length-set}
+use lib.Ieee.{ofBits}
+use Rattle.rack.specs.Feeds.{silent}
+use Rattle.rack.specs.WrittenModel.{overwritten}
+use Rattle.rack.proofs.Stretches.{none-written, clear-next}
+use borrow.Author.Needs.{needs}
+use native.Mathlib.Omega.{arith}
+use Rattle.rack_feed.proofs.clear_stretch.Statement.{statement}
+use Rattle.rack_feed.proofs.clear_stretch.Tie as tie
+
+abbrev Inv-loop : tie.InvT-loop
+Inv-loop room₀ at len i₀ room i = (i ≤ len) × (length room ≡ length room₀) × (room ≡ overwritten at (silent i) room₀)
+
+abbrev μ-loop : tie.MeasureT-loop
+μ-loop room₀ at len i₀ room i = len - i
+
+loop-holds : tie.Need-loop-holds Inv-loop μ-loop
+unfolding silent
+loop-holds c = (search needs, search needs, none-written (c .args .at) (c .args .room .now))
+
+add-room : tie.Need-add-room Inv-loop μ-loop
+add-room c = search needs
+
+mul-room : tie.Need-mul-room Inv-loop μ-loop
+mul-room c = search needs
+
+slice-write-room : tie.Need-slice-write-room Inv-loop μ-loop
+slice-write-room c = search needs
+
+add-i : tie.Need-add-i Inv-loop μ-loop
+add-i c = search needs
+
+loop-less : tie.Need-loop-less Inv-loop μ-loop
+loop-less c = search needs
+
+loop-again : tie.Need-loop-again Inv-loop μ-loop
+unfolding ofBits
+loop-again c =
+    let l = c .before .loop in
+    let a = c .before .before .args in
+    (search needs, simp length-set (search needs), clear-next (a .room .now) (l .room) (a .at) (l .i) (search needs) (l .inv .2))
+
+same-length : tie.Need-same-length Inv-loop μ-loop
+same-length c = search needs
+
+returns : tie.Need-returns Inv-loop μ-loop
+returns c =
+    let l = c .before .loop in
+    let a = c .before .before .args in
+    l .inv .2 ∙ ap (λ n. overwritten (a .at) (silent n) (a .room .now)) {x = l .i} {y = a .len} (omega arith)
+
+pub clear-stretch-spec : {M : Type 1} → statement M
+clear-stretch-spec =
+    tie.close
+    (tie.spec
+    Inv-loop
+    μ-loop
+    loop-holds
+    add-room
+    mul-room
+    slice-write-room
+    add-i
+    loop-less
+    loop-again
+    same-length
+    returns)

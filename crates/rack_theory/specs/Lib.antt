@@ -1,0 +1,2 @@
+pub mod PlainRack
+pub mod OpenedRacks
