@@ -344,6 +344,9 @@ pub fn compare_log_into(log: &[u8], records: &[u8], tolerance: u64, partners: &m
             log.as_ptr(), log.len(), records.as_ptr(), records.len(), tolerance,
             partners.as_mut_ptr(), partners.len(), owners.as_mut_ptr(), owners.len(),
         )
+    }
+}
+
 /// The most feeds of a rack, and its memory in f32.
 pub const RACK_FEEDS: usize = 16;
 pub const RACK_MEMORY: usize = 8190;
