@@ -17,6 +17,7 @@ mod parts {
     pub mod flips;
     pub mod floats;
     pub mod interrogators;
+    pub mod levels;
     pub mod port;
     pub mod rack;
     pub mod replies;
@@ -44,6 +45,7 @@ fn main() {
     parts::replies::compare(&mut tally, &mut r, count);
     parts::flips::compare(&mut tally, &mut Random::new(seed), count);
     parts::interrogators::compare(&mut tally, &mut Random::new(seed), count);
+    parts::levels::compare(&mut tally, &mut Random::new(seed), count);
     parts::rack::compare(&mut tally, &mut Random::new(seed), count);
     parts::shape::compare(&mut tally, &mut r, count);
     parts::starts::compare(&mut tally, &mut r, count);

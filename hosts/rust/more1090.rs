@@ -5,13 +5,14 @@ mod draws;
 mod more1090_generator;
 mod shell;
 mod commands {
+    pub mod level;
     pub mod message;
     pub mod rack;
 }
 
 use shell::{Command, Failure};
 
-const COMMANDS: &[Command] = &[commands::message::COMMAND, commands::rack::COMMAND];
+const COMMANDS: &[Command] = &[commands::level::COMMAND, commands::message::COMMAND, commands::rack::COMMAND];
 
 const VERSION: &str = include_str!("../../VERSION");
 

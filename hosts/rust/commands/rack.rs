@@ -17,6 +17,9 @@ pub const COMMAND: Command = Command {
 /// Samples of a run call.
 const CALL: usize = 1 << 14;
 
+/// The trigger level of its pulses.
+const TRIGGER_LEVEL: f32 = 0.5;
+
 struct Feed<'a> {
     delay: u64,
     gain: f32,
@@ -50,7 +53,7 @@ fn run(args: &[String]) -> Result<(), Failure> {
     let gains: Vec<f32> = feeds.iter().map(|f| f.gain).collect();
     let rack = Rack::open(&delays, &gains).map_err(|number| refused(number, 0, 0))?;
     let taps = (lowpass(MODE_S_TAPS_LEN, 2.0), lowpass(MODE_AC_TAPS_LEN, 2.0 * 1450.0 / 1500.0));
-    let run = Run::open(&settings(seconds, rate), &taps.0, &taps.1).map_err(|(number, value)| refused(number, value, 0))?;
+    let run = Run::open(&settings(seconds, rate, TRIGGER_LEVEL), &taps.0, &taps.1).map_err(|(number, value)| refused(number, value, 0))?;
     let outputs = feeds.iter().map(|f| Output::open(f.file)).collect::<Result<Vec<_>, _>>()?;
     feed(run, rack, rate, seed, outputs)
 }
@@ -63,7 +66,7 @@ fn feed(mut run: Run, mut rack: Rack, rate: f64, seed: u64, mut outputs: Vec<Out
     let mut room = vec![0.0; outputs.len() * output.len()];
     loop {
         while draws.len() < 64 * DRAW_LEN {
-            draws.extend(drawn.draw(rate));
+            draws.extend(drawn.draw(rate, None));
         }
         while noise.len() < output.len() {
             noise.extend(noisy.normals().map(|x| x as f32));
