@@ -14,12 +14,12 @@ inOrder f (suc i) = inOrder f i ++ f i
 
 module _ (delays : List ℕ) (gains : List Float) where
   -- feed i of all samples so far
-  abbrev pub feedOf : ℕ → List Float → List Float
-  feedOf i samples = delayed (getD gains i nan) (getD delays i 0) samples
+  abbrev pub feedSoFar : ℕ → List Float → List Float
+  feedSoFar i samples = delayed (getD gains i nan) (getD delays i 0) samples
 
   -- the new part of each feed, feed 0's first, where `taken` were taken before
   abbrev pub newFeeds : List Float → List Float → List Float
-  newFeeds taken samples = inOrder (λ i. drop (length taken) (feedOf i (taken ++ samples))) (length delays)
+  newFeeds taken samples = inOrder (λ i. drop (length taken) (feedSoFar i (taken ++ samples))) (length delays)
 
   -- a call is accepted by its lengths alone
   abbrev pub accepts : Call → Bool

@@ -17,6 +17,9 @@ pub const COMMAND: Command = Command {
 /// Samples of a run call.
 const CALL: usize = 1 << 14;
 
+/// The trigger level of its pulses.
+const TRIGGER_LEVEL: f32 = 0.5;
+
 struct Feed<'a> {
     delay: u64,
     gain: f32,
