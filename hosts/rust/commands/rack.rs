@@ -53,7 +53,7 @@ fn run(args: &[String]) -> Result<(), Failure> {
     let gains: Vec<f32> = feeds.iter().map(|f| f.gain).collect();
     let rack = Rack::open(&delays, &gains).map_err(|number| refused(number, 0, 0))?;
     let taps = (lowpass(MODE_S_TAPS_LEN, 2.0), lowpass(MODE_AC_TAPS_LEN, 2.0 * 1450.0 / 1500.0));
-    let run = Run::open(&settings(seconds, rate, 0.5), &taps.0, &taps.1).map_err(|(number, value)| refused(number, value, 0))?;
+    let run = Run::open(&settings(seconds, rate, TRIGGER_LEVEL), &taps.0, &taps.1).map_err(|(number, value)| refused(number, value, 0))?;
     let outputs = feeds.iter().map(|f| Output::open(f.file)).collect::<Result<Vec<_>, _>>()?;
     feed(run, rack, rate, seed, outputs)
 }
