@@ -1,16 +1,20 @@
 //! The program `more1090`: commands over the library, each a file in commands/ and a line in `COMMANDS`.
 //!
 //! Exit status: 0 done; 1 refused; 2 wrong use; 3 a file or pipe failed.
+mod draws;
 mod more1090_generator;
+mod sha256;
 mod shell;
+mod signals;
 mod commands {
     pub mod level;
     pub mod message;
+    pub mod random;
 }
 
 use shell::{Command, Failure};
 
-const COMMANDS: &[Command] = &[commands::level::COMMAND, commands::message::COMMAND];
+const COMMANDS: &[Command] = &[commands::level::COMMAND, commands::message::COMMAND, commands::random::COMMAND];
 
 const VERSION: &str = include_str!("../../VERSION");
 
@@ -39,6 +43,7 @@ fn run(args: &[String]) -> Result<(), Failure> {
 }
 
 fn main() {
+    signals::catch();
     let args: Vec<String> = std::env::args_os().skip(1).map(|a| a.to_string_lossy().into_owned()).collect();
     if let Err(failure) = run(&args) {
         failure.report();
