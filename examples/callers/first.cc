@@ -1,4 +1,5 @@
 // A first caller in C++: opens a run on settings that are all 0, and prints the refusal. README shows how to build it.
+#include <cstdint>
 #include <cstdio>
 #include <more1090_generator.h>
 #include <vector>

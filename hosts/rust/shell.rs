@@ -189,8 +189,12 @@ impl Output {
             return Err(failed(Error::new(ErrorKind::InvalidInput, "it is no name of a file")));
         }
         let there = fs::metadata(name).ok();
-        if there.as_ref().is_some_and(|m| !m.is_file()) {
-            return Ok(output(None, File::options().write(true).open(name).map_err(failed)?));
+        if let Some(there) = &there {
+            // A file that may not be written is not replaced either.
+            let to = File::options().write(true).open(name).map_err(failed)?;
+            if !there.is_file() {
+                return Ok(output(None, to));
+            }
         }
         // A link stays, and what it leads to is written.
         let own = fs::canonicalize(name).unwrap_or_else(|_| name.into());

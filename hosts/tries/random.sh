@@ -20,7 +20,7 @@ empty() { [ -z "$(ls -A "$1")" ]; }
 mkdir "$scratch/files"
 file=$scratch/files/a lines=$scratch/files/b
 
-# Durations are exact: 2.3 s has 18,400,000 samples. In f64, 0.0023 s would lose one too.
+# Durations are exact: 2.3 s has 18,400,000 samples, where the part of 2.3 after the point as an f64 has 299,999,999 ns.
 runs 0 "18400000 of 18400000 samples" 2.3 1 1 /dev/null
 runs 0 "of 8 samples" 0.000001 1000 1 /dev/null
 runs 0 "0 of 0 samples" 0 1000 1 /dev/null
@@ -109,5 +109,8 @@ holds "a link stays, and what it leads to is written" [ -L "$scratch/files/link"
 # Sums.
 (cd "$scratch/files" && "$program" random --sum 0.001 4000 1 a b 2>/dev/null >../sums && sha256sum a b | cmp -s - ../sums)
 holds "--sum prints what sha256sum does" [ $? = 0 ]
-"$program" random --sum 0.00000025 4000 1 - 2>"$scratch/err" | sha256sum >"$scratch/sums"
-holds "--sum is on standard error beside samples" grep -qxF "$(cat "$scratch/sums")" "$scratch/err"
+# No byte, and 48, 56, 64, 112, 120 and 128 bytes: the ends of one block and of two.
+for seconds in 0 0.00000075 0.000000875 0.000001 0.00000175 0.000001875 0.000002; do
+    "$program" random --sum $seconds 4000 1 - 2>"$scratch/err" | sha256sum >"$scratch/sums"
+    holds "--sum of $seconds s, on standard error beside samples" grep -qxF "$(cat "$scratch/sums")" "$scratch/err"
+done
