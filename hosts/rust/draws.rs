@@ -1,11 +1,13 @@
-//! What the published Rust draws at random, in its shapes and with its default numbers: draws for replies, and noise; and
-//! settings and lowpasses for a run of them.
-use crate::more1090_generator::SETTINGS_LEN;
+//! A run with random replies, in the shapes and with the default numbers of the published Rust: its settings, lowpasses, draws and
+//! noise.
+use crate::more1090_generator::{
+    DRAW_LEN, MODE_AC_TAPS_LEN, MODE_S_TAPS_LEN, RECORD_LEN, Run, RunResult, SETTINGS_LEN,
+};
 use std::f64::consts::{PI, SQRT_2};
 
 /// Typical weights of the types, in the order of `MessageType::ALL`.
-pub const WEIGHTS: [f64; 7] = [0.45, 0.17, 0.109, 0.059, 0.108, 0.004, 0.1];
-pub const CLOCK_MAX: f64 = 50e-6;
+const WEIGHTS: [f64; 7] = [0.45, 0.17, 0.109, 0.059, 0.108, 0.004, 0.1];
+const CLOCK_MAX: f64 = 50e-6;
 
 /// C/N0 in dB Hz, for the record, and the amplitude.
 #[derive(Clone, Copy)]
@@ -15,7 +17,7 @@ pub struct Level {
 }
 
 /// SplitMix64.
-pub struct Random(pub u64);
+struct Random(u64);
 
 impl Random {
     fn next(&mut self) -> u64 {
@@ -35,7 +37,7 @@ impl Random {
     }
 
     /// Two normal values, by Box and Muller.
-    pub fn normals(&mut self) -> [f64; 2] {
+    fn normals(&mut self) -> [f64; 2] {
         let r = (-2.0 * (1.0 - self.uniform()).ln()).sqrt();
         let (s, c) = (2.0 * PI * self.uniform()).sin_cos();
         [r * c, r * s]
@@ -49,7 +51,7 @@ impl Random {
     }
 
     /// The next draw: an exponential gap, a weighted type, and a sender by distance, or at one level.
-    pub fn draw(&mut self, rate: f64, level: Option<Level>) -> Vec<u8> {
+    fn draw(&mut self, rate: f64, level: Option<Level>) -> Vec<u8> {
         let gap = -(1.0 - self.uniform()).ln() * 8e6 / rate;
         let mut left = self.uniform() * WEIGHTS.iter().sum::<f64>();
         let above = |w: &f64| {
@@ -79,7 +81,7 @@ impl Random {
 }
 
 /// A lowpass of sum 1: a sinc under a Hamming window. The cutoff is in parts of 1 / 256 of the taps' rate.
-pub fn lowpass(taps: usize, cutoff: f64) -> Vec<f32> {
+fn lowpass(taps: usize, cutoff: f64) -> Vec<f32> {
     let last = (taps - 1) as f64;
     let tap = |k: usize| {
         let x = 2.0 * PI * cutoff / 256.0 * (k as f64 - last / 2.0);
@@ -90,19 +92,81 @@ pub fn lowpass(taps: usize, cutoff: f64) -> Vec<f32> {
     (0..taps).map(|k| (tap(k) / sum) as f32).collect()
 }
 
-/// Settings of a run with n replies a second of all types, `rate`.
-pub fn settings(seconds: f64, rate: f64, trigger_level: f32) -> [u8; SETTINGS_LEN] {
+/// What a random run is asked for: seconds and nanoseconds, replies a second of all types, the generators' seed, one level for
+/// every reply or by distance, and where on its rise a pulse is timed.
+pub struct Asked {
+    pub duration: (u64, u32),
+    pub rate: f64,
+    pub seed: u64,
+    pub level: Option<Level>,
+    pub trigger_level: f32,
+}
+
+fn settings(asked: &Asked) -> [u8; SETTINGS_LEN] {
     let mut s = Vec::new();
-    s.extend((seconds as u64).to_le_bytes());
-    s.extend(((seconds.fract() * 1e9) as u32).to_le_bytes());
-    WEIGHTS
-        .iter()
-        .for_each(|w| s.extend((w * rate).to_le_bytes()));
+    s.extend(asked.duration.0.to_le_bytes());
+    s.extend(asked.duration.1.to_le_bytes());
+    for weight in WEIGHTS {
+        s.extend((weight * asked.rate).to_le_bytes());
+    }
     for [first, second] in [[100e3, 1e6], [0.0, 0.0], [CLOCK_MAX, 0.0f64]] {
         s.push(1);
         s.extend(first.to_le_bytes());
         s.extend(second.to_le_bytes());
     }
-    s.extend(trigger_level.to_le_bytes());
+    s.extend(asked.trigger_level.to_le_bytes());
     s.try_into().unwrap()
+}
+
+const REPLIES_A_CALL: usize = 64;
+
+/// A random run and all that is passed to its calls. The draws and the noise have a generator each, so that the samples do not
+/// depend on how the run is cut into calls.
+pub struct RandomRun {
+    pub run: Run,
+    rate: f64,
+    level: Option<Level>,
+    drawn: Random,
+    noisy: Random,
+    draws: Vec<u8>,
+    noise: Vec<f32>,
+    output: Vec<f32>,
+    records: Vec<u8>,
+}
+
+impl RandomRun {
+    /// Opens it for calls of n samples at most, or answers the refusal's number and value.
+    pub fn open(asked: &Asked, samples_a_call: usize) -> Result<RandomRun, (u64, u64)> {
+        let taps = (lowpass(MODE_S_TAPS_LEN, 2.0), lowpass(MODE_AC_TAPS_LEN, 2.0 * 1450.0 / 1500.0));
+        Ok(RandomRun {
+            run: Run::open(&settings(asked), &taps.0, &taps.1)?,
+            rate: asked.rate,
+            level: asked.level,
+            drawn: Random(asked.seed),
+            noisy: Random(!asked.seed),
+            draws: Vec::new(),
+            noise: Vec::new(),
+            output: vec![0.0; 2 * samples_a_call],
+            records: vec![0; REPLIES_A_CALL * RECORD_LEN],
+        })
+    }
+
+    /// The next run call, with new draws and noise behind those that were left.
+    pub fn call(&mut self) -> RunResult {
+        while self.draws.len() < REPLIES_A_CALL * DRAW_LEN {
+            self.draws.extend(self.drawn.draw(self.rate, self.level));
+        }
+        while self.noise.len() < self.output.len() {
+            self.noise.extend(self.noisy.normals().map(|x| x as f32));
+        }
+        let ran = self.run.call(&self.draws, &self.noise, &mut self.output, &mut self.records);
+        self.draws.drain(..DRAW_LEN * ran.draws_taken as usize);
+        self.noise.drain(..ran.noise_used as usize);
+        ran
+    }
+
+    /// The samples, two f32 each, and the records that a call wrote.
+    pub fn written(&self, ran: &RunResult) -> (&[f32], &[u8]) {
+        (&self.output[..2 * ran.samples_written as usize], &self.records[..RECORD_LEN * ran.records_written as usize])
+    }
 }

@@ -3,18 +3,21 @@
 //! Exit status: 0 done; 1 refused; 2 wrong use; 3 a file or pipe failed.
 mod draws;
 mod more1090_generator;
+mod sha256;
 mod shell;
+mod signals;
 mod commands {
     pub mod heard;
     pub mod level;
     pub mod message;
     pub mod pages;
     pub mod rack;
+    pub mod random;
 }
 
 use shell::{Command, Failure};
 
-const COMMANDS: &[Command] = &[commands::heard::COMMAND, commands::level::COMMAND, commands::message::COMMAND, commands::pages::COMMAND, commands::rack::COMMAND];
+const COMMANDS: &[Command] = &[commands::heard::COMMAND, commands::level::COMMAND, commands::message::COMMAND, commands::pages::COMMAND, commands::rack::COMMAND, commands::random::COMMAND];
 
 const VERSION: &str = include_str!("../../VERSION");
 
@@ -43,6 +46,7 @@ fn run(args: &[String]) -> Result<(), Failure> {
 }
 
 fn main() {
+    signals::catch();
     let args: Vec<String> = std::env::args_os().skip(1).map(|a| a.to_string_lossy().into_owned()).collect();
     if let Err(failure) = run(&args) {
         failure.report();

@@ -2,8 +2,12 @@
 // A command uses a part of it.
 #![allow(dead_code)]
 
+use crate::sha256::Sha256;
+use crate::signals;
 use std::fs::{self, File};
-use std::io::{Read, Write};
+use std::io::{BufWriter, Error, ErrorKind, IsTerminal, Read, Write};
+use std::os::fd::AsFd;
+use std::os::unix::fs::{FileTypeExt, MetadataExt};
 use std::path::{Path, PathBuf};
 
 /// A command: its name, its arguments in a line, a sentence for the list, its help, and what it does.
@@ -34,14 +38,14 @@ impl Failure {
         }
     }
 
-    /// Says it on standard error; a closed one is no reason to end otherwise.
+    /// Says it on standard error.
     pub fn report(&self) {
         let text = match self {
             Failure::Refused(why) => format!("more1090: {why}"),
             Failure::Use(how) => format!("more1090: {}", how.trim_end()),
             Failure::File(name, e) => format!("more1090: {name}: {e}"),
         };
-        let _ = writeln!(std::io::stderr(), "{text}");
+        note(&text);
     }
 
     /// A wrong use, with the command's line of arguments.
@@ -53,27 +57,42 @@ impl Failure {
     }
 }
 
-/// A command's words: options by name, each with a value, and the rest in order.
+/// A command's words: options by name, each with a value, flags, and the rest in order.
 pub struct Words<'a> {
     options: Vec<(&'a str, &'a str)>,
     pub rest: Vec<&'a str>,
 }
 
+/// The flag of every command that writes samples: print the SHA-256 of what was written.
+pub const SUM: &str = "--sum";
+
 /// The words of a command that takes these options, each once, and from `least` to `most` other words. A word of its own that
 /// begins with `-` is `-` itself, or a negative number.
 pub fn words<'a>(args: &'a [String], options: &[&str], least: usize, most: usize) -> Result<Words<'a>, Failure> {
+    words_and_flags(args, options, &[], least, most)
+}
+
+/// `words`, with flags: options that take no value.
+pub fn words_and_flags<'a>(
+    args: &'a [String],
+    options: &[&str],
+    flags: &[&str],
+    least: usize,
+    most: usize,
+) -> Result<Words<'a>, Failure> {
     let mut found = Words { options: Vec::new(), rest: Vec::new() };
     let mut left = args.iter();
     while let Some(word) = left.next() {
         if word.starts_with('-') && word != "-" && word.parse::<f64>().is_err() {
-            let Some(&name) = options.iter().find(|o| **o == word.as_str()) else {
+            let flag = flags.contains(&word.as_str());
+            if !flag && !options.contains(&word.as_str()) {
                 return Err(Failure::Use(format!("there is no option {word}")));
-            };
-            if found.options.iter().any(|(n, _)| *n == name) {
+            }
+            if found.flag(word) {
                 return Err(Failure::Use(format!("{word} is given twice")));
             }
-            let value = left.next().ok_or_else(|| Failure::Use(format!("{word} wants a value")))?;
-            found.options.push((word, value));
+            let value = if flag { Some(word) } else { left.next() };
+            found.options.push((word, value.ok_or_else(|| Failure::Use(format!("{word} wants a value")))?));
         } else {
             found.rest.push(word);
         }
@@ -90,6 +109,11 @@ impl Words<'_> {
         self.options.iter().find(|(n, _)| *n == name).map(|(_, v)| *v)
     }
 
+    /// Whether a flag is given.
+    pub fn flag(&self, name: &str) -> bool {
+        self.option(name).is_some()
+    }
+
     /// An option's number, or another where it is not given.
     pub fn number<T: std::str::FromStr>(&self, name: &str, other: T) -> Result<T, Failure> {
         self.option(name).map_or(Ok(other), |text| number(text, name))
@@ -101,6 +125,19 @@ pub fn number<T: std::str::FromStr>(text: &str, what: &str) -> Result<T, Failure
     text.parse().map_err(|_| Failure::Use(format!("{what}: {text} is no number that it takes")))
 }
 
+const NANOSECOND_DIGITS: usize = 9;
+
+/// Seconds and nanoseconds of a duration in decimal digits, exact: at most nine of them after the point.
+pub fn duration(text: &str) -> Result<(u64, u32), Failure> {
+    let (whole, part) = text.split_once('.').unwrap_or((text, "0"));
+    let digits = |t: &str| !t.is_empty() && t.bytes().all(|b| b.is_ascii_digit());
+    let seconds = whole.parse().ok().filter(|_| digits(whole) && digits(part) && part.len() <= NANOSECOND_DIGITS);
+    match (seconds, format!("{part:0<NANOSECOND_DIGITS$}").parse()) {
+        (Some(seconds), Ok(nanoseconds)) => Ok((seconds, nanoseconds)),
+        _ => Err(Failure::Use(format!("{text} is no number of seconds: digits, and at most nine after a point"))),
+    }
+}
+
 /// A file whole, or standard input for `-`.
 pub fn read(name: &str) -> Result<Vec<u8>, Failure> {
     let failed = |e| Failure::File(if name == "-" { "standard input" } else { name }.into(), e);
@@ -110,6 +147,11 @@ pub fn read(name: &str) -> Result<Vec<u8>, Failure> {
     let mut bytes = Vec::new();
     std::io::stdin().read_to_end(&mut bytes).map_err(failed)?;
     Ok(bytes)
+}
+
+/// A line to standard error; a closed one is no reason to end.
+pub fn note(text: &str) {
+    let _ = writeln!(std::io::stderr(), "{text}");
 }
 
 /// Text to standard output.
@@ -125,49 +167,145 @@ pub fn write(name: &str, bytes: &[u8]) -> Result<(), Failure> {
 }
 
 /// A file that is written under a temporary name and gets its own when it is closed; standard output for `-`; or what is
-/// there already and is no regular file, a pipe or a device, as it is. Dropped without `close` it leaves nothing.
+/// there already and is no regular file, a pipe or a device, as it is. Dropped without `close`, or ended by a signal, it
+/// leaves nothing.
 pub struct Output {
     name: String,
-    temporary: Option<PathBuf>,
-    to: Box<dyn Write>,
+    /// The temporary name and the one that the file gets.
+    names: Option<(PathBuf, PathBuf)>,
+    to: BufWriter<File>,
+    sum: Option<Sha256>,
 }
 
 impl Output {
     pub fn open(name: &str) -> Result<Output, Failure> {
+        let shown = if name == "-" { "standard output" } else { name };
+        let failed = |e| Failure::File(shown.into(), e);
+        let output = |names, to| Output { name: shown.into(), names, to: BufWriter::new(to), sum: None };
         if name == "-" {
-            return Ok(Output { name: "standard output".into(), temporary: None, to: Box::new(std::io::stdout()) });
+            return Ok(output(None, standard_output().map_err(failed)?));
         }
-        let failed = |e| Failure::File(name.into(), e);
-        if fs::metadata(name).is_ok_and(|m| !m.is_file()) {
+        if name.is_empty() || name.ends_with('/') {
+            return Err(failed(Error::new(ErrorKind::InvalidInput, "it is no name of a file")));
+        }
+        let there = fs::metadata(name).ok();
+        if let Some(there) = &there {
+            // A file that may not be written is not replaced either.
             let to = File::options().write(true).open(name).map_err(failed)?;
-            return Ok(Output { name: name.into(), temporary: None, to: Box::new(to) });
+            if !there.is_file() {
+                return Ok(output(None, to));
+            }
         }
-        let temporary = beside(Path::new(name));
+        // A link stays, and what it leads to is written.
+        let own = fs::canonicalize(name).unwrap_or_else(|_| name.into());
+        let temporary = beside(&own);
         let to = File::create_new(&temporary).map_err(failed)?;
-        Ok(Output { name: name.into(), temporary: Some(temporary), to: Box::new(std::io::BufWriter::new(to)) })
+        signals::remove_when_ended(&temporary);
+        let output = output(Some((temporary, own)), to);
+        if let Some(there) = there {
+            output.to.get_ref().set_permissions(there.permissions()).map_err(failed)?;
+        }
+        Ok(output)
+    }
+
+    /// An output for bytes that are no text: a terminal is not one.
+    pub fn open_binary(name: &str) -> Result<Output, Failure> {
+        let output = Output::open(name)?;
+        if output.to.get_ref().is_terminal() {
+            return Err(Failure::Use(format!("{} is a terminal, and samples are no text: name a file or a pipe", output.name)));
+        }
+        Ok(output)
+    }
+
+    /// Its bytes are summed from here on.
+    pub fn summed(mut self, wanted: bool) -> Output {
+        self.sum = wanted.then(Sha256::new);
+        self
     }
 
     pub fn put(&mut self, bytes: &[u8]) -> Result<(), Failure> {
+        if let Some(sum) = &mut self.sum {
+            sum.put(bytes);
+        }
         self.to.write_all(bytes).map_err(|e| Failure::File(self.name.clone(), e))
+    }
+
+    /// Bytes that a reader of a pipe gets now.
+    pub fn put_at_once(&mut self, bytes: &[u8]) -> Result<(), Failure> {
+        self.put(bytes)?;
+        self.to.flush().map_err(|e| Failure::File(self.name.clone(), e))
+    }
+
+    /// Everything is handed on; a file is on the disk, under its temporary name.
+    pub fn finish(&mut self) -> Result<(), Failure> {
+        let done = self.to.flush().and_then(|()| if self.names.is_some() { self.to.get_ref().sync_all() } else { Ok(()) });
+        done.map_err(|e| Failure::File(self.name.clone(), e))
     }
 
     /// Everything is handed on, and the file has its name.
     pub fn close(mut self) -> Result<(), Failure> {
-        let failed = |e| Failure::File(self.name.clone(), e);
-        self.to.flush().map_err(failed)?;
-        if let Some(temporary) = self.temporary.take() {
-            fs::rename(&temporary, &self.name).map_err(failed)?;
+        self.finish()?;
+        if let Some((temporary, own)) = &self.names {
+            fs::rename(temporary, own).map_err(|e| Failure::File(self.name.clone(), e))?;
         }
         Ok(())
+    }
+
+    /// The line that `sha256sum` prints for what was put since `summed`.
+    pub fn sum_line(&self) -> Option<String> {
+        let name = if self.name == "standard output" { "-" } else { &self.name };
+        self.sum.clone().map(|sum| format!("{}  {name}\n", sum.hex()))
     }
 }
 
 impl Drop for Output {
     fn drop(&mut self) {
-        if let Some(temporary) = &self.temporary {
+        // After a rename nothing has the temporary name.
+        if let Some((temporary, _)) = &self.names {
             let _ = fs::remove_file(temporary);
+            signals::removed(temporary);
         }
     }
+}
+
+/// Closes samples and the records that belong to them: both are finished before one gets its name, and records of an earlier
+/// run are gone before the samples get theirs. So what has the name of records is never of other samples.
+pub fn close_both(mut samples: Output, mut records: Output) -> Result<(), Failure> {
+    samples.finish()?;
+    records.finish()?;
+    if let Some((_, own)) = &records.names {
+        let _ = fs::remove_file(own);
+    }
+    samples.close()?;
+    records.close()
+}
+
+/// Standard output as a file, so that a write that fails is reported; the standard library takes a closed one for a sink.
+fn standard_output() -> Result<File, Error> {
+    if signals::standard_output_was_closed() {
+        return Err(Error::new(ErrorKind::BrokenPipe, "it is closed"));
+    }
+    Ok(File::from(std::io::stdout().as_fd().try_clone_to_owned()?))
+}
+
+/// What two names of outputs are compared by: a file, pipe or block device that is there, or the folder and the name.
+fn identity(name: &str) -> Option<(u64, u64, Option<std::ffi::OsString>)> {
+    let path = Path::new(if name == "-" { "/dev/stdout" } else { name });
+    if let Ok(m) = fs::metadata(path) {
+        return (!m.file_type().is_char_device()).then(|| (m.dev(), m.ino(), None));
+    }
+    let folder = path.parent().filter(|p| !p.as_os_str().is_empty()).unwrap_or(Path::new("."));
+    let m = fs::metadata(folder).ok()?;
+    Some((m.dev(), m.ino(), path.file_name().map(Into::into)))
+}
+
+/// Refuses two outputs that are one file.
+pub fn apart(one: &str, other: &str) -> Result<(), Failure> {
+    let device = |name: &str| fs::metadata(name).is_ok_and(|m| m.file_type().is_char_device());
+    if (one == other && !device(one)) || (identity(one).is_some() && identity(one) == identity(other)) {
+        return Err(Failure::Use(format!("{one} and {other} are one file: the outputs want a file each")));
+    }
+    Ok(())
 }
 
 /// A name in the same folder that no other run of the program uses.

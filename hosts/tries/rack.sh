@@ -13,5 +13,5 @@ expect 2 "an argument is missing" rack 0.001 1000
 expect 2 "is not DELAY:GAIN:FILE" rack 0.001 1000 5:1
 expect 2 "the delay: x is no number that it takes" rack 0.001 1000 "x:1:$scratch/e"
 expect 2 "is given twice" rack 0.001 1000 "0:1:$scratch/e" "1:1:$scratch/e"
-expect 2 "negative or not finite" rack nan 1000 "0:1:$scratch/e"
+expect 2 "nan" rack nan 1000 "0:1:$scratch/e"
 expect 3 "$scratch/none/e" rack 0.001 1000 "0:1:$scratch/none/e"

@@ -1,7 +1,7 @@
 //! `more1090 rack`: a run of random replies, fed to one to sixteen files or pipes, each with its own delay and gain.
-use crate::draws::{Random, lowpass, settings};
-use crate::more1090_generator::{DRAW_LEN, MODE_AC_TAPS_LEN, MODE_S_TAPS_LEN, RECORD_LEN, Rack, Run, STOP_DONE};
-use crate::shell::{Command, Failure, Output, number, refused, words};
+use crate::draws::{Asked, RandomRun};
+use crate::more1090_generator::{Rack, STOP_DONE};
+use crate::shell::{Command, Failure, Output, duration, number, refused, words};
 
 pub const COMMAND: Command = Command {
     name: "rack",
@@ -34,16 +34,15 @@ fn feed_of(word: &str) -> Result<Feed<'_>, Failure> {
     Ok(Feed { delay: number(delay, "the delay")?, gain: number(gain, "the gain")?, file })
 }
 
-/// A number that is finite and not negative.
-fn size(text: &str, what: &str) -> Result<f64, Failure> {
-    let x: f64 = number(text, what)?;
-    if x.is_finite() && x >= 0.0 { Ok(x) } else { Err(Failure::Use(format!("{what}: {text} is negative or not finite"))) }
-}
-
 fn run(args: &[String]) -> Result<(), Failure> {
     let found = words(args, &["--seed"], 3, usize::MAX)?;
-    let (seconds, rate) = (size(found.rest[0], "the seconds")?, size(found.rest[1], "the replies")?);
-    let seed: u64 = found.number("--seed", 1)?;
+    let asked = Asked {
+        duration: duration(found.rest[0])?,
+        rate: number(found.rest[1], "the replies")?,
+        seed: found.number("--seed", 1)?,
+        level: None,
+        trigger_level: TRIGGER_LEVEL,
+    };
     let feeds = found.rest[2..].iter().map(|word| feed_of(word)).collect::<Result<Vec<_>, _>>()?;
     let twice = |k: usize| feeds[..k].iter().any(|f| f.file == feeds[k].file);
     if let Some(k) = (0..feeds.len()).find(|&k| twice(k)) {
@@ -52,32 +51,20 @@ fn run(args: &[String]) -> Result<(), Failure> {
     let delays: Vec<u64> = feeds.iter().map(|f| f.delay).collect();
     let gains: Vec<f32> = feeds.iter().map(|f| f.gain).collect();
     let rack = Rack::open(&delays, &gains).map_err(|number| refused(number, 0, 0))?;
-    let taps = (lowpass(MODE_S_TAPS_LEN, 2.0), lowpass(MODE_AC_TAPS_LEN, 2.0 * 1450.0 / 1500.0));
-    let run = Run::open(&settings(seconds, rate, TRIGGER_LEVEL), &taps.0, &taps.1).map_err(|(number, value)| refused(number, value, 0))?;
+    let run = RandomRun::open(&asked, CALL).map_err(|(number, value)| refused(number, value, 0))?;
     let outputs = feeds.iter().map(|f| Output::open(f.file)).collect::<Result<Vec<_>, _>>()?;
-    feed(run, rack, rate, seed, outputs)
+    feed(run, rack, outputs)
 }
 
 /// Runs to the end, and hands each run call's samples to the rack.
-fn feed(mut run: Run, mut rack: Rack, rate: f64, seed: u64, mut outputs: Vec<Output>) -> Result<(), Failure> {
-    let (mut drawn, mut noisy) = (Random(seed), Random(!seed));
-    let (mut draws, mut noise) = (Vec::new(), Vec::new());
-    let (mut output, mut records) = (vec![0.0; 2 * CALL], vec![0; 64 * RECORD_LEN]);
-    let mut room = vec![0.0; outputs.len() * output.len()];
+fn feed(mut run: RandomRun, mut rack: Rack, mut outputs: Vec<Output>) -> Result<(), Failure> {
+    let mut room = vec![0.0; outputs.len() * 2 * CALL];
     loop {
-        while draws.len() < 64 * DRAW_LEN {
-            draws.extend(drawn.draw(rate, None));
-        }
-        while noise.len() < output.len() {
-            noise.extend(noisy.normals().map(|x| x as f32));
-        }
-        let ran = run.call(&draws, &noise, &mut output, &mut records);
+        let ran = run.call();
         if ran.refusal != 0 {
             return Err(refused(ran.refusal, ran.value, ran.field));
         }
-        draws.drain(..DRAW_LEN * ran.draws_taken as usize);
-        noise.drain(..ran.noise_used as usize);
-        let samples = &output[..2 * ran.samples_written as usize];
+        let (samples, _) = run.written(&ran);
         let room = &mut room[..outputs.len() * samples.len()];
         rack.call(samples, room).map_err(|number| refused(number, 0, 0))?;
         if !samples.is_empty() {
