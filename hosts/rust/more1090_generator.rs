@@ -230,6 +230,7 @@ pub fn tenths_of_db(text: &str) -> Option<u64> {
         return None;
     }
     Some(format!("{whole}{tenth}").parse().unwrap_or(u64::MAX))
+}
 
 pub const LINE_LEN: usize = 72;
 pub const PAGE_LEN: usize = 4380;
