@@ -85,7 +85,7 @@ module _ (all : Distributions) (delays : Delays) (total : ℕ) where
     goes-on q = first ∙ go (next w rest) e ∙ ap (λ (n : ℕ). restOf n w′ (drop 65 rest)) (sym (add-one k))
       where
         go : (kind : Plain.Kind) → w′ ≡ progressAfter w (kindSeen kind) (timeAfter (w .time) (drawAt rest))
-            → Walk.byKind kind (Walk.walkFrom G (suc k) (w .records) (timeAfter (w .time) (drawAt rest)) (drawsOf G (drop 65 rest))) (record { records = w .records; end = Walk.atDraw k }) (Walk.walkFrom G (suc k) (suc (w .records)) (timeAfter (w .time) (drawAt rest)) (drawsOf G (drop 65 rest)))
+            → Walk.byKind kind (Walk.walkFrom G (suc k) (w .records) (timeAfter (w .time) (drawAt rest)) (drawsOf G (drop 65 rest))) (record { records = w .records; taken = suc k; end = Walk.atDraw k }) (Walk.walkFrom G (suc k) (suc (w .records)) (timeAfter (w .time) (drawAt rest)) (drawsOf G (drop 65 rest)))
             ≡ restOf (suc k) w′ (drop 65 rest)
         go Plain.ignored p = λ i. restOf (suc k) (sym p i) (drop 65 rest)
         go Plain.ends p = absurd (true≢false (sym (ap (λ (x : Progress). x .ended) p) ∙ q))
@@ -93,17 +93,17 @@ module _ (all : Distributions) (delays : Delays) (total : ℕ) where
             ap (λ (n : ℕ). Walk.walkFrom G (suc k) n (timeAfter (w .time) (drawAt rest)) (drawsOf G (drop 65 rest))) (sym (add-one (w .records)))
             ∙ (λ i. restOf (suc k) (sym p i) (drop 65 rest))
 
-    pub stops : w′ .ended ≡ true → restOf k w rest ≡ walkedRead (record { records = w′ .records; end = End.the-variants.Draw k })
+    pub stops : w′ .ended ≡ true → restOf k w rest ≡ walkedRead (record { records = w′ .records; taken = k + 1; end = End.the-variants.Draw k })
     unfolding timeAfter progressAfter kindSeen walkedRead endRead
     stops q = first ∙ go (next w rest) e
       where
         go : (kind : Plain.Kind) → w′ ≡ progressAfter w (kindSeen kind) (timeAfter (w .time) (drawAt rest))
-            → Walk.byKind kind (Walk.walkFrom G (suc k) (w .records) (timeAfter (w .time) (drawAt rest)) (drawsOf G (drop 65 rest))) (record { records = w .records; end = Walk.atDraw k }) (Walk.walkFrom G (suc k) (suc (w .records)) (timeAfter (w .time) (drawAt rest)) (drawsOf G (drop 65 rest)))
-            ≡ record { records = w′ .records; end = Walk.atDraw k }
+            → Walk.byKind kind (Walk.walkFrom G (suc k) (w .records) (timeAfter (w .time) (drawAt rest)) (drawsOf G (drop 65 rest))) (record { records = w .records; taken = suc k; end = Walk.atDraw k }) (Walk.walkFrom G (suc k) (suc (w .records)) (timeAfter (w .time) (drawAt rest)) (drawsOf G (drop 65 rest)))
+            ≡ record { records = w′ .records; taken = k + 1; end = Walk.atDraw k }
         go Plain.ignored p = absurd (false≢true (sym (ap (λ (x : Progress). x .ended) p) ∙ q))
-        go Plain.ends p = λ i. record { records = sym p i .records; end = Walk.atDraw k }
+        go Plain.ends p = λ i. record { records = sym p i .records; taken = sym (add-one k) i; end = Walk.atDraw k }
         go (Plain.reply s) p = absurd (false≢true (sym (ap (λ (x : Progress). x .ended) p) ∙ q))
 
-  pub ends : (k : ℕ) (w : Progress) (rest : List ℕ) → length rest < 65 → restOf k w rest ≡ walkedRead (record { records = w .records; end = End.the-variants.RanOut (w .time) })
+  pub ends : (k : ℕ) (w : Progress) (rest : List ℕ) → length rest < 65 → restOf k w rest ≡ walkedRead (record { records = w .records; taken = k; end = End.the-variants.RanOut (w .time) })
   unfolding walkedRead endRead
   ends k w rest h = ap (Walk.walkFrom G k (w .records) (w .time)) (draws-none G rest h)

@@ -9,8 +9,10 @@ pub data End (Time : Type 0) : Type 0 where
   atDraw : ℕ → End Time
   ranOut : Time → End Time
 
+-- the records, the draws taken, up to and with the one that ends the run, and where the walk ends
 pub record Walk (Time : Type 0) : Type 0 where
   pub records : ℕ
+  pub taken : ℕ
   pub end : End Time
 
 -- by what step 4 makes of a draw: it is taken and ignored, it ends the run, or it is a reply
@@ -24,11 +26,11 @@ module _ (G : Generator) where
 
   -- from time t on, draw k being the next one, with n records before it; each reply is a record
   abbrev pub walkFrom : ℕ → ℕ → Time → List Draw → Walk Time
-  walkFrom k n t [] = record { records = n; end = ranOut t }
+  walkFrom k n t [] = record { records = n; taken = k; end = ranOut t }
   walkFrom k n t (d ∷ ds) =
       byKind (kind G (after t d) d)
       (walkFrom (suc k) n (after t d) ds)
-      (record { records = n; end = atDraw k })
+      (record { records = n; taken = suc k; end = atDraw k })
       (walkFrom (suc k) (suc n) (after t d) ds)
 
   -- all of them, from time t on

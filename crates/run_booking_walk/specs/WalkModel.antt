@@ -51,4 +51,4 @@ endRead (End.the-variants.Draw index) = Walk.atDraw index
 endRead (End.the-variants.RanOut time) = Walk.ranOut time
 
 unfoldable pub walkedRead : Walked → Walk.Walk Float
-walkedRead r = record { records = r .records; end = endRead (r .end) }
+walkedRead r = record { records = r .records; taken = r .taken; end = endRead (r .end) }

@@ -1,8 +1,9 @@
 // The walk over draws: the records of a run, and the draw that ends it. No sample is made.
 ghost use mathlib.Core.Path.{_≡_};
 ghost use mathlib.Core.Bool.{false};
-ghost use Prim.Native.Nat.{_+_, _<_, _^_};
+ghost use Prim.Native.Nat.{_+_, _*_, _≤_, _<_, _^_};
 ghost use lib.IntN.{pos};
+ghost use lib.ListN.{length};
 ghost use Rattle.run_theory.specs.Generator.{startFrom};
 ghost use Rattle.run_theory.specs.PlainRun.{kindOf};
 ghost use Rattle.run_theory.specs.PlainBench.{drawsOf};
@@ -22,8 +23,10 @@ pub enum End {
     RanOut(f64),
 }
 
+// The records, the draws taken, up to and with the one that ends the run, and where the walk ends.
 pub struct Walked {
     pub records: u64,
+    pub taken: u64,
     pub end: End,
 }
 
@@ -95,7 +98,7 @@ fn after_draw(w: Progress, kind: Kind, time: f64) -> Progress
 
 // The walk over all draws in the bytes, the time before the first one given.
 pub fn walk(all: Distributions, delays: Delays, total: u64, time: f64, draws: &[u8]) -> Walked
-    ensures { λ r. ⌜ walkedRead r ≡ walkOf (walkGenerator all delays total) time (drawsOf (walkGenerator all delays total) (now (draws .entry))) ⌝ }
+    ensures { λ r. ⌜ (walkedRead r ≡ walkOf (walkGenerator all delays total) time (drawsOf (walkGenerator all delays total) (now (draws .entry)))) × (65 * r .taken ≤ length (now (draws .entry))) ⌝ }
 {
     let mut rest = draws;
     let mut k: u64 = 0;
@@ -111,6 +114,7 @@ pub fn walk(all: Distributions, delays: Delays, total: u64, time: f64, draws: &[
         if w.ended {
             return Walked {
                 records: w.records,
+                taken: k + 1,
                 end: End::Draw(k),
             };
         }
@@ -119,6 +123,7 @@ pub fn walk(all: Distributions, delays: Delays, total: u64, time: f64, draws: &[
     }
     Walked {
         records: w.records,
+        taken: k,
         end: End::RanOut(w.time),
     }
 }

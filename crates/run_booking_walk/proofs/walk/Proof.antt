@@ -52,11 +52,14 @@ kind-of-requires c κs = search needs
 after-draw-requires : tie.Need-after-draw-requires Inv-loop μ-loop
 after-draw-requires c κs = search needs
 
+add-t14 : tie.Need-add-t14 Inv-loop μ-loop
+add-t14 c = search needs
+
 returns : tie.Need-returns Inv-loop μ-loop
 returns c =
     let a = c .before .before .before .before .before .before .before .before .args in
     let l = c .before .before .before .before .before .before .loop in
-    sym (stops (a .all) (a .delays) (a .total) (l .k) (l .w) _ (l .rest .now) (c .before .before .before .before .before .loop-test .taken) (went (c .before)) (c .if1 .taken)) ∙ l .inv .2
+    (sym (stops (a .all) (a .delays) (a .total) (l .k) (l .w) _ (l .rest .now) (c .before .before .before .before .before .loop-test .taken) (went (c .before)) (c .if1 .taken)) ∙ l .inv .2, omega (arith, l .inv .0, c .before .before .before .before .before .loop-test .taken))
 
 sub-rest : tie.Need-sub-rest Inv-loop μ-loop
 sub-rest c = search needs
@@ -86,7 +89,7 @@ returns-2 : tie.Need-returns-2 Inv-loop μ-loop
 returns-2 c =
     let a = c .before .before .before .args in
     let l = c .before .loop in
-    sym (ends (a .all) (a .delays) (a .total) (l .k) (l .w) (l .rest .now) (c .loop-test .left)) ∙ l .inv .2
+    (sym (ends (a .all) (a .delays) (a .total) (l .k) (l .w) (l .rest .now) (c .loop-test .left)) ∙ l .inv .2, omega (arith, l .inv .0))
 
 pub walk-spec : {M : Type 1} → statement M
 walk-spec =
@@ -99,6 +102,7 @@ walk-spec =
     first-sample-index-requires
     kind-of-requires
     after-draw-requires
+    add-t14
     returns
     sub-rest
     part-rest-start
