@@ -1,0 +1,5 @@
+mod Walked
+mod BenchCounts
+mod OpenedBooking
+pub mod PlainWalk
+pub mod FinishedRuns
