@@ -51,9 +51,6 @@ module _ (r : Run) where
   abbrev G : Generator
   G = gen r
 
-  countsIn : Bench.Answer → Counts
-  countsIn a = record { taken = Theory.drawsTaken a; samples = Theory.samplesWritten a; noise = Theory.noiseUsed a; records = Theory.recordsWritten a }
-
   counts-in : (a : Bench.Answer) → countsOf a ≡ record { taken = Theory.drawsTaken a; samples = Theory.samplesWritten a; noise = Theory.noiseUsed a; records = Theory.recordsWritten a }
   unfolding countsOf
   counts-in (Bench.refused q) = refl

@@ -1,10 +1,10 @@
 -- The walk is the plain run's.
-use Prim.Native.Nat.{ℕ, suc, _+_}
+use Prim.Native.Nat.{_+_}
 use mathlib.Core.Bool.{Bool, true, false}
-use mathlib.Core.List.{List, [], _∷_, _++_, map, append-nil}
+use mathlib.Core.List.{List, [], _++_, append-nil}
 use mathlib.Core.Path.{_≡_, refl, sym, ap, _∙_, subst}
 use native.Mathlib.Nat.{zero-add}
-use lib.ListN.{length}
+use lib.ListN.{length, length-map}
 use Rattle.run_theory.specs.Generator.{Generator}
 use Rattle.run_theory.specs.PlainRun.{Reply, ended, replies, plainRecords}
 use Rattle.run_booking_walk.specs.Walk.{Walk, walkOf, walkFrom}
@@ -14,15 +14,11 @@ use Rattle.run_booking_theorem.proofs.Walked.{walk-out, walk-ends}
 module _ (G : Generator) where
   open Generator G using (Draw, Time, t0)
 
-  length-map : {X Y : Type 0} (f : X → Y) (xs : List X) → length (map f xs) ≡ length xs
-  length-map f [] = refl
-  length-map f (x ∷ xs) = ap suc (length-map f xs)
-
   pub plain-walk : (ds : List Draw) → PlainWalk G ds
   plain-walk ds = go (ended G t0 ds) refl
     where
       lines : 0 + length (replies G t0 ds) ≡ length (plainRecords G ds)
-      lines = zero-add (length (replies G t0 ds)) ∙ sym (length-map (λ r. r .line) (replies G t0 ds))
+      lines = zero-add (length (replies G t0 ds)) ∙ sym (length-map (replies G t0 ds) (λ r. r .line))
 
       go : (e : Bool) → ended G t0 ds ≡ e → PlainWalk G ds
       go false e =

@@ -12,7 +12,7 @@ use Rattle.run_booking_walk.specs.Walk.{End, atDraw, ranOut}
 use Rattle.run_booking.specs.Booking.{Figures, bookingOf}
 
 -- an index of a draw counted from n draws earlier
-abbrev pub behind : ℕ → End Float → End Float
+abbrev pub behind : {Time : Type 0} → ℕ → End Time → End Time
 behind n (atDraw k) = atDraw (n + k)
 behind n (ranOut t) = ranOut t
 
