@@ -1,4 +1,5 @@
-/* The reply generator for C and C++: opening a run, and run calls; and the parity of messages. Link libmore1090_generator.a and -lm (hosts/build).
+/* The reply generator for C and C++: opening a run, and run calls; and the parity of messages. Link
+ * libmore1090.a and -lm (tools/library makes it).
  *
  * A run makes the samples of transponder replies at 8,000,000 a second, each a pair of floats, real part first, and a record
  * of every reply. The caller lends everything: settings, filter taps, draws (one for each reply) and noise to read;
@@ -9,6 +10,10 @@
  * its specs/OpenedCalls.antt for lists of calls). Asked of the caller, since no proof can see it: a pointer is aligned to its
  * type and good for its length, and may be NULL only where that is 0; what a call writes overlaps with nothing else that is
  * lent to it. Calls that share no memory may run at the same time.
+ *
+ * The answers are those of IEEE 754 arithmetic: rounding to nearest, ties to even, subnormal numbers kept. A caller need not
+ * ensure it: where its thread has another rounding mode, flush-to-zero, denormals-are-zero or traps set (as -ffast-math sets
+ * the second and third), a call works with the default float environment, and gives the caller's back.
  *
  * Lengths count values of the pointer's type: floats or bytes. Places and draws are counted from 0 in what is lent to that
  * call. Settings, draws and records are packed and little-endian, as on a tape (docs/SPECIFICATION.md, 4):

@@ -325,9 +325,29 @@ fn steep(r: &mut Random) -> Tape {
     }
 }
 
+/// A tape on which most steps meet subnormal numbers: rates of the least f64, an offset of so few Hz, from a phase of 0, that
+/// sines are subnormal as f32, and noise of that size.
+fn faint(r: &mut Random) -> Tape {
+    let samples = r.between(2000, 6000);
+    let mut s = settings(r, samples);
+    s.rates = [5e-324; 7];
+    s.carrier = asked(0, r.pick(&[1e-38, -1e-36, 1e-34, 1e-32]), 0.0);
+    s.phase = asked(0, r.pick(&[0.0, -0.0]), 0.0);
+    s.clock = asked(1, MODE_AC_LIMIT, 0.0);
+    let taps = taps(r);
+    let draws = draws(r, &s, samples);
+    let noise = noise(r, samples).iter().map(|x| x * 1e-40).collect();
+    Tape {
+        settings: s,
+        taps,
+        draws,
+        noise,
+    }
+}
+
 pub fn tape(r: &mut Random) -> Tape {
     if r.once_in(30) {
-        return steep(r);
+        return if r.once_in(2) { steep(r) } else { faint(r) };
     }
     let samples = duration(r);
     let settings = loop {

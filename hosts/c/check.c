@@ -68,7 +68,7 @@ static void check_calls(void) {
     expect("no draws, no noise, no records", MORE1090_STOP_WANTS_DRAWS, called(state, 0, 0, 400, 0).stop);
     expect("no noise", MORE1090_STOP_WANTS_NOISE, called(state, sizeof draws, 0, 400, sizeof records).stop);
     expect("no output", MORE1090_ERR_LENGTH, called(state, sizeof draws, 2, 0, sizeof records).refusal);
-    expect("noise for one sample", 1, called(state, sizeof draws, 2, 400, 0).samples);
+    expect("noise for one sample", 1, called(state, sizeof draws, 2, 400, 0).samples_written);
     put_f64(draws, 20.0); /* a first reply that starts within 32 samples: its record comes before any sample */
     expect("no records", MORE1090_STOP_RECORDS_FULL, called(state, sizeof draws, 2, 400, 0).stop);
     expect("nothing", MORE1090_ERR_LENGTH,

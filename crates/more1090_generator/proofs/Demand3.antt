@@ -23,7 +23,7 @@ use Rattle.run_theorem.proofs.Demand3.{opened-runs}
 use Rattle.more1090_generator.specs.declared.FlatState.{FlatState}
 use Rattle.more1090_generator.specs.declared.FlatAnswer.{FlatAnswer}
 use Rattle.more1090_generator.specs.States.{flatOf}
-use Rattle.more1090_generator.specs.Answers.{valuesFlat, openedFlat, flat_answer, answered, ranFlat, FlatLeft, leftFlat, flatRunLeft, flatRunsLeft}
+use Rattle.more1090_generator.specs.Answers.{valuesFlat, openedFlat, flatAnswer, answered, ranFlat, FlatLeft, leftFlat, flatRunLeft, flatRunsLeft}
 use Rattle.more1090_generator.specs.Seen.{FlatSeen, flatSeen, benchAnswer, benchSeen}
 use Rattle.more1090_generator.specs.OpenedCalls.{lastFlat, Demand3InC, OpenedCalls}
 use Rattle.more1090_generator.proofs.StateBack.{state-back}
@@ -48,8 +48,8 @@ last-flat (l ∷ ls) s = last-flat ls (l .ran .state)
 
 -- what is seen of a run call, in C's numbers
 answerFlat : Counts → Numbered → FlatAnswer
-answerFlat n (stopped stop) = flat_answer n stop 0 0 0
-answerFlat n (refused ns) = flat_answer n 5 (getD ns 0 0) (getD ns 1 0) (getD ns 2 0)
+answerFlat n (stopped stop) = flatAnswer n stop 0 0 0
+answerFlat n (refused ns) = flatAnswer n 5 (getD ns 0 0) (getD ns 1 0) (getD ns 2 0)
 
 seenFlat : Seen → FlatSeen
 seenFlat v = record { answer = answerFlat (v .counts) (v .answer); output = v .output; records = v .records }
@@ -64,7 +64,7 @@ unfolding flatSeen leftFlat ranFlat seenFlat seenLeft
 same-seen l = λ i. record { answer = same-answer (l .ran .counts) (l .ran .answer) i; output = l .output; records = l .records }
 
 bench-answer : (a : Bench.Answer) → answerFlat (countsOf a) (answerOf a) ≡ benchAnswer a
-unfolding answerFlat flat_answer benchAnswer countsOf answerOf
+unfolding answerFlat flatAnswer benchAnswer countsOf answerOf
 bench-answer (Bench.refused q) = refl
 bench-answer (Bench.ran taken samples noise records stop) = refl
 
@@ -110,6 +110,13 @@ refusal-above Refusal.the-variants.Prototype e = absurd (omega arith)
 refusal-above (Refusal.the-variants.Draw d k) e = absurd (omega arith)
 refusal-above (Refusal.the-variants.Noise p) e = absurd (omega arith)
 refusal-above Refusal.the-variants.Length e = absurd (omega arith)
+refusal-above Refusal.the-variants.StretchLength e = absurd (omega arith)
+refusal-above Refusal.the-variants.Level e = absurd (omega arith)
+refusal-above Refusal.the-variants.TriggerLevel e = absurd (omega arith)
+refusal-above Refusal.the-variants.SamplesPerPulse e = absurd (omega arith)
+refusal-above Refusal.the-variants.Log e = absurd (omega arith)
+refusal-above Refusal.the-variants.Feeds e = absurd (omega arith)
+refusal-above (Refusal.the-variants.Record k) e = absurd (omega arith)
 
 opened-as : (tapsS tapsAC : List Float) (settings : List ℕ) (given : Opening.OpenBuffers) (o : Opened.Opened) → Opening.openedOf four Opening.half tapsS tapsAC settings given ≡ o → openedFlat o .refusal ≡ 0
     → (r : Run) × Demand3InC tapsS tapsAC settings given (openedFlat o .state) r

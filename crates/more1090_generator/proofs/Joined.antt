@@ -26,7 +26,7 @@ use Rattle.more1090_generator.specs.declared.FlatAnswer.{FlatAnswer}
 use Rattle.more1090_generator.specs.declared.FlatRan.{FlatRan}
 use Rattle.more1090_generator.specs.declared.Values.{Values}
 use Rattle.more1090_generator.specs.States.{carrierFlat, phaseFlat, clockFlat, carrierFrom, phaseFrom, clockFrom, ratesFlat, ratesFrom, flatOf, stateFrom, noState}
-use Rattle.more1090_generator.specs.Answers.{valuesFlat, openedFlat, flat_answer, answered, ranFlat, FlatLeft, leftFlat, flatRunLeft}
+use Rattle.more1090_generator.specs.Answers.{valuesFlat, openedFlat, flatAnswer, answered, ranFlat, FlatLeft, leftFlat, flatRunLeft}
 
 pub state-flat : (s : State) (carrier phase clock : FlatDistribution) (ended : ℕ) → carrier ≡ carrierFlat (s .distributions .carrier) → phase ≡ phaseFlat (s .distributions .phase) → clock ≡ clockFlat (s .distributions .clock) → ended ≡ cond (s .ended) 1 0 → record { written = s .written; total = s .total; time = s .time; latest = s .latest; rates = ratesFlat (s .rates); «mode_s_delay» = s .delays .«mode_s»; «mode_ac_delay» = s .delays .«mode_ac»; carrier = carrier; phase = phase; clock = clock; ended = ended } ≡ flatOf s
 unfolding flatOf
@@ -48,13 +48,13 @@ unfolding opened openedFlat
 opened-refused o q p f a n b v d = (λ i. opened (a i) (b i) (d i .value)) ∙ sym (ap openedFlat p)
 
 module _ (counts : Counts) (answer : Answer.Answer) where
-  pub answered-stopped : (w : Stop) → answer ≡ Answer.the-variants.Stopped w → (n : ℕ) → n ≡ stopNumber w → (r : FlatAnswer) → r ≡ flat_answer counts n 0 0 0 → r ≡ answered counts answer
+  pub answered-stopped : (w : Stop) → answer ≡ Answer.the-variants.Stopped w → (n : ℕ) → n ≡ stopNumber w → (r : FlatAnswer) → r ≡ flatAnswer counts n 0 0 0 → r ≡ answered counts answer
   unfolding answered
-  answered-stopped w p n a r e = e ∙ ap (λ x. flat_answer counts x 0 0 0) a ∙ sym (ap (answered counts) p)
+  answered-stopped w p n a r e = e ∙ ap (λ x. flatAnswer counts x 0 0 0) a ∙ sym (ap (answered counts) p)
 
-  pub answered-refused : (q : Refusal) → answer ≡ Answer.the-variants.Refused q → (n : ℕ) → n ≡ numberOf q → (v : Values) → v ≡ valuesFlat q → (r : FlatAnswer) → r ≡ flat_answer counts 5 n (v .value) (v .field) → r ≡ answered counts answer
+  pub answered-refused : (q : Refusal) → answer ≡ Answer.the-variants.Refused q → (n : ℕ) → n ≡ numberOf q → (v : Values) → v ≡ valuesFlat q → (r : FlatAnswer) → r ≡ flatAnswer counts 5 n (v .value) (v .field) → r ≡ answered counts answer
   unfolding answered
-  answered-refused q p n a v b r e = e ∙ (λ i. flat_answer counts 5 (a i) (b i .value) (b i .field)) ∙ sym (ap (answered counts) p)
+  answered-refused q p n a v b r e = e ∙ (λ i. flatAnswer counts 5 (a i) (b i .value) (b i .field)) ∙ sym (ap (answered counts) p)
 
 pub ran-flat : (r : Ran) (f : FlatState) (a : FlatAnswer) → f ≡ flatOf (r .state) → a ≡ answered (r .counts) (r .answer) → record { state = f; answer = a } ≡ ranFlat r
 unfolding ranFlat

@@ -12,7 +12,7 @@ use Rattle.run_call.specs.declared.State.{State}
 use Rattle.run_call.specs.Buffers.{Left}
 use Rattle.run_call.specs.CallModel.{leftBy, callLeft, refusedBy, runBy, callRefusal, runLeft}
 use Rattle.more1090_generator.specs.States.{flatOf, stateFrom}
-use Rattle.more1090_generator.specs.Answers.{openedFlat, flat_answer, answered, ranFlat, FlatLeft, leftFlat, flatRunLeft}
+use Rattle.more1090_generator.specs.Answers.{openedFlat, flatAnswer, answered, ranFlat, FlatLeft, leftFlat, flatRunLeft}
 use Rattle.more1090_generator.proofs.StateBack.{state-back}
 
 module _ (s : State) (modeS modeAC memory : List Float) (draws : List ℕ) (noise output : List Float) (records : List ℕ) where
@@ -20,7 +20,7 @@ module _ (s : State) (modeS modeAC memory : List Float) (draws : List ℕ) (nois
   Kept l = (l .ran .answer .refusal ≡ 0 → ⊥) → (l .ran .state ≡ flatOf s) × (l .memory ≡ memory) × (l .output ≡ output) × (l .records ≡ records)
 
   kept : (q : Option Bench.Refusal) → Kept (leftFlat (runBy s memory output records (callLeft s modeS modeAC memory draws noise output records) q))
-  unfolding Kept leftFlat ranFlat answered flat_answer callLeft leftBy refusedBy
+  unfolding Kept leftFlat ranFlat answered flatAnswer callLeft leftBy refusedBy
   kept none h = absurd (h refl)
   kept (some q) h = (refl, refl, refl, refl)
 

@@ -28,13 +28,13 @@ unfoldable pub openedFlat : Opened.Opened → FlatOpened
 openedFlat (Opened.the-variants.Run s) = record { state = flatOf s; refusal = 0; value = 0 }
 openedFlat (Opened.the-variants.Refused q) = record { state = noState; refusal = numberOf q; value = valuesFlat q .value }
 
-unfoldable pub flat_answer : Counts → ℕ → ℕ → ℕ → ℕ → FlatAnswer
-flat_answer n stop refusal value field = record { taken = n .taken; samples = n .samples; noise = n .noise; records = n .records; stop = stop; refusal = refusal; value = value; field = field }
+unfoldable pub flatAnswer : Counts → ℕ → ℕ → ℕ → ℕ → FlatAnswer
+flatAnswer n stop refusal value field = record { taken = n .taken; samples = n .samples; noise = n .noise; records = n .records; stop = stop; refusal = refusal; value = value; field = field }
 
 -- refusal 0 is none; stop 5 is none
 unfoldable pub answered : Counts → Answer.Answer → FlatAnswer
-answered n (Answer.the-variants.Stopped w) = flat_answer n (stopNumber w) 0 0 0
-answered n (Answer.the-variants.Refused q) = flat_answer n 5 (numberOf q) (valuesFlat q .value) (valuesFlat q .field)
+answered n (Answer.the-variants.Stopped w) = flatAnswer n (stopNumber w) 0 0 0
+answered n (Answer.the-variants.Refused q) = flatAnswer n 5 (numberOf q) (valuesFlat q .value) (valuesFlat q .field)
 
 unfoldable pub ranFlat : Ran → FlatRan
 ranFlat r = record { state = flatOf (r .state); answer = answered (r .counts) (r .answer) }

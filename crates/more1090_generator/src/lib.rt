@@ -362,7 +362,7 @@ fn stop_number(w: Stop) -> u64
 }
 
 fn flat_answer(n: Counts, stop: u64, refusal: u64, value: u64, field: u64) -> FlatAnswer
-    ensures { λ r. ⌜ r ≡ Rattle.more1090_generator.specs.Answers.flat_answer n stop refusal value field ⌝ }
+    ensures { λ r. ⌜ r ≡ Rattle.more1090_generator.specs.Answers.flatAnswer n stop refusal value field ⌝ }
 {
     FlatAnswer {
         taken: n.taken as u64,

@@ -1,11 +1,11 @@
 -- `flat_answer` meets its contract.
 use mathlib.Core.Path.{refl}
-use Rattle.more1090_generator.specs.Answers.{flat_answer}
+use Rattle.more1090_generator.specs.Answers.{flatAnswer}
 use Rattle.more1090_generator.proofs.flat_answer.Statement.{statement}
 use Rattle.more1090_generator.proofs.flat_answer.Tie as tie
 
 returns : tie.Need-returns
-unfolding flat_answer
+unfolding flatAnswer
 returns c = refl
 
 pub flat-answer-spec : {M : Type 1} → statement M
