@@ -1,4 +1,4 @@
--- What a booking will use (SPECIFICATION 9.6): opening's checks, then every draw, then the figures of the run.
+-- What a booking will use (SPECIFICATION 10.4): opening's checks, then every draw, then the figures of the run.
 use Prim.Native.Nat.{ℕ, _*_, _%_}
 use mathlib.Core.Bool.{cond}
 use mathlib.Core.List.{List}

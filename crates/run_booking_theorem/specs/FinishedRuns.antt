@@ -1,4 +1,4 @@
--- A finished run uses exactly what its booking says (SPECIFICATION 9.6), hypothesis and claim in one statement: `FinishedRuns`, at the end of this file.
+-- A finished run uses exactly what its booking says (SPECIFICATION 10.4), hypothesis and claim in one statement: `FinishedRuns`, at the end of this file.
 use Prim.Native.Nat.{ℕ, suc, _+_, _%_}
 use mathlib.Core.List.{List, [], _∷_, _++_}
 use mathlib.Core.Path.{_≡_}

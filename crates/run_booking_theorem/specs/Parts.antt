@@ -1,4 +1,4 @@
--- A booking in parts (SPECIFICATION 9.6): each part is asked from the time at which draws ran out in the one before, and the figures are added. They are those of the whole: `Parts`, at the end of this file.
+-- A booking in parts (SPECIFICATION 10.4): each part is asked from the time at which draws ran out in the one before, and the figures are added. They are those of the whole: `Parts`, at the end of this file.
 use Prim.Native.Nat.{ℕ, _+_, _%_}
 use mathlib.Core.List.{List, [], _∷_}
 use mathlib.Core.Path.{_≡_}

@@ -1,4 +1,4 @@
--- The walk is the plain run's (SPECIFICATION 9.6, 10.1): its records are the plain run's, it ends at a draw where an end draw is among the draws, and draws run out at their time.
+-- The walk is the plain run's (SPECIFICATION 10.4, 10.1): its records are the plain run's, it ends at a draw where an end draw is among the draws, and draws run out at their time.
 use Prim.Native.Nat.{ℕ, suc}
 use mathlib.Core.Bool.{true, false}
 use mathlib.Core.List.{List}

@@ -1,4 +1,4 @@
--- One walk over draws (SPECIFICATION 9.6): time, start, and what step 4 makes of each draw, as the plain run has them; the records, and the draw that ends the run.
+-- One walk over draws (SPECIFICATION 10.4): time, start, and what step 4 makes of each draw, as the plain run has them; the records, and the draw that ends the run.
 use Prim.Native.Nat.{ℕ, suc}
 use mathlib.Core.List.{List, [], _∷_}
 use Rattle.run_theory.specs.Generator.{Generator}

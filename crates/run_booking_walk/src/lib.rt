@@ -30,7 +30,7 @@ pub struct Walked {
     pub end: End,
 }
 
-// What step 4 makes of a draw (SPECIFICATION 9.3).
+// What step 4 makes of a draw (SPECIFICATION 5.6, 9.4).
 pub enum Kind {
     Ignored,
     Ends,
