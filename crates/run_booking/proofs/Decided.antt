@@ -24,7 +24,7 @@ use Rattle.run_call.specs.Given.{refusalGiven}
 use Rattle.run_open_checks.specs.declared.Opened as Opened
 use Rattle.run_booking_walk.specs.declared.Walked.{Walked}
 use Rattle.run_booking_walk.specs.Walk as Walk
-use Rattle.run_booking_walk.specs.WalkModel.{walkGenerator, endRead, walkedRead}
+use Rattle.run_booking_walk.specs.Answered.{walkGenerator, endRead, walkedRead}
 use Rattle.run_booking.specs.declared.Booked as Booked
 use Rattle.run_booking.specs.declared.Figures as Code
 use Rattle.run_booking.specs.Booking.{Figures, figuresOf, given, drawsThen, openedThen, opened, bookingOf}

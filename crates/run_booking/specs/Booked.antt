@@ -1,7 +1,7 @@
 -- Which answer each case of the code's enum is.
 use lib.Ieee.{Float}
 use Rattle.refusals.specs.Answer.{Answer, accepted, refused}
-use Rattle.run_booking_walk.specs.WalkModel.{endRead}
+use Rattle.run_booking_walk.specs.Answered.{endRead}
 use Rattle.run_booking.specs.declared.Booked as Booked
 use Rattle.run_booking.specs.declared.Figures as Code
 use Rattle.run_booking.specs.Booking.{Figures}

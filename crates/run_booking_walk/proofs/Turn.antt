@@ -28,7 +28,8 @@ use Rattle.run_booking_walk.specs.declared.Kind as Kind
 use Rattle.run_booking_walk.specs.declared.Progress.{Progress}
 use Rattle.run_booking_walk.specs.declared.Walked.{Walked}
 use Rattle.run_booking_walk.specs.Walk as Walk
-use Rattle.run_booking_walk.specs.WalkModel.{walkGenerator, kindSeen, progressAfter, endRead, walkedRead}
+use Rattle.run_booking_walk.specs.Answered.{walkGenerator, endRead, walkedRead}
+use Rattle.run_booking_walk.specs.WalkModel.{kindSeen, progressAfter}
 
 -- the part of a list from an offset to its end
 pub part-is : (s : List ℕ) (at : ℕ) → take (length s - at) (drop at s) ≡ drop at s

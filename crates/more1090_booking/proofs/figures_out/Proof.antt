@@ -1,7 +1,7 @@
 -- `figures_out` meets its contract: each end by its own case.
 use mathlib.Core.Path.{_≡_, sym, ap, _∙_}
 use Rattle.run_booking_walk.specs.declared.End.{End}
-use Rattle.run_booking_walk.specs.WalkModel.{endRead}
+use Rattle.run_booking_walk.specs.Answered.{endRead}
 use Rattle.run_booking.specs.Booked.{figuresRead}
 use Rattle.more1090_booking.specs.Flat.{endedFlat}
 use borrow.Author.Needs.{needs}

@@ -11,7 +11,8 @@ use Rattle.run_steps.specs.PlanModel.{counted}
 use Rattle.draw.specs.Draw.{drawAt}
 use Rattle.draw.specs.Config.{timeAfter}
 use Rattle.run_booking_walk.specs.Walk.{walkOf}
-use Rattle.run_booking_walk.specs.WalkModel.{walkGenerator, kindSeen, progressAfter}
+use Rattle.run_booking_walk.specs.Answered.{walkGenerator}
+use Rattle.run_booking_walk.specs.WalkModel.{kindSeen, progressAfter}
 use Rattle.run_booking_walk.proofs.Turn.{part-is, restOf, next, stepped, goes-on, stops, ends, counted-on}
 use borrow.Author.Needs.{needs}
 use native.Mathlib.Omega.{arith}
