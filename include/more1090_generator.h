@@ -1,5 +1,5 @@
-/* The reply generator for C and C++: opening a run, and run calls; what a run will use; and the parity of messages. Link
- * libmore1090.a and -lm (tools/library makes it).
+/* The reply generator for C and C++: opening a run, and run calls; what a run will use; the parity of messages; and levels in
+ * decibels. Link libmore1090.a and -lm (tools/library makes it).
  *
  * A run makes the samples of transponder replies at 8,000,000 a second, each a pair of floats, real part first, and a record
  * of every reply. The caller lends everything: settings, filter taps, draws (one for each reply) and noise to read;
@@ -68,8 +68,9 @@ enum {
     MORE1090_ERR_DRAW = 7,      /* a field out of range; value: the first such draw, field: its first such field. Or a first
                                  * draw that jumps back: its time is before `latest` of the state; value 0, field 0 */
     MORE1090_ERR_NOISE = 8,         /* a noise value not finite or above 64 in size; value: its place */
-    MORE1090_ERR_LENGTH = 9           /* settings, memory, a prototype, output (0 or odd) or draws (no multiple of 65) of a wrong
+    MORE1090_ERR_LENGTH = 9,          /* settings, memory, a prototype, output (0 or odd) or draws (no multiple of 65) of a wrong
                                  * length */
+    MORE1090_ERR_LEVEL = 13     /* a level above 200.0 dB, by more1090_level alone */
 };
 
 /* Why a run call came back. */
@@ -215,6 +216,14 @@ enum { MORE1090_NO_READING, MORE1090_II, MORE1090_SI, MORE1090_UNASSIGNED };
  * other overlays are unassigned. Answers the kind, and writes the II or SI code to *code, or 0 where there is none. Of other
  * bytes, however many, it answers MORE1090_NO_READING. code must point to a number. */
 uint32_t more1090_interrogator(const uint8_t *message, size_t message_length, uint32_t *code);
+
+#define MORE1090_HIGHEST_LEVEL 2000 /* tenths of a decibel */
+
+/* The amplitude of a level in tenths of a decibel, for a draw's field 3: 10^(tenths / 200) / 2,048,000, which is the reference's
+ * amplitude of a C/N0 of as many tenths of a dB Hz. It is within one part in 2^22 of that, and the nearest f32, ties to even, to
+ * a table's entry times a power of ten (SPECIFICATION 6.15). Answers MORE1090_OK and writes *amplitude; or MORE1090_ERR_LEVEL for
+ * tenths above 2000, whatever their size, and leaves it. amplitude must point to a float. (crates/more1090_level) */
+uint64_t more1090_level(uint64_t tenths, float *amplitude);
 
 #ifdef __cplusplus
 }

@@ -1,5 +1,6 @@
 /* What the header says of lengths, tried: a pointer lent with length 0 may be NULL, and settings, prototypes and working
- * memory of another length are refused 9 before anything else is looked at; and so of a booking. It exits with 0 where all is so.
+ * memory of another length are refused 9 before anything else is looked at, by a booking too. And what it says of levels that
+ * are refused. It exits with 0 where all is so.
  *
  *     c_check */
 #include "inputs.h"
@@ -103,6 +104,23 @@ static void check_booking(void) {
     expect("draws taken in parts", two.draws_taken, first.draws_taken + second.draws_taken);
 }
 
+static uint32_t bits_of(float x) {
+    uint32_t bits;
+    memcpy(&bits, &x, 4);
+    return bits;
+}
+
+static void check_levels(void) {
+    const uint64_t too_high[] = {2001, 65536, 4294967296, UINT64_MAX};
+    float amplitude = 0.0f;
+    expect("200.0 dB", MORE1090_OK, more1090_level(MORE1090_HIGHEST_LEVEL, &amplitude));
+    expect("its bits", 0x45989680, bits_of(amplitude));
+    for (int k = 0; k < 4; k++) {
+        expect("a level above 200.0 dB", MORE1090_ERR_LEVEL, more1090_level(too_high[k], &amplitude));
+        expect("what it leaves", 0x45989680, bits_of(amplitude));
+    }
+}
+
 int main(void) {
     make_settings(settings);
     make_taps(taps_s, MORE1090_MODE_S_TAPS_LEN);
@@ -111,5 +129,6 @@ int main(void) {
     check_opening();
     check_calls();
     check_booking();
+    check_levels();
     return failed;
 }

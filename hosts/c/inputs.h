@@ -54,3 +54,12 @@ static void make_draw(uint8_t *to, unsigned n) {
         *to++ = (uint8_t)(16 * n + k);
     put(to, &data, 2);
 }
+
+/* Gives a draw a level in tenths of a decibel, as C/N0 and as amplitude. Answers 0; or the refusal, and then leaves the draw. */
+static inline uint64_t set_level(uint8_t *draw, uint64_t tenths) {
+    float amplitude;
+    const uint64_t refusal = more1090_level(tenths, &amplitude);
+    if (refusal == MORE1090_OK)
+        put(put_f64(draw + 9, (double)tenths / 10), &amplitude, 4);
+    return refusal;
+}

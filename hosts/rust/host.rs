@@ -1,15 +1,16 @@
 //! A whole run from Rust: random replies as the published Rust draws them, windowed-sinc lowpasses, normal noise, cf32 out.
 //!
-//!     rust_host SECONDS REPLIES_A_SECOND SEED OUTPUT [RECORDS]
+//!     rust_host SECONDS REPLIES_A_SECOND SEED OUTPUT [RECORDS [LEVEL]]
 //!
 //! OUTPUT gets pairs of f32 at 8,000,000 a second (`-`: standard output); RECORDS a line for each reply: first sample,
-//! type, count of samples, time in samples, CN0 in dB Hz, message. Progress goes to standard error. The draws and the
+//! type, count of samples, time in samples, CN0 in dB Hz, message (`-`: nowhere). LEVEL, in dB with one digit after the point
+//! or none, is that of every reply; else each has its own, by distance. Progress goes to standard error. The draws and the
 //! noise have a generator each, so that what comes out does not depend on how much is lent at a time.
 mod draws;
 mod more1090_generator;
-use draws::{CLOCK_MAX, Random, WEIGHTS};
+use draws::{CLOCK_MAX, Level, Random, WEIGHTS};
 use more1090_generator::{
-    STOP_DONE, DRAW_LEN, MODE_AC_TAPS_LEN, MODE_S_TAPS_LEN, RECORD_LEN, Run, SETTINGS_LEN,
+    STOP_DONE, DRAW_LEN, MODE_AC_TAPS_LEN, MODE_S_TAPS_LEN, RECORD_LEN, Run, SETTINGS_LEN, level, tenths_of_db,
 };
 use std::f64::consts::PI;
 use std::fs::File;
@@ -58,16 +59,21 @@ fn line(r: &[u8]) -> String {
     )
 }
 
+/// A refusal by its number.
+fn refused(number: u64) -> Error {
+    Error::other(format!("refused {number}"))
+}
+
 fn simulate(
     seconds: f64,
     rate: f64,
     seed: u64,
+    level: Option<Level>,
     out: &mut dyn Write,
     lines: &mut dyn Write,
 ) -> Result<()> {
     let taps_s = lowpass(MODE_S_TAPS_LEN, 2.0);
     let taps_ac = lowpass(MODE_AC_TAPS_LEN, 2.0 * 1450.0 / 1500.0);
-    let refused = |n: u64| Error::other(format!("refused {n}"));
     let mut run =
         Run::open(&settings(seconds, rate), &taps_s, &taps_ac).map_err(|r| refused(r.0))?;
     let (mut drawn, mut noisy) = (Random(seed), Random(!seed));
@@ -76,7 +82,7 @@ fn simulate(
     let (mut replies, mut told) = (0, 0);
     loop {
         while draws.len() < 64 * DRAW_LEN {
-            draws.extend(drawn.draw(rate));
+            draws.extend(drawn.draw(rate, level));
         }
         while noise.len() < output.len() {
             noise.extend(noisy.normals().map(|x| x as f32));
@@ -110,14 +116,22 @@ fn simulate(
     }
 }
 
+fn usage() -> ! {
+    eprintln!("usage: rust_host SECONDS REPLIES_A_SECOND SEED OUTPUT [RECORDS [LEVEL]]");
+    std::process::exit(2)
+}
+
 fn main() -> Result<()> {
     let args: Vec<String> = std::env::args().skip(1).collect();
     let number = |k: usize| args.get(k).and_then(|a| a.parse::<f64>().ok());
     let (Some(seconds), Some(rate), Some(seed), Some(output)) =
         (number(0), number(1), number(2), args.get(3))
     else {
-        eprintln!("usage: rust_host SECONDS REPLIES_A_SECOND SEED OUTPUT [RECORDS]");
-        std::process::exit(2);
+        usage();
+    };
+    let level = match args.get(5).map(|text| tenths_of_db(text).unwrap_or_else(|| usage())) {
+        Some(tenths) => Some(Level { cn0: tenths as f64 / 10.0, amplitude: level(tenths).map_err(refused)? }),
+        None => None,
     };
     let mut out: Box<dyn Write> = if output == "-" {
         Box::new(stdout())
@@ -125,10 +139,10 @@ fn main() -> Result<()> {
         Box::new(File::create(output)?)
     };
     let mut lines: Box<dyn Write> = match args.get(4) {
-        Some(file) => Box::new(BufWriter::new(File::create(file)?)),
-        None => Box::new(sink()),
+        Some(file) if file != "-" => Box::new(BufWriter::new(File::create(file)?)),
+        _ => Box::new(sink()),
     };
-    match simulate(seconds, rate, seed as u64, &mut out, &mut lines) {
+    match simulate(seconds, rate, seed as u64, level, &mut out, &mut lines) {
         Err(e) if e.kind() == ErrorKind::BrokenPipe => Ok(()),
         other => other,
     }

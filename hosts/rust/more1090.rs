@@ -5,12 +5,13 @@ mod more1090_generator;
 mod shell;
 mod commands {
     pub mod booking;
+    pub mod level;
     pub mod message;
 }
 
 use shell::{Command, Failure};
 
-const COMMANDS: &[Command] = &[commands::booking::COMMAND, commands::message::COMMAND];
+const COMMANDS: &[Command] = &[commands::booking::COMMAND, commands::level::COMMAND, commands::message::COMMAND];
 
 const VERSION: &str = include_str!("../../VERSION");
 
