@@ -10,7 +10,6 @@ use crate::{damage, judge, make};
 use reference::simulation::open;
 
 /// The numbers of an answer: the time by its bits, so that equal answers are equal.
-#[repr(C)]
 #[derive(Debug, Clone, Copy, PartialEq, Eq, Default)]
 struct Answer {
     samples: u64,
@@ -27,9 +26,16 @@ struct Answer {
 
 #[repr(C)]
 struct Booking {
-    counts: [u64; 6],
+    samples: u64,
+    noise: u64,
+    records: u64,
+    taken: u64,
+    ended: u64,
+    draw: u64,
     time: f64,
-    refused: [u64; 3],
+    refusal: u64,
+    value: u64,
+    field: u64,
 }
 
 #[rustfmt::skip]
@@ -115,9 +121,8 @@ impl Asked {
 }
 
 fn flat(b: Booking) -> Answer {
-    let [samples, noise, records, taken, ended, draw] = b.counts;
-    let [refusal, value, field] = b.refused;
-    Answer { samples, noise, records, taken, ended, draw, time: b.time.to_bits(), refusal, value, field }
+    let Booking { samples, noise, records, taken, ended, draw, time, refusal, value, field } = b;
+    Answer { samples, noise, records, taken, ended, draw, time: time.to_bits(), refusal, value, field }
 }
 
 pub fn compare(t: &mut Tally, r: &mut Random, tapes: u64) {
