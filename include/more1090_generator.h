@@ -18,10 +18,11 @@
  * Lengths count values of the pointer's type: floats or bytes. Places and draws are counted from 0 in what is lent to that
  * call. Settings, draws and records are packed and little-endian, as on a tape (docs/SPECIFICATION.md, 4):
  *
- * Settings, 119 bytes: seconds u64; nanoseconds u32; seven rates f64, by type, in replies a second; three distributions,
+ * Settings, 123 bytes: seconds u64; nanoseconds u32; seven rates f64, by type, in replies a second; three distributions,
  *   each a kind u8 and two numbers f64. Carrier offset: 0 constant (Hz, at most 4,000,000 in size), 1 normal with sigma and
  *   max (Hz). Phase: 0 constant (radians), 1 uniform. Clock error: 0 constant (parts of one, at most 0.1 in size), 1 uniform
- *   with a max.
+ *   with a max. Then the trigger level f32, 0.1 to 0.9 (the nearest floats, both allowed): the part of a pulse's height at which
+ *   a reply's time is taken, 0.5 for the middle of its rise.
  * Types: 0 extended squitter, 1 acquisition squitter, 2 short with address parity, 3 all-call reply, 4 long with address
  *   parity, 5 military extended squitter, 6 Mode A/C.
  * Draw, 65 bytes, its fields: 0 gap f64, samples after the last draw, finite, not negative; 1 type u8, its rate above 0;
@@ -48,7 +49,7 @@ extern "C" {
 #define MORE1090_VERSION_PATCH 0
 
 #define MORE1090_SAMPLE_RATE 8000000 /* samples a second */
-#define MORE1090_SETTINGS_LEN 119
+#define MORE1090_SETTINGS_LEN 123
 #define MORE1090_MODE_S_TAPS_LEN 1486  /* floats: a lowpass at 512,000,000 taps a second */
 #define MORE1090_MODE_AC_TAPS_LEN 1515 /* floats: a lowpass at 512,000,000 * 1500 / 1450 taps a second */
 #define MORE1090_PROTOTYPE_LEN 1792    /* floats: each of the two prototypes */
@@ -64,13 +65,14 @@ enum {
     MORE1090_ERR_TOTAL_RATE = 3,    /* the rates' total is 0 or not finite */
     MORE1090_ERR_DISTRIBUTION = 4,  /* an unknown kind, or a parameter out of range; value: 0 carrier, 1 phase, 2 clock */
     MORE1090_ERR_TAPS = 5,          /* a filter of the wrong length, or a tap not finite or above 16 in size */
-    MORE1090_ERR_PROTOTYPE = 6, /* a prototype value not finite or above 16 in size, or no crossing of 0.5 */
+    MORE1090_ERR_PROTOTYPE = 6, /* a prototype value not finite or above 16 in size, or no crossing of the trigger level */
     MORE1090_ERR_DRAW = 7,      /* a field out of range; value: the first such draw, field: its first such field. Or a first
                                  * draw that jumps back: its time is before `latest` of the state; value 0, field 0 */
     MORE1090_ERR_NOISE = 8,         /* a noise value not finite or above 64 in size; value: its place */
     MORE1090_ERR_LENGTH = 9,          /* settings, memory, a prototype, output (0 or odd) or draws (no multiple of 65) of a wrong
                                  * length */
-    MORE1090_ERR_LEVEL = 13     /* a level above 200.0 dB, by more1090_level alone */
+    MORE1090_ERR_LEVEL = 13,    /* a level above 200.0 dB, by more1090_level alone */
+    MORE1090_ERR_TRIGGER_LEVEL = 14 /* a trigger level below 0.1 or above 0.9, or a NaN */
 };
 
 /* Why a run call came back. */
@@ -110,7 +112,7 @@ typedef struct more1090_state {
 
 typedef struct more1090_open_result {
     more1090_state state;
-    uint64_t refusal; /* 0, or 1 to 6, or 9 */
+    uint64_t refusal; /* 0, or 1 to 6, 9 or 14 */
     uint64_t value;
 } more1090_open_result;
 
@@ -126,7 +128,7 @@ typedef struct more1090_run_result {
     uint64_t field;
 } more1090_run_result;
 
-/* Opens a run. Checks 9 (settings, mode_s, mode_ac, memory), then 1 to 6, and answers the first that fails: state is then
+/* Opens a run. Checks 9 (settings, mode_s, mode_ac, memory), then 1 to 4, 14, 5 and 6, and answers the first that fails: state is then
  * all zero, and nothing lent is changed. Else the refusal is 0, state is the run's before its first call, mode_s and mode_ac
  * hold the prototypes and memory is all 0.0. Settings and taps are not needed any more. */
 more1090_open_result more1090_open(const uint8_t *settings, size_t settings_length,
@@ -163,13 +165,13 @@ typedef struct more1090_booking_result {
     uint64_t ended;
     uint64_t draw;
     double time;      /* where draws ran out, else 0.0 */
-    uint64_t refusal; /* 0, or 1 to 7, or 9; the figures are then 0 */
+    uint64_t refusal; /* 0, or 1 to 7, 9 or 14; the figures are then 0 */
     uint64_t value;
     uint64_t field;
 } more1090_booking_result;
 
 /* What a run of these settings, filters and draws will use; no sample is made, and nothing is written. Checks 9 (settings, and
- * draws no multiple of 65), then 1 to 6 as opening does, then 7 of every draw, also of ignored ones and those behind the one
+ * draws no multiple of 65), then 1 to 4, 14, 5 and 6 as opening does, then 7 of every draw, also of ignored ones and those behind the one
  * that ends the run. No number of draws is too large. A run that calls of more1090_run bring to Done takes exactly these
  * draws and has exactly these counts in all, whatever draws in range are put after them. (crates/more1090_booking; proved
  * there of lists of calls: crates/run_booking_theorem) */

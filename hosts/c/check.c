@@ -29,7 +29,7 @@ static uint64_t opened_without(const void *none) {
 }
 
 static void check_opening(void) {
-    const size_t lengths[] = {0, 118, 120, 123, 124};
+    const size_t lengths[] = {0, 119, 122, 124, 128};
     const uint32_t second = 1000000000;
     expect("no settings", MORE1090_ERR_LENGTH, opened_without(settings));
     expect("no Mode S prototype", MORE1090_ERR_LENGTH, opened_without(mode_s));
@@ -38,6 +38,10 @@ static void check_opening(void) {
     expect("no Mode S taps", MORE1090_ERR_TAPS, opened_without(taps_s));
     expect("no Mode A/C taps", MORE1090_ERR_TAPS, opened_without(taps_ac));
     expect("nothing", MORE1090_ERR_LENGTH, more1090_open(NULL, 0, NULL, 0, NULL, 0, NULL, 0, NULL, 0, NULL, 0).refusal);
+    make_settings(settings, 0.05f);
+    expect("a trigger level below 0.1", MORE1090_ERR_TRIGGER_LEVEL, opened_without(taps_s));
+    make_settings(settings, 0.9f);
+    expect("a trigger level of 0.9", MORE1090_OK, opened_without(NULL));
     put(settings + 8, &second, 4); /* refusal 1, where it is read */
     expect("nanoseconds", MORE1090_ERR_DURATION, opened_without(NULL));
     for (int k = 0; k < 5; k++)
@@ -58,7 +62,7 @@ static more1090_run_result called(more1090_state state, size_t d, size_t n, size
 }
 
 static void check_calls(void) {
-    make_settings(settings);
+    make_settings(settings, 0.5f);
     make_draw(draws, 0);
     make_draw(draws + MORE1090_DRAW_LEN, 1);
     const more1090_state state =
@@ -122,7 +126,7 @@ static void check_levels(void) {
 }
 
 int main(void) {
-    make_settings(settings);
+    make_settings(settings, 0.5f);
     make_taps(taps_s, MORE1090_MODE_S_TAPS_LEN);
     make_taps(taps_ac, MORE1090_MODE_AC_TAPS_LEN);
     expect("all that is asked for", MORE1090_OK, opened_without(NULL));

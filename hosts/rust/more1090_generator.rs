@@ -3,7 +3,7 @@
 // A program uses a part of it.
 #![allow(dead_code)]
 
-pub const SETTINGS_LEN: usize = 119;
+pub const SETTINGS_LEN: usize = 123;
 pub const MODE_S_TAPS_LEN: usize = 1486;
 pub const MODE_AC_TAPS_LEN: usize = 1515;
 pub const PROTOTYPE: usize = 1792;

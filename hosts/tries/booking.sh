@@ -1,5 +1,5 @@
 # `more1090 booking`, on the worked tape
-settings=119
+settings=123
 draws=$((4 + settings + 4 + 4 * 3001)) # where the count of draws stands
 behind=$((draws + 4 + 3 * 65))         # behind its three draws
 worked=$(wc -c <crates/tape/stdin)

@@ -17,7 +17,7 @@ use Rattle.run_call.specs.declared.State.{State}
 use Rattle.run_call.specs.StateGenerator.{genOf}
 use Rattle.run_call.specs.Given.{refusalGiven}
 use Rattle.run_open_checks.specs.declared.Opened as Opened
-use Rattle.run_open_checks.specs.Opening.{half, openedFor}
+use Rattle.run_open_checks.specs.Opening.{openedFor}
 use Rattle.run_booking_walk.specs.Walk.{End, walkOf}
 
 -- samples, noise values, records and draws taken, and which draw ends the run or that draws ran out
@@ -46,7 +46,7 @@ drawsThen s modeS modeAC time draws =
 module _ (tapsS tapsAC : List Float) where
   -- what opening answers where prototypes and working memory have their lengths
   abbrev pub opened : List ℕ → Opened.Opened
-  opened settings = openedFor four half tapsS tapsAC settings (prototypeLength four) (prototypeLength four) (workingMemory four)
+  opened settings = openedFor four tapsS tapsAC settings (prototypeLength four) (prototypeLength four) (workingMemory four)
 
   unfoldable pub openedThen : Float → List ℕ → Opened.Opened → Answer (Figures Float)
   openedThen time draws (Opened.the-variants.Run s) = drawsThen s (modeSPrototype four tapsS) (modeACPrototype four tapsAC) time draws

@@ -62,7 +62,7 @@ module _ (r : Run) where
   seen-results (x ∷ xs) = λ i. added (counts-in (x .answer) i) (seen-results xs i)
 
 -- ---- a run opened to its buffers
-module _ (tapsS tapsAC : List Float) (settings : List ℕ) (given : Opening.OpenBuffers) (s : State) (opens : Opening.openedOf four Opening.half tapsS tapsAC settings given ≡ Opened.the-variants.Run s) where
+module _ (tapsS tapsAC : List Float) (settings : List ℕ) (given : Opening.OpenBuffers) (s : State) (opens : Opening.openedOf four tapsS tapsAC settings given ≡ Opened.the-variants.Run s) where
   abbrev run : Run
   run = record { state = s; buffers = record { modeS = modeSPrototype four tapsS; modeAC = modeACPrototype four tapsAC; memory = zeros (workingMemory four) } }
 

@@ -20,7 +20,7 @@ use Rattle.settings.specs.Settings.{settingsLength}
 use Rattle.run_call.specs.declared.State.{State}
 use Rattle.run_call.specs.StateGenerator.{genOf}
 use Rattle.run_open_checks.specs.declared.Opened as Opened
-use Rattle.run_open_checks.specs.Opening.{half, OpenBuffers, buffersFit, openedFor, openedOf}
+use Rattle.run_open_checks.specs.Opening.{OpenBuffers, buffersFit, openedFor, openedOf}
 use Rattle.run_booking.specs.Booking.{Figures, figuresOf, given, drawsThen, opened, openedThen, bookingOf}
 
 -- ---- draws in range
@@ -40,7 +40,7 @@ not-a-run : {X : Type 0} (s : State) → _≡_ {A = Opened.Opened} (Opened.the-v
 not-a-run s e = let z : _≡_ {A = ℕ} 0 1 = cc in absurd (omega arith)
 
 module _ (tapsS tapsAC : List Float) (settings : List ℕ) where
-  pub opened-so : (buffers : OpenBuffers) (s : State) → openedOf four half tapsS tapsAC settings buffers ≡ Opened.the-variants.Run s → opened tapsS tapsAC settings ≡ Opened.the-variants.Run s
+  pub opened-so : (buffers : OpenBuffers) (s : State) → openedOf four tapsS tapsAC settings buffers ≡ Opened.the-variants.Run s → opened tapsS tapsAC settings ≡ Opened.the-variants.Run s
   unfolding openedOf openedFor buffersFit
   opened-so buffers s e = go (eqb (length settings) settingsLength) _ _ _ _ e
     where
