@@ -1,5 +1,5 @@
-/* The reply generator for C and C++: opening a run, and run calls; the parity of messages; and levels in decibels. Link
- * libmore1090.a and -lm (tools/library makes it).
+/* The reply generator for C and C++: opening a run, and run calls; what a run will use; the parity of messages; and levels in
+ * decibels. Link libmore1090.a and -lm (tools/library makes it).
  *
  * A run makes the samples of transponder replies at 8,000,000 a second, each a pair of floats, real part first, and a record
  * of every reply. The caller lends everything: settings, filter taps, draws (one for each reply) and noise to read;
@@ -163,6 +163,40 @@ more1090_run_result more1090_run(more1090_state state,
                           float *output, size_t output_length,
                           uint8_t *records, size_t records_length);
 
+/* What a run will use. Where a draw ends the run, ended is 1 and draw its index; where draws ran out, ended is 0, draw is 0, and
+ * time is that of the last draw, in samples. Samples and noise values are the duration's in both cases. */
+typedef struct more1090_booking_result {
+    uint64_t samples;
+    uint64_t noise;       /* noise values: 2 * samples */
+    uint64_t records;     /* replies before the draw that ends the run */
+    uint64_t draws_taken; /* all, or as many as up to and with the draw that ends the run */
+    uint64_t ended;
+    uint64_t draw;
+    double time;      /* where draws ran out, else 0.0 */
+    uint64_t refusal; /* 0, or 1 to 7, 9 or 14; the figures are then 0 */
+    uint64_t value;
+    uint64_t field;
+} more1090_booking_result;
+
+/* What a run of these settings, filters and draws will use; no sample is made, and nothing is written. Checks 9 (settings, and
+ * draws no multiple of 65), then 1 to 4, 14, 5 and 6 as opening does, then 7 of every draw, also of ignored ones and those behind the one
+ * that ends the run. No number of draws is too large. A run that calls of more1090_run bring to Done takes exactly these
+ * draws and has exactly these counts in all, whatever draws in range are put after them. (crates/more1090_booking; proved
+ * there of lists of calls: crates/run_booking_theorem) */
+more1090_booking_result more1090_booking(const uint8_t *settings, size_t settings_length,
+                              const float *taps_s, size_t taps_s_length,
+                              const float *taps_ac, size_t taps_ac_length,
+                              const uint8_t *draws, size_t draws_length);
+
+/* The same for a part of the draws: time is that at which the part before ran out, 0.0 for the first part. Records and draws
+ * taken of the parts, added, are those of the whole, and draw is counted in its own part. Once ended is 1 no part is left to
+ * ask for. Any time is taken, a NaN too. */
+more1090_booking_result more1090_booking_part(double time,
+                              const uint8_t *settings, size_t settings_length,
+                              const float *taps_s, size_t taps_s_length,
+                              const float *taps_ac, size_t taps_ac_length,
+                              const uint8_t *draws, size_t draws_length);
+
 /* The parity of a message in whole bytes, of any length: the remainder of the bytes times x^24 by the generator 0x1FFF409,
  * below 2^24. Of a message that ends in its own parity it is 0. (crates/more1090_parity) */
 uint32_t more1090_parity(const uint8_t *bytes, size_t bytes_length);
@@ -305,6 +339,7 @@ MORE1090_ASSERT(sizeof(more1090_pages_result) == 24 && sizeof(more1090_line_resu
 MORE1090_ASSERT(sizeof(more1090_log_result) == 40 && offsetof(more1090_log_result, value) == 32);
 MORE1090_ASSERT(sizeof(more1090_rack) == 208 && offsetof(more1090_rack, gains) == 144);
 MORE1090_ASSERT(sizeof(more1090_rack_result) == 216 && offsetof(more1090_rack_result, refusal) == 208);
+MORE1090_ASSERT(sizeof(more1090_booking_result) == 80 && offsetof(more1090_booking_result, refusal) == 56);
 #undef MORE1090_ASSERT
 
 #endif

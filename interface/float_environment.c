@@ -60,3 +60,13 @@ GUARDED(more1090_rack_result, rack_run,
         (more1090_rack rack, float *memory, size_t memory_length, const float *samples, size_t samples_length, float *room,
          size_t room_length),
         (rack, memory, memory_length, samples, samples_length, room, room_length))
+
+GUARDED(more1090_booking_result, booking,
+        (const uint8_t *settings, size_t settings_length, const float *taps_s, size_t taps_s_length, const float *taps_ac,
+         size_t taps_ac_length, const uint8_t *draws, size_t draws_length),
+        (settings, settings_length, taps_s, taps_s_length, taps_ac, taps_ac_length, draws, draws_length))
+
+GUARDED(more1090_booking_result, booking_part,
+        (double time, const uint8_t *settings, size_t settings_length, const float *taps_s, size_t taps_s_length,
+         const float *taps_ac, size_t taps_ac_length, const uint8_t *draws, size_t draws_length),
+        (time, settings, settings_length, taps_s, taps_s_length, taps_ac, taps_ac_length, draws, draws_length))

@@ -13,6 +13,7 @@ mod rules;
 mod tally;
 mod tape;
 mod parts {
+    pub mod booking;
     pub mod carrier;
     pub mod flips;
     pub mod floats;
@@ -54,6 +55,7 @@ fn main() {
     parts::shape::compare(&mut tally, &mut r, count);
     parts::starts::compare(&mut tally, &mut r, count);
     parts::runs::compare(&mut tally, &mut Random::new(seed), number(3, 1000));
+    parts::booking::compare(&mut tally, &mut Random::new(seed), number(3, 1000));
     tally.print();
     let (n, wrong) = tally.totals();
     println!("parts: {n} comparisons, {wrong} differences");

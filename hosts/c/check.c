@@ -1,6 +1,6 @@
 /* What the header says of lengths, tried: a pointer lent with length 0 may be NULL, and settings, prototypes and working
- * memory of another length are refused 9 before anything else is looked at. And what it says of levels that are refused. It
- * exits with 0 where all is so.
+ * memory of another length are refused 9 before anything else is looked at, by a booking too. And what it says of levels that
+ * are refused. It exits with 0 where all is so.
  *
  *     c_check */
 #include "inputs.h"
@@ -91,6 +91,34 @@ static void check_calls(void) {
            more1090_run(state, NULL, 0, NULL, 0, NULL, 0, NULL, 0, NULL, 0, NULL, 0, NULL, 0).refusal);
 }
 
+static more1090_booking_result booked(size_t settings_length, size_t taps, size_t d) {
+    return more1090_booking(settings_length == 0 ? NULL : settings, settings_length, taps == 0 ? NULL : taps_s, taps, taps_ac,
+                            MORE1090_MODE_AC_TAPS_LEN, d == 0 ? NULL : draws, d);
+}
+
+static void check_booking(void) {
+    make_settings(settings, 0.5f);
+    make_draw(draws, 0);
+    make_draw(draws + MORE1090_DRAW_LEN, 1);
+    const more1090_booking_result none = booked(MORE1090_SETTINGS_LEN, MORE1090_MODE_S_TAPS_LEN, 0);
+    expect("a booking of no draws", MORE1090_OK, none.refusal);
+    expect("its samples", 80000, none.samples);
+    expect("its noise values", 160000, none.noise);
+    expect("its draws ran out", 0, none.ended + none.draws_taken + none.records);
+    expect("a booking with no settings", MORE1090_ERR_LENGTH, booked(0, MORE1090_MODE_S_TAPS_LEN, 0).refusal);
+    expect("a booking with no taps", MORE1090_ERR_TAPS, booked(MORE1090_SETTINGS_LEN, 0, 0).refusal);
+    expect("a booking of a draw and a byte", MORE1090_ERR_LENGTH,
+           booked(MORE1090_SETTINGS_LEN, MORE1090_MODE_S_TAPS_LEN, MORE1090_DRAW_LEN + 1).refusal);
+    expect("a booking of nothing", MORE1090_ERR_LENGTH, more1090_booking(NULL, 0, NULL, 0, NULL, 0, NULL, 0).refusal);
+    const more1090_booking_result two = booked(MORE1090_SETTINGS_LEN, MORE1090_MODE_S_TAPS_LEN, sizeof draws);
+    const more1090_booking_result first = booked(MORE1090_SETTINGS_LEN, MORE1090_MODE_S_TAPS_LEN, MORE1090_DRAW_LEN);
+    const more1090_booking_result second =
+        more1090_booking_part(first.time, settings, MORE1090_SETTINGS_LEN, taps_s, MORE1090_MODE_S_TAPS_LEN, taps_ac,
+                              MORE1090_MODE_AC_TAPS_LEN, draws + MORE1090_DRAW_LEN, MORE1090_DRAW_LEN);
+    expect("records in parts", two.records, first.records + second.records);
+    expect("draws taken in parts", two.draws_taken, first.draws_taken + second.draws_taken);
+}
+
 static uint32_t bits_of(float x) {
     uint32_t bits;
     memcpy(&bits, &x, 4);
@@ -165,6 +193,7 @@ int main(void) {
     expect("all that is asked for", MORE1090_OK, opened_without(NULL));
     check_opening();
     check_calls();
+    check_booking();
     check_levels();
     check_pages();
     check_logs();

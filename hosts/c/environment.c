@@ -18,6 +18,11 @@ more1090_open_result more1090_proved_open(const uint8_t *, size_t, const float *
 more1090_run_result more1090_proved_run(more1090_state, const float *, size_t, const float *, size_t, float *, size_t,
                                         const uint8_t *, size_t, const float *, size_t, float *, size_t, uint8_t *, size_t);
 
+more1090_booking_result more1090_proved_booking(const uint8_t *, size_t, const float *, size_t, const float *, size_t,
+                                                const uint8_t *, size_t);
+more1090_booking_result more1090_proved_booking_part(double, const uint8_t *, size_t, const float *, size_t, const float *,
+                                                     size_t, const uint8_t *, size_t);
+
 /* What a whole run is given. */
 static uint8_t settings[MORE1090_SETTINGS_LEN], draws[(DRAWS + 1) * MORE1090_DRAW_LEN];
 static float taps_s[MORE1090_MODE_S_TAPS_LEN], taps_ac[MORE1090_MODE_AC_TAPS_LEN], noise[2 * SAMPLES];
@@ -26,6 +31,7 @@ static float taps_s[MORE1090_MODE_S_TAPS_LEN], taps_ac[MORE1090_MODE_AC_TAPS_LEN
 typedef struct outcome {
     uint64_t refusals[2], stop;
     more1090_state state;
+    more1090_booking_result booking, part;
     float output[2 * SAMPLES];
     uint8_t records[DRAWS * MORE1090_RECORD_LEN];
 } outcome;
@@ -54,6 +60,13 @@ static void run(unsigned word, int guarded, outcome *to) {
     more1090_run_result r = (guarded ? more1090_run : more1090_proved_run)(
         o.state, mode_s, MORE1090_PROTOTYPE_LEN, mode_ac, MORE1090_PROTOTYPE_LEN, memory, MORE1090_MEMORY_LEN, draws,
         sizeof draws, noise, 2 * SAMPLES, to->output, 2 * SAMPLES, to->records, sizeof to->records);
+    given_back(word);
+    to->booking = (guarded ? more1090_booking : more1090_proved_booking)(
+        settings, sizeof settings, taps_s, MORE1090_MODE_S_TAPS_LEN, taps_ac, MORE1090_MODE_AC_TAPS_LEN, draws, sizeof draws);
+    given_back(word);
+    to->part = (guarded ? more1090_booking_part : more1090_proved_booking_part)(
+        0.1, settings, sizeof settings, taps_s, MORE1090_MODE_S_TAPS_LEN, taps_ac, MORE1090_MODE_AC_TAPS_LEN, draws,
+        DRAWS * MORE1090_DRAW_LEN);
     given_back(word);
     _mm_setcsr(DEFAULT);
     to->refusals[0] = o.refusal;

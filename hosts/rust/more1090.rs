@@ -8,6 +8,7 @@ mod shell;
 mod signals;
 mod commands {
     pub mod heard;
+    pub mod booking;
     pub mod level;
     pub mod message;
     pub mod pages;
@@ -17,7 +18,7 @@ mod commands {
 
 use shell::{Command, Failure};
 
-const COMMANDS: &[Command] = &[commands::heard::COMMAND, commands::level::COMMAND, commands::message::COMMAND, commands::pages::COMMAND, commands::rack::COMMAND, commands::random::COMMAND];
+const COMMANDS: &[Command] = &[commands::booking::COMMAND, commands::heard::COMMAND, commands::level::COMMAND, commands::message::COMMAND, commands::pages::COMMAND, commands::rack::COMMAND, commands::random::COMMAND];
 
 const VERSION: &str = include_str!("../../VERSION");
 

@@ -66,6 +66,22 @@ impl RunResult {
     }
 }
 
+/// What a run will use, as C has it.
+#[repr(C)]
+struct BookingResult {
+    samples: u64,
+    noise: u64,
+    records: u64,
+    draws_taken: u64,
+    ended: u64,
+    draw: u64,
+    time: f64,
+    refusal: u64,
+    value: u64,
+    field: u64,
+}
+
+const _: () = assert!(size_of::<BookingResult>() == 80);
 const _: () =
     assert!(size_of::<State>() == 184 && size_of::<OpenResult>() == 200 && size_of::<RunResult>() == 264);
 
@@ -78,6 +94,8 @@ unsafe extern "C" {
         memory: *mut f32, memory_length: usize, draws: *const u8, draws_length: usize,
         noise: *const f32, noise_length: usize, output: *mut f32, output_length: usize,
         records: *mut u8, records_length: usize) -> RunResult;
+    fn more1090_booking_part(time: f64, settings: *const u8, settings_length: usize, taps_s: *const f32, taps_s_length: usize,
+        taps_ac: *const f32, taps_ac_length: usize, draws: *const u8, draws_length: usize) -> BookingResult;
     fn more1090_parity(bytes: *const u8, bytes_length: usize) -> u32;
     safe fn more1090_parity_change(place: u64) -> u32;
     safe fn more1090_flipped_bit(change: u32) -> u64;
@@ -118,6 +136,44 @@ pub fn run(state: State, mode_s: &[f32], mode_ac: &[f32], memory: &mut [f32],
             memory.as_mut_ptr(), memory.len(), draws.as_ptr(), draws.len(), noise.as_ptr(), noise.len(),
             output.as_mut_ptr(), output.len(), records.as_mut_ptr(), records.len())
     }
+}
+
+/// What a run will use: samples, noise values and records, the draws that it takes, and where they end.
+#[derive(Debug, Clone, Copy, PartialEq)]
+pub struct Booking {
+    pub samples: u64,
+    pub noise: u64,
+    pub records: u64,
+    pub draws_taken: u64,
+    pub end: BookingEnd,
+}
+
+#[derive(Debug, Clone, Copy, PartialEq)]
+pub enum BookingEnd {
+    /// The index of the draw that ends the run.
+    Draw(u64),
+    /// No draw does: the time of the last one, from which a next part goes on.
+    RanOut(f64),
+}
+
+/// What a run of these settings, filters and draws will use, or the refusal's number, value and field. No sample is made.
+pub fn booking(settings: &[u8], taps_s: &[f32], taps_ac: &[f32], draws: &[u8]) -> Result<Booking, [u64; 3]> {
+    booking_part(0.0, settings, taps_s, taps_ac, draws)
+}
+
+/// The same for a part of the draws, from the time at which the part before ran out. Records and draws taken are added by the
+/// caller; the end draw is counted in its own part.
+#[rustfmt::skip]
+pub fn booking_part(time: f64, settings: &[u8], taps_s: &[f32], taps_ac: &[f32], draws: &[u8]) -> Result<Booking, [u64; 3]> {
+    let b = unsafe {
+        more1090_booking_part(time, settings.as_ptr(), settings.len(), taps_s.as_ptr(), taps_s.len(),
+            taps_ac.as_ptr(), taps_ac.len(), draws.as_ptr(), draws.len())
+    };
+    if b.refusal != 0 {
+        return Err([b.refusal, b.value, b.field]);
+    }
+    let end = if b.ended == 1 { BookingEnd::Draw(b.draw) } else { BookingEnd::RanOut(b.time) };
+    Ok(Booking { samples: b.samples, noise: b.noise, records: b.records, draws_taken: b.draws_taken, end })
 }
 
 /// The bytes of a stored run: the state's 23 numbers of eight bytes, then the Mode S prototype, the Mode A/C prototype and

@@ -1,0 +1,2 @@
+pub mod InRange
+mod Decided

@@ -1,0 +1,3 @@
+pub mod PlainWalk
+pub mod FinishedRuns
+pub mod Parts

@@ -1,0 +1,1 @@
+// What is shown of a booking: specs/ states it, proofs/ shows it.

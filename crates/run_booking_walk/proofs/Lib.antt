@@ -1,0 +1,2 @@
+mod Step4
+mod Turn
