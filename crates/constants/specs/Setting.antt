@@ -7,3 +7,8 @@ use Rattle.constants.specs.declared.SamplesPerPulse.the-variants.{Four, 
 abbrev pub perPulse : SamplesPerPulse → ℕ
 perPulse Four = 4
 perPulse Eight = 8
+
+-- the first of two numbers at 4, and the second at 8
+unfoldable pub either : SamplesPerPulse → ℕ → ℕ → ℕ
+either Four a b = a
+either Eight a b = b

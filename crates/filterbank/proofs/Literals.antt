@@ -1,6 +1,6 @@
 -- What the code computes with its literals is what the definitions say.
-use Prim.Native.Nat.{ℕ, _+_, _-_, _%_, _^_, _<_, _≤_}
-use native.Mathlib.Nat.{mod-eq-of-lt, add-zero, sub-zero}
+use Prim.Native.Nat.{ℕ, _+_, _-_, _*_, _%_, _^_, _<_, _≤_}
+use native.Mathlib.Nat.{mod-eq-of-lt, le-of-eq, add-zero, zero-add, sub-zero, mul-zero, mul-one}
 use mathlib.Core.Path.{_≡_, refl, sym, ap, _∙_}
 use mathlib.Core.Bool.{Bool, true, false, cond}
 use mathlib.Core.List.{List, [], _∷_}
@@ -11,7 +11,7 @@ use lib.Dec.{ltb}
 use lib.ListN.{length, getD, drop}
 use lib.Ieee.{Float, nan, binary32, binary64, ofBits, ofInt, toUnsigned, add, sub, mul, div, le}
 use Rattle.float_narrow.specs.Narrow.{narrow}
-use Rattle.constants.specs.Rate.{four}
+use Rattle.constants.specs.Rate.{branches, prototypeLength}
 use Rattle.filterbank.specs.declared.Clock.{Clock}
 use Rattle.filterbank.specs.Taps.{one, scaled, branchOf, tauOf, branch, nextBranch, between, filterTaps}
 use Rattle.pulse_shape.specs.Values.{valuesFrom}
@@ -19,100 +19,94 @@ use Rattle.filterbank.specs.PulseSum.{sumWhere}
 use Rattle.filterbank.specs.PaddedPulsesModel.{paddedSum}
 use Rattle.filterbank.specs.Clocked.{stepOf, startClock, settle, advance, in64}
 
--- 256.0, 1.0 and 4.0
-abbrev pub f256 : Float
-f256 = ofBits binary64 4643211215818981376
-
+-- 1.0
 abbrev pub f1 : Float
 f1 = ofBits binary64 4607182418800017408
-
-abbrev pub f4 : Float
-f4 = ofBits binary64 4616189618054758400
-
-is256 : f256 ≡ ofInt binary64 (pos 256)
-unfolding ofBits ofInt
-is256 = refl
 
 is1 : f1 ≡ ofInt binary64 (pos 1)
 unfolding ofBits ofInt
 is1 = refl
 
-is4 : f4 ≡ ofInt binary64 (pos 4)
-unfolding ofBits ofInt
-is4 = refl
-
--- ---- the branch and tau
-scaled-is : (p : Float) → mul binary64 p f256 ≡ scaled four p
+-- ---- the branch and tau, at any rate
+pub scaled-is : (sps : ℕ) (p n : Float) (k : ℕ) → k ≡ branches sps → n ≡ ofInt binary64 (pos k) → mul binary64 p n ≡ scaled sps p
 unfolding scaled
-scaled-is p = ap (mul binary64 p) is256
+scaled-is sps p n k e f = ap (mul binary64 p) (f ∙ ap (λ (x : ℕ). ofInt binary64 (pos x)) e)
 
-pub branch-own : (p : Float) (a : ℕ) → a ≡ toUnsigned 64 (mul binary64 p f256) → a < 256 → a ≡ branchOf four p
+pub branch-own : (sps : ℕ) (p x : Float) (a : ℕ) → x ≡ scaled sps p → a ≡ toUnsigned 64 x → a < branches sps → a ≡ branchOf sps p
 unfolding branchOf
-branch-own p a e h = own a (toUnsigned 64 (scaled four p)) (e ∙ ap (toUnsigned 64) (scaled-is p)) h
+branch-own sps p x a q e h = own (branches sps) a (toUnsigned 64 (scaled sps p)) (e ∙ ap (toUnsigned 64) q) h
   where
-    own : (a b : ℕ) → a ≡ b → a < 256 → a ≡ cond (ltb b 256) b 0
-    own a b e h = e ∙ sym (rw (lt-ltb b 256 (omega arith)))
+    own : (n a b : ℕ) → a ≡ b → a < n → a ≡ cond (ltb b n) b 0
+    own n a b e h = e ∙ sym (rw (lt-ltb b n (omega arith)))
 
-pub branch-none : (p : Float) (a : ℕ) → a ≡ toUnsigned 64 (mul binary64 p f256) → 256 ≤ a → 0 ≡ branchOf four p
+pub branch-none : (sps : ℕ) (p x : Float) (a : ℕ) → x ≡ scaled sps p → a ≡ toUnsigned 64 x → branches sps ≤ a → 0 ≡ branchOf sps p
 unfolding branchOf
-branch-none p a e h = none a (toUnsigned 64 (scaled four p)) (e ∙ ap (toUnsigned 64) (scaled-is p)) h
+branch-none sps p x a q e h = none (branches sps) a (toUnsigned 64 (scaled sps p)) (e ∙ ap (toUnsigned 64) q) h
   where
-    none : (a b : ℕ) → a ≡ b → 256 ≤ a → 0 ≡ cond (ltb b 256) b 0
-    none a b e h = sym (rw (le-ltb b 256 (omega arith)))
+    none : (n a b : ℕ) → a ≡ b → n ≤ a → 0 ≡ cond (ltb b n) b 0
+    none n a b e h = sym (rw (le-ltb b n (omega arith)))
 
-pub tau-is : (p : Float) (a : ℕ) (n r : Float) → a ≡ branchOf four p → n ≡ ofInt binary64 (pos a) → r ≡ narrow (sub binary64 (mul binary64 p f256) n) → r ≡ tauOf four p
+pub tau-is : (sps : ℕ) (p : Float) (a : ℕ) (x n r : Float) → a ≡ branchOf sps p → x ≡ scaled sps p → n ≡ ofInt binary64 (pos a) → r ≡ narrow (sub binary64 x n) → r ≡ tauOf sps p
 unfolding tauOf
-tau-is p a n r e f g = g ∙ ap narrow (ap (λ (x : Float). sub binary64 x n) (scaled-is p) ∙ ap (sub binary64 (scaled four p)) (f ∙ ap (λ (x : ℕ). ofInt binary64 (pos x)) e))
+tau-is sps p a x n r e q f g = g ∙ ap narrow (ap (λ (y : Float). sub binary64 y n) q ∙ ap (sub binary64 (scaled sps p)) (f ∙ ap (λ (y : ℕ). ofInt binary64 (pos y)) e))
 
--- ---- the taps between two branches
+-- ---- the taps between two branches: n is the number of branches
 abbrev interpolatedOf : List Float → Float → ℕ → ℕ → Float
 interpolatedOf p tau i j = add binary32 (mul binary32 (sub binary32 one tau) (getD p i nan)) (mul binary32 tau (getD p j nan))
 
-pub seven-taps : (p : List Float) (tau : Float) (a : ℕ) (r0 r1 r2 r3 r4 r5 r6 : Float)
+pub seven-taps : (sps n : ℕ) → n ≡ branches sps → (p : List Float) (tau : Float) (a : ℕ) (r0 r1 r2 r3 r4 r5 r6 : Float)
     → r0 ≡ interpolatedOf p tau a (a + 1)
-    → r1 ≡ interpolatedOf p tau (a + 256) (a + 1 + 256)
-    → r2 ≡ interpolatedOf p tau (a + 512) (a + 1 + 512)
-    → r3 ≡ interpolatedOf p tau (a + 768) (a + 1 + 768)
-    → r4 ≡ interpolatedOf p tau (a + 1024) (a + 1 + 1024)
-    → r5 ≡ interpolatedOf p tau (a + 1280) (a + 1 + 1280)
-    → r6 ≡ interpolatedOf p tau (a + 1536) (a + 1 + 1536)
-    → r0 ∷ r1 ∷ r2 ∷ r3 ∷ r4 ∷ r5 ∷ r6 ∷ [] ≡ between tau (branch four p a) (branch four p (a + 1))
+    → r1 ≡ interpolatedOf p tau (a + n) (a + 1 + n)
+    → r2 ≡ interpolatedOf p tau (a + n * 2) (a + 1 + n * 2)
+    → r3 ≡ interpolatedOf p tau (a + n * 3) (a + 1 + n * 3)
+    → r4 ≡ interpolatedOf p tau (a + n * 4) (a + 1 + n * 4)
+    → r5 ≡ interpolatedOf p tau (a + n * 5) (a + 1 + n * 5)
+    → r6 ≡ interpolatedOf p tau (a + n * 6) (a + 1 + n * 6)
+    → r0 ∷ r1 ∷ r2 ∷ r3 ∷ r4 ∷ r5 ∷ r6 ∷ [] ≡ between tau (branch sps p a) (branch sps p (a + 1))
 unfolding between branch valuesFrom
-seven-taps p tau a r0 r1 r2 r3 r4 r5 r6 e0 e1 e2 e3 e4 e5 e6 = rw (e0, e1, e2, e3, e4, e5, e6) (rw (add-zero (a + 1), add-zero a))
+seven-taps sps n e p tau a r0 r1 r2 r3 r4 r5 r6 e0 e1 e2 e3 e4 e5 e6 =
+    rw (e0, e1, e2, e3, e4, e5, e6) (rw (← e, mul-zero n, mul-one n, add-zero (a + 1), add-zero a))
 
 -- and those of the last branch, the last of which gets no addition
-pub rolled-taps : (p : List Float) (tau : Float) {r0 r1 r2 r3 r4 r5 : Float}
-    → r0 ≡ interpolatedOf p tau 255 256
-    → r1 ≡ interpolatedOf p tau 511 512
-    → r2 ≡ interpolatedOf p tau 767 768
-    → r3 ≡ interpolatedOf p tau 1023 1024
-    → r4 ≡ interpolatedOf p tau 1279 1280
-    → r5 ≡ interpolatedOf p tau 1535 1536
-    → r0 ∷ r1 ∷ r2 ∷ r3 ∷ r4 ∷ r5 ∷ mul binary32 (sub binary32 one tau) (getD p 1791 nan) ∷ [] ≡ between tau (branch four p 255) (drop 1 (branch four p 0))
+pub rolled-taps : (sps n a : ℕ) → n ≡ branches sps → a ≡ branches sps - 1 → (p : List Float) (tau : Float) {r0 r1 r2 r3 r4 r5 : Float}
+    → r0 ≡ interpolatedOf p tau a n
+    → r1 ≡ interpolatedOf p tau (a + n) (n * 2)
+    → r2 ≡ interpolatedOf p tau (a + n * 2) (n * 3)
+    → r3 ≡ interpolatedOf p tau (a + n * 3) (n * 4)
+    → r4 ≡ interpolatedOf p tau (a + n * 4) (n * 5)
+    → r5 ≡ interpolatedOf p tau (a + n * 5) (n * 6)
+    → r0 ∷ r1 ∷ r2 ∷ r3 ∷ r4 ∷ r5 ∷ mul binary32 (sub binary32 one tau) (getD p (a + n * 6) nan) ∷ [] ≡ between tau (branch sps p (branches sps - 1)) (drop 1 (branch sps p 0))
 unfolding between branch valuesFrom
-rolled-taps p tau e0 e1 e2 e3 e4 e5 = λ i. e0 i ∷ e1 i ∷ e2 i ∷ e3 i ∷ e4 i ∷ e5 i ∷ mul binary32 (sub binary32 one tau) (getD p 1791 nan) ∷ []
+rolled-taps sps n a e f p tau e0 e1 e2 e3 e4 e5 =
+    rw (e0, e1, e2, e3, e4, e5) (rw (← f, ← e, mul-zero n, mul-one n, add-zero a, zero-add n, zero-add (n * 2), zero-add (n * 3), zero-add (n * 4), zero-add (n * 5), zero-add (n * 6)))
 
-pub taps-within : (p : List Float) (phase tau : Float) (a : ℕ) (r : List Float) → length p ≡ 1792 → a ≡ branchOf four phase → tau ≡ tauOf four phase → a < 255 → r ≡ between tau (branch four p a) (branch four p (a + 1)) → r ≡ filterTaps four p phase
+pub taps-within : (sps : ℕ) (p : List Float) (phase tau : Float) (a : ℕ) (r : List Float) → length p ≡ prototypeLength sps → a ≡ branchOf sps phase → tau ≡ tauOf sps phase → a + 1 < branches sps → r ≡ between tau (branch sps p a) (branch sps p (a + 1)) → r ≡ filterTaps sps p phase
 unfolding filterTaps nextBranch
-taps-within p phase tau a r l e f h g = g ∙ sym (rw (eq-eqb (length p) 1792 l, ← e, ← f, lt-ltb a 255 h))
+taps-within sps p phase tau a r l e f h g = g ∙ sym (rw (eq-eqb (length p) (prototypeLength sps) l, ← e, ← f, lt-ltb a (branches sps - 1) (less a (branches sps) h)))
+  where
+    less : (a n : ℕ) → a + 1 < n → a < n - 1
+    less a n h = omega arith
 
-pub taps-rolled : (p : List Float) (phase tau : Float) (a : ℕ) (r : List Float) → length p ≡ 1792 → a ≡ branchOf four phase → tau ≡ tauOf four phase → 255 ≤ a → a < 256 → r ≡ between tau (branch four p 255) (drop 1 (branch four p 0)) → r ≡ filterTaps four p phase
+pub taps-rolled : (sps : ℕ) (p : List Float) (phase tau : Float) (a : ℕ) (r : List Float) → length p ≡ prototypeLength sps → a ≡ branchOf sps phase → tau ≡ tauOf sps phase → branches sps ≤ a + 1 → a < branches sps → r ≡ between tau (branch sps p (branches sps - 1)) (drop 1 (branch sps p 0)) → r ≡ filterTaps sps p phase
 unfolding filterTaps nextBranch
-taps-rolled p phase tau a r l e f h k g =
-    let x : 255 ≡ a = omega arith in
-    g ∙ sym (rw (eq-eqb (length p) 1792 l, ← e, ← f, le-ltb a 255 h, ← x))
+taps-rolled sps p phase tau a r l e f h k g =
+    let x : branches sps - 1 ≡ a = last a (branches sps) h k in
+    g ∙ sym (rw (eq-eqb (length p) (prototypeLength sps) l, ← e, ← f, le-ltb a (branches sps - 1) (le-of-eq x), x))
+  where
+    last : (a n : ℕ) → n ≤ a + 1 → a < n → n - 1 ≡ a
+    last a n h k = omega arith
 
--- ---- the clock
-pub step-is : (e : Float) → mul binary64 (div binary64 f1 f4) (add binary64 f1 e) ≡ stepOf four e
+-- ---- the clock, by a number that the code makes a float of
+pub step-is : (sps k : ℕ) (n e : Float) → k ≡ sps → n ≡ ofInt binary64 (pos k) → mul binary64 (div binary64 f1 n) (add binary64 f1 e) ≡ stepOf sps e
 unfolding stepOf
-step-is e = ap (λ (x : Float). mul binary64 (div binary64 x f4) (add binary64 x e)) is1 ∙ ap (λ (x : Float). mul binary64 (div binary64 (ofInt binary64 (pos 1)) x) (add binary64 (ofInt binary64 (pos 1)) e)) is4
+step-is sps k n e q f = λ i. mul binary64 (div binary64 (is1 i) ((f ∙ ap (λ (x : ℕ). ofInt binary64 (pos x)) q) i)) (add binary64 (is1 i) e)
 
 abbrev clockAt : Float → ℕ → Clock
 clockAt p i = record { phase = p; index = i }
 
-pub start-is : (p : Float) → clockAt (div binary64 p f4) 0 ≡ startClock four p
+pub start-is : (sps k : ℕ) (p n : Float) → k ≡ sps → n ≡ ofInt binary64 (pos k) → clockAt (div binary64 p n) 0 ≡ startClock sps p
 unfolding startClock
-start-is p = ap (λ (x : Float). clockAt (div binary64 p x) 0) is4
+start-is sps k p n q f = ap (λ (x : Float). clockAt (div binary64 p x) 0) (f ∙ ap (λ (x : ℕ). ofInt binary64 (pos x)) q)
 
 advance-is : (d : Float) (c : Clock) (b : Bool) → le f1 (add binary64 (c .phase) d) ≡ b → advance d c ≡ settle b (add binary64 (c .phase) d) (c .index)
 unfolding advance

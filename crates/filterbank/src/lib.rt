@@ -1,30 +1,38 @@
 // The filterbank, after pulse_shape.rs: the taps at a clock phase. The clock and the sums of taps are in crates above.
 // Each function is equal to a definition of specs/ on every input.
 ghost use mathlib.Core.Path.{_≡_};
-ghost use Prim.Native.Nat.{_<_, _+_};
+ghost use Prim.Native.Nat.{_<_, _+_, _-_};
 ghost use lib.ListN.{length, drop, getD};
 ghost use lib.Ieee.{binary32, nan, add, mul, sub};
-ghost use Rattle.constants.specs.Rate.{four};
-ghost use Rattle.filterbank.specs.Taps.{one, branchOf, tauOf, branch, between, filterTaps};
-use constants::PROTOTYPE_LEN;
+ghost use Rattle.constants.specs.Setting.{perPulse};
+ghost use Rattle.constants.specs.Rate.{branches, prototypeLength};
+ghost use Rattle.filterbank.specs.Taps.{one, scaled, branchOf, tauOf, branch, between, filterTaps};
+use constants::SamplesPerPulse;
 
-// The branch at a phase, from the phase times 256.
-fn branch_of(phase: f64) -> usize
-    ensures { λ r. ⌜ (r ≡ branchOf four phase) × (r < 256) ⌝ }
+// The phase times the branches.
+fn scaled_phase(setting: SamplesPerPulse, phase: f64) -> f64
+    ensures { λ r. ⌜ r ≡ scaled (perPulse setting) phase ⌝ }
 {
-    let a = float_to_int::to_usize(phase * 256.0);
-    if a < 256 {
+    phase * std::num::nearest_u64_to_f64(setting.branches() as u64)
+}
+
+// The branch at a phase.
+fn branch_of(setting: SamplesPerPulse, phase: f64) -> usize
+    ensures { λ r. ⌜ (r ≡ branchOf (perPulse setting) phase) × (r < branches (perPulse setting)) ⌝ }
+{
+    let a = float_to_int::to_usize(scaled_phase(setting, phase));
+    if a < setting.branches() {
         return a;
     }
     0
 }
 
 // How far the phase lies past branch a.
-fn tau_of(phase: f64, a: usize) -> f32
-    requires { ⌜ a ≡ branchOf four phase ⌝ }
-    ensures { λ r. ⌜ r ≡ tauOf four phase ⌝ }
+fn tau_of(setting: SamplesPerPulse, phase: f64, a: usize) -> f32
+    requires { ⌜ a ≡ branchOf (perPulse setting) phase ⌝ }
+    ensures { λ r. ⌜ r ≡ tauOf (perPulse setting) phase ⌝ }
 {
-    float_narrow::narrow(phase * 256.0 - std::num::nearest_u64_to_f64(a as u64))
+    float_narrow::narrow(scaled_phase(setting, phase) - std::num::nearest_u64_to_f64(a as u64))
 }
 
 // (1 - tau) * p[i] + tau * p[j].
@@ -36,51 +44,54 @@ fn interpolated(p: &[f32], tau: f32, i: usize, j: usize) -> f32
 }
 
 // The taps between branch a and branch a + 1.
-fn within_bank(p: &[f32], tau: f32, a: usize) -> [f32; 7]
-    requires { ⌜ (length (now p) ≡ 1792) × (a < 255) ⌝ }
-    ensures { λ r. ⌜ r ≡ between tau (branch four (now (p .entry)) a) (branch four (now (p .entry)) (a + 1)) ⌝ }
+fn within_bank(setting: SamplesPerPulse, p: &[f32], tau: f32, a: usize) -> [f32; 7]
+    requires { ⌜ (length (now p) ≡ prototypeLength (perPulse setting)) × (a + 1 < branches (perPulse setting)) ⌝ }
+    ensures { λ r. ⌜ r ≡ between tau (branch (perPulse setting) (now (p .entry)) a) (branch (perPulse setting) (now (p .entry)) (a + 1)) ⌝ }
 {
+    let n = setting.branches();
     let b = a + 1;
     [
         interpolated(p, tau, a, b),
-        interpolated(p, tau, a + 256, b + 256),
-        interpolated(p, tau, a + 512, b + 512),
-        interpolated(p, tau, a + 768, b + 768),
-        interpolated(p, tau, a + 1024, b + 1024),
-        interpolated(p, tau, a + 1280, b + 1280),
-        interpolated(p, tau, a + 1536, b + 1536),
+        interpolated(p, tau, a + n, b + n),
+        interpolated(p, tau, a + n * 2, b + n * 2),
+        interpolated(p, tau, a + n * 3, b + n * 3),
+        interpolated(p, tau, a + n * 4, b + n * 4),
+        interpolated(p, tau, a + n * 5, b + n * 5),
+        interpolated(p, tau, a + n * 6, b + n * 6),
     ]
 }
 
-// The taps of branch 255, which goes on to branch 0 from its second tap.
-fn at_bank_end(p: &[f32], tau: f32) -> [f32; 7]
-    requires { ⌜ length (now p) ≡ 1792 ⌝ }
-    ensures { λ r. ⌜ r ≡ between tau (branch four (now (p .entry)) 255) (drop 1 (branch four (now (p .entry)) 0)) ⌝ }
+// The taps of the last branch, which goes on to branch 0 from its second tap.
+fn at_bank_end(setting: SamplesPerPulse, p: &[f32], tau: f32) -> [f32; 7]
+    requires { ⌜ length (now p) ≡ prototypeLength (perPulse setting) ⌝ }
+    ensures { λ r. ⌜ r ≡ between tau (branch (perPulse setting) (now (p .entry)) (branches (perPulse setting) - 1)) (drop 1 (branch (perPulse setting) (now (p .entry)) 0)) ⌝ }
 {
+    let n = setting.branches();
+    let a = n - 1;
     [
-        interpolated(p, tau, 255, 256),
-        interpolated(p, tau, 511, 512),
-        interpolated(p, tau, 767, 768),
-        interpolated(p, tau, 1023, 1024),
-        interpolated(p, tau, 1279, 1280),
-        interpolated(p, tau, 1535, 1536),
-        (1.0 - tau) * p[1791],
+        interpolated(p, tau, a, n),
+        interpolated(p, tau, a + n, n * 2),
+        interpolated(p, tau, a + n * 2, n * 3),
+        interpolated(p, tau, a + n * 3, n * 4),
+        interpolated(p, tau, a + n * 4, n * 5),
+        interpolated(p, tau, a + n * 5, n * 6),
+        (1.0 - tau) * p[a + n * 6],
     ]
 }
 
 // The seven taps at a clock phase.
-pub fn filter_taps(prototype: &[f32], phase: f64) -> [f32; 7]
-    ensures { λ r. ⌜ r ≡ filterTaps four (now (prototype .entry)) phase ⌝ }
+pub fn filter_taps(setting: SamplesPerPulse, prototype: &[f32], phase: f64) -> [f32; 7]
+    ensures { λ r. ⌜ r ≡ filterTaps (perPulse setting) (now (prototype .entry)) phase ⌝ }
 {
-    if prototype.len() != PROTOTYPE_LEN {
+    if prototype.len() != setting.prototype_len() {
         return [0.0; 7];
     }
-    let a = branch_of(phase);
-    let tau = tau_of(phase, a);
-    if a < 255 {
-        return within_bank(prototype, tau, a);
+    let a = branch_of(setting, phase);
+    let tau = tau_of(setting, phase, a);
+    if a + 1 < setting.branches() {
+        return within_bank(setting, prototype, tau, a);
     }
-    at_bank_end(prototype, tau)
+    at_bank_end(setting, prototype, tau)
 }
 
 pub struct Clock {

@@ -1,28 +1,29 @@
 // What applying the filterbank does at each sample: the clock's step, and the sum of the taps at pulses. Equal to their definitions, in specs/ of `filterbank`, on every input.
 ghost use mathlib.Core.Path.{_≡_};
-ghost use Rattle.constants.specs.Rate.{four};
+ghost use Rattle.constants.specs.Setting.{perPulse};
 ghost use Rattle.filterbank.specs.Clocked.{stepOf, startClock, advance as advanced, in64};
 ghost use mathlib.Core.Bool.{cond};
 ghost use lib.ListN.{take};
 ghost use lib.Ieee.{binary32, add};
 ghost use Rattle.filterbank.specs.PaddedPulsesModel.{padPulses, paddedSum};
 use constants::MAX_POSITIONS;
+use constants::SamplesPerPulse;
 use constants::least;
 use filterbank::Clock;
 
 // What a sample adds to the phase.
-pub fn clock_step(e: f64) -> f64
-    ensures { λ r. ⌜ r ≡ stepOf four e ⌝ }
+pub fn clock_step(setting: SamplesPerPulse, e: f64) -> f64
+    ensures { λ r. ⌜ r ≡ stepOf (perPulse setting) e ⌝ }
 {
-    1.0 / 4.0 * (1.0 + e)
+    1.0 / std::num::nearest_u64_to_f64(setting.number()) * (1.0 + e)
 }
 
 // The clock before the first sample, from a phase in samples.
-pub fn start_clock(phase: f64) -> Clock
-    ensures { λ r. ⌜ r ≡ startClock four phase ⌝ }
+pub fn start_clock(setting: SamplesPerPulse, phase: f64) -> Clock
+    ensures { λ r. ⌜ r ≡ startClock (perPulse setting) phase ⌝ }
 {
     Clock {
-        phase: phase / 4.0,
+        phase: phase / std::num::nearest_u64_to_f64(setting.number()),
         index: 0,
     }
 }

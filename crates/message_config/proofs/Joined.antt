@@ -1,8 +1,8 @@
 -- What each function gives, from its arm or from what its calls give.
 use mathlib.Core.Path.{_≡_, sym, ap, _∙_}
-use lib.IntN.{ℤ}
+use Prim.Native.Nat.{ℕ, _*_}
+use lib.IntN.{ℤ, pos}
 use lib.Ieee.{Float, binary64, ofBits, ofInt, add, sub, mul, div}
-use Rattle.constants.specs.Rate.{four}
 use Rattle.float_narrow.specs.Ceil.{ceilSigned}
 use Rattle.math.specs.Phase.{phaseWrap}
 use Rattle.math.proofs.Literals.{twoPi-is}
@@ -13,7 +13,7 @@ use Rattle.message_config.specs.declared.MessageConfig.{MessageConfig}
 use Rattle.message_config.specs.Timing.{delayOf, unroundedStart, startOf, filterClockError, clockPhase}
 use Rattle.message_config.specs.Carrier.{carrierRate, firstPhase}
 use Rattle.message_config.specs.Config.{configDelay, configStart, configClockError, configClockPhase, configRate, configPhase, onsetOf}
-use Rattle.message_config.proofs.Literals.{one-is, modeACRatio-is, sampleRate-is}
+use Rattle.message_config.proofs.Literals.{one-is, modeACRatio-is}
 
 abbrev oneBits : Float
 oneBits = ofBits binary64 0x3ff0_0000_0000_0000
@@ -54,13 +54,13 @@ pub start-is : (delays : Delays) (c : MessageConfig) (z : ℤ) (delay unrounded 
 unfolding configStart startOf
 start-is delays c z delay unrounded ed eu ez = ez ∙ ap (ceilSigned 63) (eu ∙ ap (λ (x : Float). unroundedStart (c .time) x (c .error)) ed)
 
--- ---- the clock and the carrier
-rate-is : (c : MessageConfig) → div binary64 (mul binary64 (ofBits binary64 0x4019_21fb_5444_2d18) (c .offset)) (ofBits binary64 0x415e_8480_0000_0000) ≡ configRate four c
-unfolding configRate carrierRate
-rate-is c = λ i. div binary64 (mul binary64 (sym twoPi-is i) (c .offset)) (sym sampleRate-is i)
+-- ---- the clock and the carrier, by the samples a second that the code makes a float of
+module _ (sps : ℕ) (delays : Delays) (c : MessageConfig) (delay unrounded : Float) (z : ℤ) (first error : Float) (k : ℕ) (second : Float) (ed : delay ≡ configDelay delays c) (eu : unrounded ≡ unroundedStart (c .time) delay (c .error)) (ez : z ≡ ceilSigned 63 unrounded)
+    (ef : first ≡ ofInt binary64 z) (ee : error ≡ filterClockError (c .reply .kind) (c .error)) (ek : k ≡ sps) (es : second ≡ ofInt binary64 (pos (2000000 * k))) where
+  rate-is : div binary64 (mul binary64 (ofBits binary64 0x4019_21fb_5444_2d18) (c .offset)) second ≡ configRate sps c
+  unfolding configRate carrierRate
+  rate-is = λ i. div binary64 (mul binary64 (sym twoPi-is i) (c .offset)) ((es ∙ ap (λ (n : ℕ). ofInt binary64 (pos (2000000 * n))) ek) i)
 
-module _ (delays : Delays) (c : MessageConfig) (delay unrounded : Float) (z : ℤ) (first error : Float) (ed : delay ≡ configDelay delays c) (eu : unrounded ≡ unroundedStart (c .time) delay (c .error)) (ez : z ≡ ceilSigned 63 unrounded)
-    (ef : first ≡ ofInt binary64 z) (ee : error ≡ filterClockError (c .reply .kind) (c .error)) where
   first-is : first ≡ ofInt binary64 (configStart delays c)
   first-is = ef ∙ ap (ofInt binary64) (start-is delays c z delay unrounded ed eu ez)
 
@@ -72,16 +72,16 @@ module _ (delays : Delays) (c : MessageConfig) (delay unrounded : Float) (z : �
   unfolding configClockPhase clockPhase configStart
   clock-is = λ i. mul binary64 (sub binary64 (first-is i) ((eu ∙ ap (λ (x : Float). unroundedStart (c .time) x (c .error)) ed) i)) (add binary64 (sym one-is i) (error-is i))
 
-  module _ (wrapped : Float) (ew : wrapped ≡ phaseWrap (sub binary64 (c .phase) (mul binary64 (sub binary64 (c .time) first) (div binary64 (mul binary64 (ofBits binary64 0x4019_21fb_5444_2d18) (c .offset)) (ofBits binary64 0x415e_8480_0000_0000))))) where
-    phase-is : wrapped ≡ configPhase four delays c
+  module _ (wrapped : Float) (ew : wrapped ≡ phaseWrap (sub binary64 (c .phase) (mul binary64 (sub binary64 (c .time) first) (div binary64 (mul binary64 (ofBits binary64 0x4019_21fb_5444_2d18) (c .offset)) second)))) where
+    phase-is : wrapped ≡ configPhase sps delays c
     unfolding configPhase firstPhase
-    phase-is = ew ∙ (λ i. phaseWrap (sub binary64 (c .phase) (mul binary64 (sub binary64 (c .time) (first-is i)) (rate-is c i))))
+    phase-is = ew ∙ (λ i. phaseWrap (sub binary64 (c .phase) (mul binary64 (sub binary64 (c .time) (first-is i)) (rate-is i))))
 
     pub onset-is : record {
       «clock_error» = error;
       «clock_phase» = mul binary64 (sub binary64 first unrounded) (add binary64 oneBits error);
-      «carrier_rate» = div binary64 (mul binary64 (ofBits binary64 0x4019_21fb_5444_2d18) (c .offset)) (ofBits binary64 0x415e_8480_0000_0000);
+      «carrier_rate» = div binary64 (mul binary64 (ofBits binary64 0x4019_21fb_5444_2d18) (c .offset)) second;
       «carrier_phase» = wrapped;
-    } ≡ onsetOf four delays c
+    } ≡ onsetOf sps delays c
     unfolding onsetOf
-    onset-is = λ i. record { «clock_error» = error-is i; «clock_phase» = clock-is i; «carrier_rate» = rate-is c i; «carrier_phase» = phase-is i }
+    onset-is = λ i. record { «clock_error» = error-is i; «clock_phase» = clock-is i; «carrier_rate» = rate-is i; «carrier_phase» = phase-is i }

@@ -2,7 +2,6 @@
 use mathlib.Core.Path.{_≡_, refl}
 use lib.IntN.{pos}
 use lib.Ieee.{binary64, ofBits, ofInt, div}
-use Rattle.constants.specs.Rate.{four, sampleRate}
 use Rattle.pulse_shape.specs.GroupDelay.{modeACRatio}
 use Rattle.message_config.specs.Timing.{one}
 
@@ -13,7 +12,3 @@ one-is = refl
 pub modeACRatio-is : modeACRatio ≡ ofBits binary64 0x3ff0_8d3d_cb08_d3dd
 unfolding modeACRatio ofInt ofBits div
 modeACRatio-is = refl
-
-pub sampleRate-is : ofInt binary64 (pos (sampleRate four)) ≡ ofBits binary64 0x415e_8480_0000_0000
-unfolding ofInt ofBits
-sampleRate-is = refl

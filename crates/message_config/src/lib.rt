@@ -1,9 +1,10 @@
 // The configuration of a message, after `MessageConfig` of simulation.rs: when it starts, how its filter's clock runs, and how its carrier rotates.
 // Each function is equal to a definition of specs/ on every input.
 ghost use mathlib.Core.Path.{_≡_};
-ghost use Rattle.constants.specs.Rate.{four};
+ghost use Rattle.constants.specs.Setting.{perPulse};
 ghost use Rattle.message_config.specs.Timing.{delayOf, unroundedStart, filterClockError};
 ghost use Rattle.message_config.specs.Config.{configStart, onsetOf};
+use constants::SamplesPerPulse;
 use message::Reply;
 use message::ReplyKind;
 
@@ -73,20 +74,21 @@ impl MessageConfig {
     }
 
     // How the samples begin.
-    pub fn onset(self, delays: Delays) -> Onset
-        ensures { λ r. ⌜ r ≡ onsetOf four delays self ⌝ }
+    pub fn onset(self, setting: SamplesPerPulse, delays: Delays) -> Onset
+        ensures { λ r. ⌜ r ≡ onsetOf (perPulse setting) delays self ⌝ }
     {
         let reply = self.reply;
         let kind = reply.kind;
         let unrounded = unrounded_start(self.time, group_delay(delays, kind), self.error);
         let first = std::num::nearest_i64_to_f64(float_to_int::ceil_to_i64(unrounded));
         let error = filter_clock_error(kind, self.error);
-        let rate = 6.283185307179586 * self.offset / 8000000.0;
+        let second = std::num::nearest_u64_to_f64(2_000_000 * setting.number());
+        let turn = 6.283185307179586 * self.offset / second;
         Onset {
             clock_error: error,
             clock_phase: (first - unrounded) * (1.0 + error),
-            carrier_rate: rate,
-            carrier_phase: math::phase_wrap_f64(self.phase - (self.time - first) * rate),
+            carrier_rate: turn,
+            carrier_phase: math::phase_wrap_f64(self.phase - (self.time - first) * turn),
         }
     }
 }

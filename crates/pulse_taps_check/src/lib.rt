@@ -1,9 +1,8 @@
 // Checks of taps: equal to their definitions, in specs/ of `pulse_shape`, on every input.
 ghost use mathlib.Core.Path.{_≡_};
-ghost use Rattle.constants.specs.Rate.{four};
+ghost use Rattle.constants.specs.Setting.{perPulse};
 ghost use Rattle.pulse_shape.specs.Accepted.{within16, allWithin16, modeSTapsAccepted, modeACTapsAccepted};
-use constants::MODE_AC_TAPS_LEN;
-use constants::MODE_S_TAPS_LEN;
+use constants::SamplesPerPulse;
 
 fn within_16(x: f32) -> bool
     ensures { λ r. ⌜ r ≡ within16 x ⌝ }
@@ -28,19 +27,21 @@ pub fn all_within_16(values: &[f32]) -> bool
     true
 }
 
-pub fn mode_s_taps_accepted(taps: &[f32]) -> bool
-    ensures { λ r. ⌜ r ≡ modeSTapsAccepted four (now (taps .entry)) ⌝ }
+pub fn mode_s_taps_accepted(setting: SamplesPerPulse, taps: &[f32]) -> bool
+    ensures { λ r. ⌜ r ≡ modeSTapsAccepted (perPulse setting) (now (taps .entry)) ⌝ }
 {
-    if taps.len() == MODE_S_TAPS_LEN {
+    let mode_s_len = setting.mode_s_taps_len();
+    if taps.len() == mode_s_len {
         return all_within_16(taps);
     }
     false
 }
 
-pub fn mode_ac_taps_accepted(taps: &[f32]) -> bool
-    ensures { λ r. ⌜ r ≡ modeACTapsAccepted four (now (taps .entry)) ⌝ }
+pub fn mode_ac_taps_accepted(setting: SamplesPerPulse, taps: &[f32]) -> bool
+    ensures { λ r. ⌜ r ≡ modeACTapsAccepted (perPulse setting) (now (taps .entry)) ⌝ }
 {
-    if taps.len() == MODE_AC_TAPS_LEN {
+    let mode_ac_len = setting.mode_ac_taps_len();
+    if taps.len() == mode_ac_len {
         return all_within_16(taps);
     }
     false

@@ -1,6 +1,6 @@
 -- One step of the loop that writes a wave's values, its beginning and its two ends.
-use Prim.Native.Nat.{ℕ, zero, suc, _+_, _-_, _^_, _<_, _≤_}
-use native.Mathlib.Nat.{mod-eq-of-lt, sub-zero}
+use Prim.Native.Nat.{ℕ, zero, suc, _+_, _-_, _*_, _^_, _<_, _≤_}
+use native.Mathlib.Nat.{mod-eq-of-lt, sub-zero, mul-le-mul}
 use native.Mathlib.Numerals.{add-one}
 use native.Mathlib.Omega.{arith}
 use mathlib.Core.Path.{_≡_, refl, sym, ap, _∙_}
@@ -13,11 +13,18 @@ use lib.Ieee.{Float, binary64, add, le}
 use Rattle.pulse_map.proofs.Marked.{left-suc}
 use Rattle.filterbank.specs.declared.Clock.{Clock}
 use Rattle.filterbank.specs.Clocked.{one, advance, settle, in64}
-use Rattle.filterbank.specs.Apply.{clockValues, limitOf}
+use Rattle.filterbank.specs.Apply.{clockValues, limitOf, fuelOf}
 
 pub limit-some : (n : ℕ) → (n ≡ 0 → ⊥) → n + 6 ≡ limitOf n
 limit-some zero h = absurd (h refl)
 limit-some (suc n) h = refl
+
+-- ---- the fuel of the loop, by the number of samples per pulse
+pub fuel-room : (k limit : ℕ) → k ≤ 8 → limit ≤ 246 → 2 * k * limit ≤ 3936
+fuel-room k limit h g = let a : 2 * k ≤ 16 = omega arith in mul-le-mul a g
+
+pub fuel-is : (sps k limit : ℕ) → k ≡ sps → 2 * k * limit ≡ fuelOf sps limit
+fuel-is sps k limit e = ap (λ (n : ℕ). 2 * n * limit) e
 
 -- an index below the indices of a reply does not wrap
 abbrev clockAt : Float → ℕ → Clock

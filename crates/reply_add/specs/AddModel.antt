@@ -5,7 +5,6 @@ use mathlib.Core.Bool.{Bool, true, false}
 use mathlib.Core.List.{List}
 use lib.ListN.{length}
 use lib.Ieee.{Float}
-use Rattle.constants.specs.Rate.{four}
 use Rattle.message.specs.declared.ReplyKind.{ReplyKind}
 use Rattle.message.specs.declared.ReplyKind.the-variants.{Short, Long, ModeAc}
 use Rattle.message_config.specs.declared.Delays.{Delays}
@@ -27,28 +26,28 @@ isModeAC Long = false
 isModeAC ModeAc = true
 
 -- the filterbank's value at a clock, over padded pulses
-unfoldable pub paddedValue : List Float → List Bool → Clock → Float
-paddedValue prototype padded clock = paddedSum (filterTaps four prototype (clock .phase)) padded (clock .index)
+unfoldable pub paddedValue : ℕ → List Float → List Bool → Clock → Float
+paddedValue sps prototype padded clock = paddedSum (filterTaps sps prototype (clock .phase)) padded (clock .index)
 
 -- the filterbank's values from a clock on, over padded pulses
-abbrev pub paddedValues : List Float → List Bool → ℕ → Float → Clock → List Float
-paddedValues prototype padded limit step first = clockValues (fuelOf four limit) limit step (paddedValue prototype padded) first
+abbrev pub paddedValues : ℕ → List Float → List Bool → ℕ → Float → Clock → List Float
+paddedValues sps prototype padded limit step first = clockValues (fuelOf sps limit) limit step (paddedValue sps prototype padded) first
 
 -- the wave of a message whose reply has n positions
-unfoldable pub waveOf : MessageConfig → Float → Delays → ℕ → Wave
-waveOf c amplitude delays len =
+unfoldable pub waveOf : ℕ → MessageConfig → Float → Delays → ℕ → Wave
+waveOf sps c amplitude delays len =
     record {
-      clock = startClock four (configClockPhase delays c);
-      step = stepOf four (configClockError c);
-      phase = configPhase four delays c;
-      rate = configRate four c;
+      clock = startClock sps (configClockPhase delays c);
+      step = stepOf sps (configClockError c);
+      phase = configPhase sps delays c;
+      rate = configRate sps c;
       amplitude = amplitude;
       limit = limitOf len;
     }
 
-unfoldable pub waveSamples : List Float → List Bool → Wave → List Sample
-waveSamples prototype padded w = rotated (w .amplitude) (w .rate) (w .phase) (paddedValues prototype padded (w .limit) (w .step) (w .clock))
+unfoldable pub waveSamples : ℕ → List Float → List Bool → Wave → List Sample
+waveSamples sps prototype padded w = rotated (w .amplitude) (w .rate) (w .phase) (paddedValues sps prototype padded (w .limit) (w .step) (w .clock))
 
 -- samples added into memory from a slot on, and their number answered
-abbrev pub Adds : List Float → ℕ → List Sample → List Float → ℕ → Type 0
-Adds m slot zs m′ r = (m′ ≡ addedReply four m slot zs) × (r ≡ addedCount four m slot (length zs))
+abbrev pub Adds : ℕ → List Float → ℕ → List Sample → List Float → ℕ → Type 0
+Adds sps m slot zs m′ r = (m′ ≡ addedReply sps m slot zs) × (r ≡ addedCount sps m slot (length zs))

@@ -3,11 +3,12 @@
 ghost use mathlib.Core.Path.{_≡_};
 ghost use Prim.Native.Nat.{_≤_};
 ghost use lib.ListN.{length, take};
-ghost use Rattle.constants.specs.Rate.{four};
+ghost use Rattle.constants.specs.Setting.{perPulse};
 ghost use Rattle.filterbank.specs.Apply.{limitOf};
 ghost use Rattle.reply_samples.specs.Samples.{samplesBy, replyCount, replySamples};
 ghost use Rattle.reply_samples.specs.RingModel.{addedReply, addedCount};
 ghost use Rattle.reply_add.specs.AddModel.{isModeAC, paddedValue, paddedValues, waveOf, waveSamples, Adds};
+use constants::SamplesPerPulse;
 use filterbank::Clock;
 use message::ReplyKind;
 use message_config::Delays;
@@ -22,11 +23,11 @@ fn limit_of(len: usize) -> usize
 }
 
 // The filterbank's value at a clock.
-fn value_at(prototype: &[f32], padded: &[bool; 252], clock: Clock) -> f32
-    ensures { λ r. ⌜ r ≡ paddedValue (now (prototype .entry)) (now (padded .entry)) clock ⌝ }
+fn value_at(setting: SamplesPerPulse, prototype: &[f32], padded: &[bool; 252], clock: Clock) -> f32
+    ensures { λ r. ⌜ r ≡ paddedValue (perPulse setting) (now (prototype .entry)) (now (padded .entry)) clock ⌝ }
 {
     filterbank_apply::pulse_sum(
-        filterbank::filter_taps(prototype, clock.phase),
+        filterbank::filter_taps(setting, prototype, clock.phase),
         padded,
         clock.index,
     )
@@ -42,14 +43,20 @@ struct Wave {
     pub limit: usize,
 }
 
-fn wave_of(c: MessageConfig, amplitude: f32, delays: Delays, len: usize) -> Wave
+fn wave_of(
+    setting: SamplesPerPulse,
+    c: MessageConfig,
+    amplitude: f32,
+    delays: Delays,
+    len: usize,
+) -> Wave
     requires { ⌜ len ≤ 240 ⌝ }
-    ensures { λ r. ⌜ (r ≡ waveOf c amplitude delays len) × (r .limit ≤ 246) ⌝ }
+    ensures { λ r. ⌜ (r ≡ waveOf (perPulse setting) c amplitude delays len) × (r .limit ≤ 246) ⌝ }
 {
-    let o = c.onset(delays);
+    let o = c.onset(setting, delays);
     Wave {
-        clock: filterbank_apply::start_clock(o.clock_phase),
-        step: filterbank_apply::clock_step(o.clock_error),
+        clock: filterbank_apply::start_clock(setting, o.clock_phase),
+        step: filterbank_apply::clock_step(setting, o.clock_error),
         phase: o.carrier_phase,
         rate: o.carrier_rate,
         amplitude: amplitude,
@@ -59,6 +66,7 @@ fn wave_of(c: MessageConfig, amplitude: f32, delays: Delays, len: usize) -> Wave
 
 // Writes the filterbank's values from a clock on, up to a limit of indices, and answers how many they are.
 fn fill_values(
+    setting: SamplesPerPulse,
     prototype: &[f32],
     padded: &[bool; 252],
     first: Clock,
@@ -66,17 +74,17 @@ fn fill_values(
     limit: usize,
     values: &mut [f32],
 ) -> usize
-    requires { ⌜ (length (now values) ≡ 1968) × (limit ≤ 246) ⌝ }
-    ensures { λ r. ⌜ (take r (now (values .exit)) ≡ paddedValues (now (prototype .entry)) (now (padded .entry)) limit step first) × (r ≤ 1968) × (length (now (values .exit)) ≡ 1968) ⌝ }
+    requires { ⌜ (length (now values) ≡ 3936) × (limit ≤ 246) ⌝ }
+    ensures { λ r. ⌜ (take r (now (values .exit)) ≡ paddedValues (perPulse setting) (now (prototype .entry)) (now (padded .entry)) limit step first) × (r ≤ 3936) × (length (now (values .exit)) ≡ 3936) ⌝ }
 {
-    let fuel = 8 * limit;
+    let fuel = 2 * setting.number() as usize * limit;
     let mut clock = first;
     let mut n: usize = 0;
     while n < fuel {
         if clock.index >= limit {
             return n;
         }
-        values[n] = value_at(prototype, padded, clock);
+        values[n] = value_at(setting, prototype, padded, clock);
         clock = filterbank_apply::advance(clock, step);
         n = n + 1;
     }
@@ -85,6 +93,7 @@ fn fill_values(
 
 // Adds the samples of a wave from a slot on, and answers how many they are. The values come first, in a loop of their own: the processor works on more samples at once than where each one's value and sine wait for each other.
 fn add_wave(
+    setting: SamplesPerPulse,
     prototype: &[f32],
     padded: &[bool; 252],
     w: Wave,
@@ -92,15 +101,32 @@ fn add_wave(
     slot: usize,
 ) -> u16
     requires { ⌜ w .limit ≤ 246 ⌝ }
-    ensures { λ r. ⌜ Adds (now (memory .entry)) slot (waveSamples (now (prototype .entry)) (now (padded .entry)) w) (now (memory .exit)) r ⌝ }
+    ensures { λ r. ⌜ Adds (perPulse setting) (now (memory .entry)) slot (waveSamples (perPulse setting) (now (prototype .entry)) (now (padded .entry)) w) (now (memory .exit)) r ⌝ }
 {
-    let mut values = [0.0; 1968];
-    let count = fill_values(prototype, padded, w.clock, w.step, w.limit, &mut values);
-    reply_samples::add_rotated(&values[..count], w.amplitude, w.rate, w.phase, memory, slot) as u16
+    let mut values = [0.0; 3936];
+    let count = fill_values(
+        setting,
+        prototype,
+        padded,
+        w.clock,
+        w.step,
+        w.limit,
+        &mut values,
+    );
+    reply_samples::add_rotated(
+        setting,
+        &values[..count],
+        w.amplitude,
+        w.rate,
+        w.phase,
+        memory,
+        slot,
+    ) as u16
 }
 
 // Adds the samples of a reply by a prototype.
 fn add_by(
+    setting: SamplesPerPulse,
     prototype: &[f32],
     c: MessageConfig,
     amplitude: f32,
@@ -108,14 +134,14 @@ fn add_by(
     memory: &mut [f32],
     slot: usize,
 ) -> u16
-    ensures { λ r. ⌜ Adds (now (memory .entry)) slot (samplesBy four (now (prototype .entry)) delays amplitude c) (now (memory .exit)) r ⌝ }
+    ensures { λ r. ⌜ Adds (perPulse setting) (now (memory .entry)) slot (samplesBy (perPulse setting) (now (prototype .entry)) delays amplitude c) (now (memory .exit)) r ⌝ }
 {
     let reply = c.reply;
     let p = reply_pulses::message_to_pulses(reply);
     let on = p.on;
     let padded = filterbank_apply::pad_pulses(on, p.len);
-    let w = wave_of(c, amplitude, delays, p.len);
-    add_wave(prototype, &padded, w, memory, slot)
+    let w = wave_of(setting, c, amplitude, delays, p.len);
+    add_wave(setting, prototype, &padded, w, memory, slot)
 }
 
 fn is_mode_ac(kind: ReplyKind) -> bool
@@ -130,6 +156,7 @@ fn is_mode_ac(kind: ReplyKind) -> bool
 
 // Adds the samples of a reply into working memory from a slot on, by the prototype of its kind, and answers how many they are.
 pub fn add_reply(
+    setting: SamplesPerPulse,
     mode_s: &[f32],
     mode_ac: &[f32],
     c: MessageConfig,
@@ -138,12 +165,12 @@ pub fn add_reply(
     memory: &mut [f32],
     slot: usize,
 ) -> u16
-    ensures { λ r. ⌜ (now (memory .exit) ≡ addedReply four (now (memory .entry)) slot (replySamples four (now («mode_s» .entry)) (now («mode_ac» .entry)) delays amplitude c)) × (r ≡ addedCount four (now (memory .entry)) slot (replyCount four delays c)) ⌝ }
+    ensures { λ r. ⌜ (now (memory .exit) ≡ addedReply (perPulse setting) (now (memory .entry)) slot (replySamples (perPulse setting) (now («mode_s» .entry)) (now («mode_ac» .entry)) delays amplitude c)) × (r ≡ addedCount (perPulse setting) (now (memory .entry)) slot (replyCount (perPulse setting) delays c)) ⌝ }
 {
     let reply = c.reply;
     let kind = reply.kind;
     if is_mode_ac(kind) {
-        return add_by(mode_ac, c, amplitude, delays, memory, slot);
+        return add_by(setting, mode_ac, c, amplitude, delays, memory, slot);
     }
-    add_by(mode_s, c, amplitude, delays, memory, slot)
+    add_by(setting, mode_s, c, amplitude, delays, memory, slot)
 }

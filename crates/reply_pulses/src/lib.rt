@@ -2,8 +2,9 @@
 // Each function is equal to a definition of specs/ on every input.
 ghost use mathlib.Core.Path.{_≡_};
 ghost use Prim.Native.Nat.{_<_};
-ghost use Rattle.constants.specs.Rate.{four};
+ghost use Rattle.constants.specs.Setting.{perPulse};
 ghost use Rattle.reply_pulses.specs.ReplyPulses.{dataOf, spiOf, pulsesOf, numSamplesOf};
+use constants::SamplesPerPulse;
 use message::Reply;
 use message::ReplyKind;
 use pulse_map::Pulses;
@@ -40,14 +41,14 @@ pub fn message_to_pulses(r: Reply) -> Pulses
 }
 
 // The samples that a reply lasts at the nominal clock rate.
-pub fn message_num_samples(r: Reply) -> usize
-    ensures { λ n. ⌜ n ≡ numSamplesOf four r ⌝ }
+pub fn message_num_samples(setting: SamplesPerPulse, r: Reply) -> usize
+    ensures { λ n. ⌜ n ≡ numSamplesOf (perPulse setting) r ⌝ }
 {
     let b = r.bytes;
     let kind = r.kind;
     match kind {
-        ReplyKind::Short => pulse_length::mode_s_num_samples(false),
-        ReplyKind::Long => pulse_length::mode_s_num_samples(true),
-        ReplyKind::ModeAc => pulse_length::mode_ac_num_samples(mode_ac_spi(b)),
+        ReplyKind::Short => pulse_length::mode_s_num_samples(setting, false),
+        ReplyKind::Long => pulse_length::mode_s_num_samples(setting, true),
+        ReplyKind::ModeAc => pulse_length::mode_ac_num_samples(setting, mode_ac_spi(b)),
     }
 }

@@ -1,5 +1,5 @@
 -- One step of the loop that adds values rotated by the carrier, and its end; what the functions that it calls give; and what is no slot.
-use Prim.Native.Nat.{ℕ, suc, _+_, _*_, _<_, _≤_}
+use Prim.Native.Nat.{ℕ, suc, _+_, _-_, _*_, _<_, _≤_}
 use native.Mathlib.Numerals.{add-one}
 use native.Mathlib.Omega.{arith}
 use mathlib.Core.Path.{_≡_, refl, sym, ap, _∙_}
@@ -10,23 +10,23 @@ use lib.Dec.{ltb}
 use lib.ListN.{length, getD, set, drop, length-set, length-drop}
 use lib.Seq.{getD-set-other, drop-cons}
 use lib.Ieee.{Float, nan, binary32, binary64, add, mul}
-use Rattle.constants.specs.Rate.{four}
+use Rattle.constants.specs.Rate.{workingMemory}
 use Rattle.float_narrow.specs.Narrow.{narrow}
 use Rattle.math.specs.declared.SinCos.{SinCos}
 use Rattle.math.specs.Phase.{phaseWrapOnce}
 use Rattle.math.specs.Carrier.{sinCos}
 use Rattle.reply_samples.specs.declared.Sample.{Sample}
 use Rattle.reply_samples.specs.Samples.{sampleAt, rotated}
-use Rattle.reply_samples.specs.RingModel.{addedAt, nextSlot, addedFrom, isSlot, addedReply, addedCount}
+use Rattle.reply_samples.specs.RingModel.{ringSlots, addedAt, nextSlot, addedFrom, isSlot, addedReply, addedCount}
 
 -- ---- the functions that the loop calls
-pub next-on : (p : ℕ) → p < 1125 → p + 1 ≡ nextSlot four p
+pub next-on : (sps p : ℕ) → p < ringSlots sps - 1 → p + 1 ≡ nextSlot sps p
 unfolding nextSlot
-next-on p h = sym (ap (λ (t : Bool). cond t (p + 1) 0) (lt-ltb p 1125 h))
+next-on sps p h = sym (ap (λ (t : Bool). cond t (p + 1) 0) (lt-ltb p (ringSlots sps - 1) h))
 
-pub next-first : (p : ℕ) → 1125 ≤ p → 0 ≡ nextSlot four p
+pub next-first : (sps p : ℕ) → ringSlots sps - 1 ≤ p → 0 ≡ nextSlot sps p
 unfolding nextSlot
-next-first p h = sym (ap (λ (t : Bool). cond t (p + 1) 0) (le-ltb p 1125 h))
+next-first sps p h = sym (ap (λ (t : Bool). cond t (p + 1) 0) (le-ltb p (ringSlots sps - 1) h))
 
 abbrev sampleOf : Float → Float → Sample
 sampleOf a b = record { re = a; im = b }
@@ -52,22 +52,22 @@ unfolding addedAt
 added-length m p z = simp length-set
 
 -- ---- the loop over the values
-module _ (amplitude rate : Float) where
+module _ (sps : ℕ) (amplitude rate : Float) where
   -- memory after the samples of the values from one on
   abbrev pub addedRest : List Float → ℕ → List Float → ℕ → Float → List Float
-  addedRest values i memory at phase = addedFrom four memory at (rotated amplitude rate phase (drop i values))
+  addedRest values i memory at phase = addedFrom sps memory at (rotated amplitude rate phase (drop i values))
 
   pub step-next : (l : List Float) (i : ℕ) (m m′ : List Float) (at at′ : ℕ) (phase phase′ x : Float) (z : Sample) (whole : List Float) → i < length l
-      → x ≡ getD l i nan → z ≡ sampleAt amplitude x phase → m′ ≡ addedAt m at z → phase′ ≡ phaseWrapOnce (add binary64 phase rate) → at′ ≡ nextSlot four at
+      → x ≡ getD l i nan → z ≡ sampleAt amplitude x phase → m′ ≡ addedAt m at z → phase′ ≡ phaseWrapOnce (add binary64 phase rate) → at′ ≡ nextSlot sps at
       → addedRest l i m at phase ≡ whole → addedRest l (i + 1) m′ at′ phase′ ≡ whole
   unfolding addedFrom rotated
   step-next l i m m′ at at′ phase phase′ x z whole h ex ez em ep ea inv =
-      rw (em, ez, ex, ep, ea) (ap (λ (k : ℕ). addedRest l k (addedAt m at (sampleAt amplitude (getD l i nan) phase)) (nextSlot four at) (phaseWrapOnce (add binary64 phase rate))) (add-one i)
-      ∙ ap (λ (k : List Float). addedFrom four m at (rotated amplitude rate phase k)) (sym (drop-cons l i nan h)) ∙ inv)
+      rw (em, ez, ex, ep, ea) (ap (λ (k : ℕ). addedRest l k (addedAt m at (sampleAt amplitude (getD l i nan) phase)) (nextSlot sps at) (phaseWrapOnce (add binary64 phase rate))) (add-one i)
+      ∙ ap (λ (k : List Float). addedFrom sps m at (rotated amplitude rate phase k)) (sym (drop-cons l i nan h)) ∙ inv)
 
   pub step-end : (l : List Float) (i : ℕ) (m : List Float) (at : ℕ) (phase : Float) (whole : List Float) → length l ≤ i → addedRest l i m at phase ≡ whole → m ≡ whole
   unfolding addedFrom rotated
-  step-end l i m at phase whole h inv = ap (λ (k : List Float). addedFrom four m at (rotated amplitude rate phase k)) (sym (drop-past l i h)) ∙ inv
+  step-end l i m at phase whole h inv = ap (λ (k : List Float). addedFrom sps m at (rotated amplitude rate phase k)) (sym (drop-past l i h)) ∙ inv
     where
       drop-past : (l : List Float) (i : ℕ) → length l ≤ i → drop i l ≡ []
       drop-past l i h = gone (drop i l) (omega (arith, length-drop i l))
@@ -77,31 +77,31 @@ module _ (amplitude rate : Float) where
           gone (x ∷ k) h = absurd (omega arith)
 
 -- ---- at what is no slot
-pub other-length : (m : List Float) (slot : ℕ) → (length m ≡ 2252 → ⊥) → isSlot four m slot ≡ false
+pub other-length : (sps : ℕ) (m : List Float) (slot : ℕ) → (length m ≡ workingMemory sps → ⊥) → isSlot sps m slot ≡ false
 unfolding isSlot
-other-length m slot h = ap (λ (t : Bool). t && ltb slot 1126) (ne-eqb (length m) 2252 h)
+other-length sps m slot h = ap (λ (t : Bool). t && ltb slot (ringSlots sps)) (ne-eqb (length m) (workingMemory sps) h)
 
-pub other-slot : (m : List Float) (slot : ℕ) → length m ≡ 2252 → 1126 ≤ slot → isSlot four m slot ≡ false
+pub other-slot : (sps : ℕ) (m : List Float) (slot : ℕ) → length m ≡ workingMemory sps → ringSlots sps ≤ slot → isSlot sps m slot ≡ false
 unfolding isSlot
-other-slot m slot e h = ap (λ (t : Bool). t && ltb slot 1126) (eq-eqb (length m) 2252 e) ∙ le-ltb slot 1126 h
+other-slot sps m slot e h = ap (λ (t : Bool). t && ltb slot (ringSlots sps)) (eq-eqb (length m) (workingMemory sps) e) ∙ le-ltb slot (ringSlots sps) h
 
-a-slot : (m : List Float) (slot : ℕ) → length m ≡ 2252 → slot < 1126 → isSlot four m slot ≡ true
+a-slot : (sps : ℕ) (m : List Float) (slot : ℕ) → length m ≡ workingMemory sps → slot < ringSlots sps → isSlot sps m slot ≡ true
 unfolding isSlot
-a-slot m slot e h = ap (λ (t : Bool). t && ltb slot 1126) (eq-eqb (length m) 2252 e) ∙ lt-ltb slot 1126 h
+a-slot sps m slot e h = ap (λ (t : Bool). t && ltb slot (ringSlots sps)) (eq-eqb (length m) (workingMemory sps) e) ∙ lt-ltb slot (ringSlots sps) h
 
-pub kept : (m : List Float) (slot : ℕ) (zs : List Sample) → isSlot four m slot ≡ false → m ≡ addedReply four m slot zs
+pub kept : (sps : ℕ) (m : List Float) (slot : ℕ) (zs : List Sample) → isSlot sps m slot ≡ false → m ≡ addedReply sps m slot zs
 unfolding addedReply
-kept m slot zs e = sym (ap (λ (t : Bool). cond t (addedFrom four m slot zs) m) e)
+kept sps m slot zs e = sym (ap (λ (t : Bool). cond t (addedFrom sps m slot zs) m) e)
 
-pub none : (m : List Float) (slot n : ℕ) → isSlot four m slot ≡ false → 0 ≡ addedCount four m slot n
+pub none : (sps : ℕ) (m : List Float) (slot n : ℕ) → isSlot sps m slot ≡ false → 0 ≡ addedCount sps m slot n
 unfolding addedCount
-none m slot n e = sym (ap (λ (t : Bool). cond t n 0) e)
+none sps m slot n e = sym (ap (λ (t : Bool). cond t n 0) e)
 
 -- ---- at a slot
-pub added-here : (m m′ : List Float) (slot : ℕ) (zs : List Sample) → length m ≡ 2252 → slot < 1126 → m′ ≡ addedFrom four m slot zs → m′ ≡ addedReply four m slot zs
+pub added-here : (sps : ℕ) (m m′ : List Float) (slot : ℕ) (zs : List Sample) → length m ≡ workingMemory sps → slot < ringSlots sps → m′ ≡ addedFrom sps m slot zs → m′ ≡ addedReply sps m slot zs
 unfolding addedReply
-added-here m m′ slot zs l h e = e ∙ sym (ap (λ (t : Bool). cond t (addedFrom four m slot zs) m) (a-slot m slot l h))
+added-here sps m m′ slot zs l h e = e ∙ sym (ap (λ (t : Bool). cond t (addedFrom sps m slot zs) m) (a-slot sps m slot l h))
 
-pub counted-here : (m : List Float) (slot n : ℕ) → length m ≡ 2252 → slot < 1126 → n ≡ addedCount four m slot n
+pub counted-here : (sps : ℕ) (m : List Float) (slot n : ℕ) → length m ≡ workingMemory sps → slot < ringSlots sps → n ≡ addedCount sps m slot n
 unfolding addedCount
-counted-here m slot n l h = sym (ap (λ (t : Bool). cond t n 0) (a-slot m slot l h))
+counted-here sps m slot n l h = sym (ap (λ (t : Bool). cond t n 0) (a-slot sps m slot l h))

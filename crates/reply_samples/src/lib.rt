@@ -1,15 +1,14 @@
 // A reply's samples, after `MessageConfig::samples` of simulation.rs: the filterbank's values rotated by the carrier, and their addition into working memory that is used as a ring.
 // The public function is equal to definitions of specs/ on every input; what it is made of has what it asks tested before.
 ghost use mathlib.Core.Path.{_≡_};
-ghost use Prim.Native.Nat.{_≤_, _<_};
+ghost use Prim.Native.Nat.{_≤_, _<_, _+_, _*_};
 ghost use lib.ListN.{length, getD, set};
 ghost use lib.Ieee.{binary32, nan, add};
-ghost use Rattle.constants.specs.Rate.{four};
+ghost use Rattle.constants.specs.Setting.{perPulse};
+ghost use Rattle.constants.specs.Rate.{workingMemory};
 ghost use Rattle.reply_samples.specs.Samples.{sampleAt, rotated};
-ghost use Rattle.reply_samples.specs.RingModel.{addedAt, nextSlot, addedFrom, addedReply, addedCount};
-use constants::LAST_SLOT;
-use constants::MEMORY_LEN;
-use constants::RING_SLOTS;
+ghost use Rattle.reply_samples.specs.RingModel.{ringSlots, addedAt, nextSlot, addedFrom, addedReply, addedCount};
+use constants::SamplesPerPulse;
 
 // A complex sample.
 pub struct Sample {
@@ -39,8 +38,8 @@ fn add_to(memory: &mut [f32], i: usize, x: f32)
 
 // Adds a sample at a slot of the memory.
 fn add_at(memory: &mut [f32], slot: usize, z: Sample)
-    requires { ⌜ (length (now memory) ≡ 2252) × (slot < 1126) ⌝ }
-    ensures { λ r. ⌜ (now (memory .exit) ≡ addedAt (now (memory .entry)) slot z) × (length (now (memory .exit)) ≡ 2252) ⌝ }
+    requires { ⌜ 2 * slot + 1 < length (now memory) ⌝ }
+    ensures { λ r. ⌜ (now (memory .exit) ≡ addedAt (now (memory .entry)) slot z) × (length (now (memory .exit)) ≡ length (now (memory .entry))) ⌝ }
 {
     let i = 2 * slot;
     add_to(memory, i, z.re);
@@ -48,19 +47,27 @@ fn add_at(memory: &mut [f32], slot: usize, z: Sample)
 }
 
 // The slot after a slot of the ring.
-fn next_slot(slot: usize) -> usize
-    ensures { λ r. ⌜ (r ≡ nextSlot four slot) × (r < 1126) ⌝ }
+fn next_slot(setting: SamplesPerPulse, slot: usize) -> usize
+    ensures { λ r. ⌜ (r ≡ nextSlot (perPulse setting) slot) × (r < ringSlots (perPulse setting)) ⌝ }
 {
-    if slot < LAST_SLOT {
+    if slot < setting.ring_slots() - 1 {
         return slot + 1;
     }
     0
 }
 
 // Adds values, rotated by the carrier, from a slot on.
-fn add_from(values: &[f32], amplitude: f32, rate: f64, first: f64, memory: &mut [f32], slot: usize)
-    requires { ⌜ (length (now memory) ≡ 2252) × (slot < 1126) ⌝ }
-    ensures { λ _. ⌜ now (memory .exit) ≡ addedFrom four (now (memory .entry)) slot (rotated amplitude rate first (now (values .entry))) ⌝ }
+fn add_from(
+    setting: SamplesPerPulse,
+    values: &[f32],
+    amplitude: f32,
+    rate: f64,
+    first: f64,
+    memory: &mut [f32],
+    slot: usize,
+)
+    requires { ⌜ (length (now memory) ≡ workingMemory (perPulse setting)) × (slot < ringSlots (perPulse setting)) ⌝ }
+    ensures { λ _. ⌜ now (memory .exit) ≡ addedFrom (perPulse setting) (now (memory .entry)) slot (rotated amplitude rate first (now (values .entry))) ⌝ }
 {
     let count = values.len();
     let mut phase = first;
@@ -71,13 +78,14 @@ fn add_from(values: &[f32], amplitude: f32, rate: f64, first: f64, memory: &mut 
         let z = sample_at(amplitude, values[i], phase);
         add_at(memory, at, z);
         phase = next;
-        at = next_slot(at);
+        at = next_slot(setting, at);
         i = i + 1;
     }
 }
 
 // Adds values of the filterbank, times the amplitude and rotated by the carrier, into working memory from a slot on, and answers how many they are.
 pub fn add_rotated(
+    setting: SamplesPerPulse,
     values: &[f32],
     amplitude: f32,
     rate: f64,
@@ -85,14 +93,14 @@ pub fn add_rotated(
     memory: &mut [f32],
     slot: usize,
 ) -> usize
-    ensures { λ r. ⌜ (now (memory .exit) ≡ addedReply four (now (memory .entry)) slot (rotated amplitude rate phase (now (values .entry)))) × (r ≡ addedCount four (now (memory .entry)) slot (length (now (values .entry)))) × (r ≤ length (now (values .entry))) ⌝ }
+    ensures { λ r. ⌜ (now (memory .exit) ≡ addedReply (perPulse setting) (now (memory .entry)) slot (rotated amplitude rate phase (now (values .entry)))) × (r ≡ addedCount (perPulse setting) (now (memory .entry)) slot (length (now (values .entry)))) × (r ≤ length (now (values .entry))) ⌝ }
 {
-    if memory.len() != MEMORY_LEN {
+    if memory.len() != setting.memory_len() {
         return 0;
     }
-    if slot >= RING_SLOTS {
+    if slot >= setting.ring_slots() {
         return 0;
     }
-    add_from(values, amplitude, rate, phase, memory, slot);
+    add_from(setting, values, amplitude, rate, phase, memory, slot);
     values.len()
 }

@@ -5,6 +5,7 @@ ghost use Rattle.constants.specs.Rate.{four};
 ghost use Rattle.reply_samples.specs.RingModel.{ringSlots};
 ghost use Rattle.run_add_reply.specs.RecordedModel.{memoryWith, countWith, recordsWith};
 use constants::RING_SLOTS_U64;
+use constants::SamplesPerPulse;
 use message_config::Delays;
 use message_config::MessageConfig;
 
@@ -32,7 +33,16 @@ pub fn add(
     let kind = draw::byte_at(rest, 8);
     let amplitude = le_read_floats::f32_at(rest, 17);
     let c = draw_config::completed(pending, kind, draw_fields::picks(rest));
-    let count = reply_add::add_reply(mode_s, mode_ac, c, amplitude, delays, memory, ring(first));
+    let count = reply_add::add_reply(
+        SamplesPerPulse::Four,
+        mode_s,
+        mode_ac,
+        c,
+        amplitude,
+        delays,
+        memory,
+        ring(first),
+    );
     reply_record::put(records, at, c, first, kind, count);
     count
 }

@@ -5,6 +5,7 @@ ghost use Rattle.pulse_shape.specs.Prototype.{modeSPrototype, modeACPrototype};
 ghost use Rattle.run_open_checks.specs.Opening.{buffersFit, modeSDelay, modeACDelay, firstState, delaysThen, tapsOf, openedFor, preparedOf};
 use constants::MEMORY_LEN;
 use constants::PROTOTYPE_LEN;
+use constants::SamplesPerPulse;
 use message_config::Delays;
 use pulse_shape::Crossing;
 use refusals::Refusal;
@@ -124,10 +125,10 @@ fn check_taps(
     requires { ⌜ (now «proto_s» ≡ modeSPrototype four (now «taps_s»)) × (now «proto_ac» ≡ modeACPrototype four (now «taps_ac»)) ⌝ }
     ensures { λ r. ⌜ r ≡ tapsOf four level (now («taps_s» .entry)) (now («taps_ac» .entry)) rates total all ⌝ }
 {
-    if !pulse_taps_check::mode_s_taps_accepted(taps_s) {
+    if !pulse_taps_check::mode_s_taps_accepted(SamplesPerPulse::Four, taps_s) {
         return Opened::Refused(Refusal::Taps);
     }
-    if !pulse_taps_check::mode_ac_taps_accepted(taps_ac) {
+    if !pulse_taps_check::mode_ac_taps_accepted(SamplesPerPulse::Four, taps_ac) {
         return Opened::Refused(Refusal::Taps);
     }
     let delay_s = mode_s_delay(level, proto_s);

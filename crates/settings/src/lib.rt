@@ -4,6 +4,7 @@ ghost use Prim.Native.Nat.{_≤_};
 ghost use Rattle.settings.specs.Settings.{settingsLength, ratesAt, rawDistributionAt, settingsOf, rateOf, ratesOf};
 ghost use Rattle.constants.specs.Rate.{four};
 ghost use Rattle.settings.specs.Accepted.{firstBadRate, totalOf, totalFits, distributionsOf, ratesThen, valuesOf, levelInRange, levelThen, acceptedOf};
+use constants::SamplesPerPulse;
 use distributions::CarrierOffset;
 use distributions::CarrierPhase;
 use distributions::ClockAnswer;
@@ -212,8 +213,11 @@ fn check_rates(n: u64, s: Settings) -> Checked
 fn check_values(s: Settings) -> Checked
     ensures { λ r. ⌜ r ≡ valuesOf four s ⌝ }
 {
-    let InSamples::Samples(n) = settings_duration::duration_as_samples(s.seconds, s.nanoseconds)
-    else {
+    let InSamples::Samples(n) = settings_duration::duration_as_samples(
+        SamplesPerPulse::Four,
+        s.seconds,
+        s.nanoseconds,
+    ) else {
         return Checked::Refused(Refusal::Duration);
     };
     check_rates(n, s)

@@ -1,1 +1,2 @@
-pub mod SamplesAtFour
+pub mod SamplesAtSettings
+pub mod Answers

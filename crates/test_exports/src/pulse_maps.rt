@@ -7,6 +7,7 @@ ghost use Rattle.pulse_length.specs.Length.{modeSNumSamples, modeACNumSamples};
 ghost use Rattle.settings_duration.specs.Duration.{answerOf, durationOf};
 ghost use Rattle.test_exports.specs.Pulses.{samplesNumber};
 use constants::MAX_POSITIONS;
+use constants::SamplesPerPulse;
 use settings_duration::InSamples;
 
 // How many positions there are; where pulses stand goes to `on`, and the length in samples to `samples`.
@@ -23,7 +24,7 @@ pub extern "C" fn port_mode_s_pulses(
     let pulses = pulse_map::mode_s_pulses(bytes, long);
     let positions = pulses.on;
     *on = positions;
-    *samples = pulse_length::mode_s_num_samples(long);
+    *samples = pulse_length::mode_s_num_samples(SamplesPerPulse::Four, long);
     pulses.len
 }
 
@@ -39,7 +40,7 @@ pub extern "C" fn port_mode_ac_pulses(
     let pulses = pulse_map::mode_ac_pulses(data, spi);
     let positions = pulses.on;
     *on = positions;
-    *samples = pulse_length::mode_ac_num_samples(spi);
+    *samples = pulse_length::mode_ac_num_samples(SamplesPerPulse::Four, spi);
     pulses.len
 }
 
@@ -47,7 +48,7 @@ pub extern "C" fn port_mode_ac_pulses(
 pub extern "C" fn port_reply_limit() -> u64
     ensures { λ r. ⌜ r ≡ replyLimit four ⌝ }
 {
-    pulse_length::reply_limit()
+    pulse_length::reply_limit(SamplesPerPulse::Four)
 }
 
 fn samples_number(answer: InSamples) -> u64
@@ -64,5 +65,9 @@ fn samples_number(answer: InSamples) -> u64
 pub extern "C" fn port_duration_as_samples(seconds: u64, nanoseconds: u32) -> u64
     ensures { λ r. ⌜ r ≡ samplesNumber (durationOf four seconds nanoseconds) ⌝ }
 {
-    samples_number(settings_duration::duration_as_samples(seconds, nanoseconds))
+    samples_number(settings_duration::duration_as_samples(
+        SamplesPerPulse::Four,
+        seconds,
+        nanoseconds,
+    ))
 }

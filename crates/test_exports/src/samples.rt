@@ -4,6 +4,7 @@ ghost use Rattle.constants.specs.Rate.{four};
 ghost use Rattle.reply_samples.specs.Samples.{replySamples, replyCount};
 ghost use Rattle.reply_samples.specs.RingModel.{addedReply, addedCount};
 ghost use Rattle.test_exports.specs.Samples.{kindNumbered, configAt};
+use constants::SamplesPerPulse;
 use message::Reply;
 use message::ReplyKind;
 use message_config::Delays;
@@ -70,5 +71,14 @@ pub extern "C" fn port_add_reply(
         mode_s: delay_s,
         mode_ac: delay_ac,
     };
-    reply_add::add_reply(mode_s, mode_ac, c, amplitude, delays, memory, slot)
+    reply_add::add_reply(
+        SamplesPerPulse::Four,
+        mode_s,
+        mode_ac,
+        c,
+        amplitude,
+        delays,
+        memory,
+        slot,
+    )
 }

@@ -6,6 +6,7 @@ ghost use Rattle.distributions.specs.Accepted.{carrierOffset, carrierPhase, clo
 ghost use Rattle.message_config.specs.Config.{configStart, configClockPhase, configClockError, configRate, configPhase};
 ghost use Rattle.test_exports.specs.Drawn.{rawDistributionOf, offsetDrawn, phaseDrawn, errorDrawn};
 ghost use Rattle.test_exports.specs.Messages.{kindOf, messageAt, delaysAt};
+use constants::SamplesPerPulse;
 use distributions::ClockAnswer;
 use distributions::OffsetAnswer;
 use distributions::PhaseAnswer;
@@ -59,7 +60,7 @@ pub extern "C" fn port_message(
         mode_s: delay_s,
         mode_ac: delay_ac,
     };
-    let o = c.onset(delays);
+    let o = c.onset(SamplesPerPulse::Four, delays);
     let all = [
         o.clock_error,
         o.clock_phase,

@@ -6,13 +6,14 @@ ghost use Rattle.filterbank.specs.Taps.{filterTaps};
 ghost use Rattle.filterbank.specs.PaddedPulsesModel.{padPulses, paddedSum};
 ghost use Rattle.filterbank.specs.Clocked.{stepOf, startClock, advance, in64};
 use constants::MAX_POSITIONS;
+use constants::SamplesPerPulse;
 use filterbank::Clock;
 
 #[no_mangle]
 pub extern "C" fn port_filter_taps(prototype: &[f32], phase: f64, out: &mut [f32; 7])
     ensures { λ _. ⌜ now (out .exit) ≡ filterTaps four (now (prototype .entry)) phase ⌝ }
 {
-    let taps = filterbank::filter_taps(prototype, phase);
+    let taps = filterbank::filter_taps(SamplesPerPulse::Four, prototype, phase);
     *out = taps;
 }
 
@@ -37,7 +38,7 @@ pub extern "C" fn port_pulse_sum(
 pub extern "C" fn port_start_clock(phase: f64, index: &mut usize) -> f64
     ensures { λ r. ⌜ (r ≡ startClock four phase .phase) × (now (index .exit) ≡ startClock four phase .index) ⌝ }
 {
-    let clock = filterbank_apply::start_clock(phase);
+    let clock = filterbank_apply::start_clock(SamplesPerPulse::Four, phase);
     *index = clock.index;
     clock.phase
 }
@@ -53,7 +54,7 @@ pub extern "C" fn port_next_clock(phase: f64, error: f64, index: &mut usize) -> 
             phase: phase,
             index: at,
         },
-        filterbank_apply::clock_step(error),
+        filterbank_apply::clock_step(SamplesPerPulse::Four, error),
     );
     *index = next.index;
     next.phase

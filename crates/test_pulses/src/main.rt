@@ -1,6 +1,7 @@
 // Runs the bench checks of durations, lengths, Mode A/C data and pulses, every Mode A/C map beside a second one written out position by position, and
 // Mode S maps. Its stdout is what the Rust's own functions give (`harness vectors`, differential/).
 ghost use Prim.Native.Nat.{_<_};
+use constants::SamplesPerPulse;
 use libc::STDOUT_FILENO;
 use mode_ac::Built;
 use mode_ac::ModeACReply;
@@ -184,20 +185,28 @@ fn digest_mode_s(long: bool) -> u64 {
 }
 
 fn durations() {
-    say_samples(settings_duration::duration_as_samples(0, 124));
-    say_samples(settings_duration::duration_as_samples(0, 125));
-    say_samples(settings_duration::duration_as_samples(562_949_953, 421_312_124));
-    say_samples(settings_duration::duration_as_samples(562_949_953, 421_312_125));
-    say_samples(settings_duration::duration_as_samples(12_345, 999_999_999));
-    say_samples(settings_duration::duration_as_samples(0, 1_000_000_000));
+    say_samples(settings_duration::duration_as_samples(SamplesPerPulse::Four, 0, 124));
+    say_samples(settings_duration::duration_as_samples(SamplesPerPulse::Four, 0, 125));
+    say_samples(settings_duration::duration_as_samples(
+        SamplesPerPulse::Four,
+        562_949_953,
+        421_312_124,
+    ));
+    say_samples(settings_duration::duration_as_samples(
+        SamplesPerPulse::Four,
+        562_949_953,
+        421_312_125,
+    ));
+    say_samples(settings_duration::duration_as_samples(SamplesPerPulse::Four, 12_345, 999_999_999));
+    say_samples(settings_duration::duration_as_samples(SamplesPerPulse::Four, 0, 1_000_000_000));
 }
 
 fn lengths() {
-    say(pulse_length::reply_limit());
-    say(pulse_length::mode_s_num_samples(true) as u64);
-    say(pulse_length::mode_s_num_samples(false) as u64);
-    say(pulse_length::mode_ac_num_samples(false) as u64);
-    say(pulse_length::mode_ac_num_samples(true) as u64);
+    say(pulse_length::reply_limit(SamplesPerPulse::Four));
+    say(pulse_length::mode_s_num_samples(SamplesPerPulse::Four, true) as u64);
+    say(pulse_length::mode_s_num_samples(SamplesPerPulse::Four, false) as u64);
+    say(pulse_length::mode_ac_num_samples(SamplesPerPulse::Four, false) as u64);
+    say(pulse_length::mode_ac_num_samples(SamplesPerPulse::Four, true) as u64);
 }
 
 fn replies() {

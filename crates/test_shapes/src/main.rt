@@ -1,5 +1,6 @@
 // Prints digests of prototypes, delays, taps and pulse sums of made-up filters. The file `stdout` holds those of the Rust: `harness vectors` (differential/) makes it.
 ghost use Prim.Native.Nat.{_<_, _≤_};
+use constants::SamplesPerPulse;
 use filterbank::Clock;
 use libc::STDOUT_FILENO;
 use pulse_shape::Crossing;
@@ -82,7 +83,7 @@ fn taps_digest(prototype: &[f32]) -> u64 {
     let mut digest: u64 = 0;
     let mut k: u32 = 0;
     while k < 4096 {
-        let taps = filterbank::filter_taps(prototype, k as f64 / 4096.7);
+        let taps = filterbank::filter_taps(SamplesPerPulse::Four, prototype, k as f64 / 4096.7);
         digest = values_digest(&taps, digest);
         k = k + 1;
     }
@@ -91,15 +92,15 @@ fn taps_digest(prototype: &[f32]) -> u64 {
 
 // The values of a reply, at most 1,200.
 fn reply(prototype: &[f32], padded: &[bool; 252], limit: usize, first: f64, e: f64) {
-    let step = filterbank_apply::clock_step(e);
-    let mut clock = filterbank_apply::start_clock(first);
+    let step = filterbank_apply::clock_step(SamplesPerPulse::Four, e);
+    let mut clock = filterbank_apply::start_clock(SamplesPerPulse::Four, first);
     let mut digest: u64 = 0;
     let mut n: u64 = 0;
     while n < 1200 {
         if clock.index >= limit {
             break;
         }
-        let taps = filterbank::filter_taps(prototype, clock.phase);
+        let taps = filterbank::filter_taps(SamplesPerPulse::Four, prototype, clock.phase);
         digest = fold_f32(
             digest,
             filterbank_apply::pulse_sum(taps, padded, clock.index),

@@ -1,29 +1,89 @@
 -- `at_bank_end` meets its contract.
-use borrow.Author.Needs.{needs}
+use mathlib.Core.Path.{ap}
+use Prim.Native.Nat.{ℕ, _-_}
+use Rattle.constants.specs.Setting.{perPulse}
 use Rattle.filterbank.proofs.Literals.{rolled-taps}
+use borrow.Author.Needs.{needs}
 use Rattle.filterbank.proofs.at_bank_end.Statement.{statement}
 use Rattle.filterbank.proofs.at_bank_end.Tie as tie
+
+branches-requires : tie.Need-branches-requires
+branches-requires c κs = search needs
+
+sub-a : tie.Need-sub-a
+sub-a c = search needs
 
 interpolated-requires : tie.Need-interpolated-requires
 interpolated-requires c κs = search needs
 
+add-interpolated : tie.Need-add-interpolated
+add-interpolated c = search needs
+
+mul-interpolated : tie.Need-mul-interpolated
+mul-interpolated c = search needs
+
 interpolated-requires-2 : tie.Need-interpolated-requires-2
 interpolated-requires-2 c κs = search needs
+
+mul-interpolated-2 : tie.Need-mul-interpolated-2
+mul-interpolated-2 c = search needs
+
+add-interpolated-2 : tie.Need-add-interpolated-2
+add-interpolated-2 c = search needs
+
+mul-interpolated-3 : tie.Need-mul-interpolated-3
+mul-interpolated-3 c = search needs
 
 interpolated-requires-3 : tie.Need-interpolated-requires-3
 interpolated-requires-3 c κs = search needs
 
+mul-interpolated-4 : tie.Need-mul-interpolated-4
+mul-interpolated-4 c = search needs
+
+add-interpolated-3 : tie.Need-add-interpolated-3
+add-interpolated-3 c = search needs
+
+mul-interpolated-5 : tie.Need-mul-interpolated-5
+mul-interpolated-5 c = search needs
+
 interpolated-requires-4 : tie.Need-interpolated-requires-4
 interpolated-requires-4 c κs = search needs
+
+mul-interpolated-6 : tie.Need-mul-interpolated-6
+mul-interpolated-6 c = search needs
+
+add-interpolated-4 : tie.Need-add-interpolated-4
+add-interpolated-4 c = search needs
+
+mul-interpolated-7 : tie.Need-mul-interpolated-7
+mul-interpolated-7 c = search needs
 
 interpolated-requires-5 : tie.Need-interpolated-requires-5
 interpolated-requires-5 c κs = search needs
 
+mul-interpolated-8 : tie.Need-mul-interpolated-8
+mul-interpolated-8 c = search needs
+
+add-interpolated-5 : tie.Need-add-interpolated-5
+add-interpolated-5 c = search needs
+
+mul-interpolated-9 : tie.Need-mul-interpolated-9
+mul-interpolated-9 c = search needs
+
 interpolated-requires-6 : tie.Need-interpolated-requires-6
 interpolated-requires-6 c κs = search needs
 
-shared-slice-read-t11 : tie.Need-shared-slice-read-t11
-shared-slice-read-t11 c = search needs
+mul-t27 : tie.Need-mul-t27
+mul-t27 c = search needs
+
+add-t28 : tie.Need-add-t28
+add-t28 c = search needs
+
+mul-t29 : tie.Need-mul-t29
+mul-t29 c = search needs
+
+shared-slice-read-t31 : tie.Need-shared-slice-read-t31
+shared-slice-read-t31 c = search needs
 
 returns : tie.Need-returns
 returns c =
@@ -33,18 +93,39 @@ returns c =
     let c3 = c4 .before in
     let c2 = c3 .before in
     let c1 = c2 .before in
-    let a = c1 .before .before .args in
-    rolled-taps (a .p .now) (a .tau) (c1 .interpolated .ensures) (c2 .interpolated2 .ensures) (c3 .interpolated3 .ensures) (c4 .interpolated4 .ensures) (c5 .interpolated5 .ensures) (c6 .interpolated6 .ensures)
+    let n = c1 .before in
+    let a = n .before .before .args in
+    let e = n .branches .ensures .0 in
+    rolled-taps (perPulse (a .setting)) _ _ e (ap (λ (k : ℕ). k - 1) e) (a .p .now) (a .tau) (c1 .interpolated .ensures) (c2 .interpolated2 .ensures) (c3 .interpolated3 .ensures) (c4 .interpolated4 .ensures) (c5 .interpolated5 .ensures) (c6 .interpolated6 .ensures)
 
 pub at-bank-end-spec : {M : Type 1} → statement M
 at-bank-end-spec =
     tie.close
     (tie.spec
+    branches-requires
+    sub-a
     interpolated-requires
+    add-interpolated
+    mul-interpolated
     interpolated-requires-2
+    mul-interpolated-2
+    add-interpolated-2
+    mul-interpolated-3
     interpolated-requires-3
+    mul-interpolated-4
+    add-interpolated-3
+    mul-interpolated-5
     interpolated-requires-4
+    mul-interpolated-6
+    add-interpolated-4
+    mul-interpolated-7
     interpolated-requires-5
+    mul-interpolated-8
+    add-interpolated-5
+    mul-interpolated-9
     interpolated-requires-6
-    shared-slice-read-t11
+    mul-t27
+    add-t28
+    mul-t29
+    shared-slice-read-t31
     returns)

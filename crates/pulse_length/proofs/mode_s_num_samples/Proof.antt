@@ -1,17 +1,27 @@
--- `pulse_length::mode_s_num_samples` meets its contract.
-use mathlib.Core.Path.{refl}
+-- `mode_s_num_samples` meets its contract.
+use borrow.Author.Needs.{needs}
+use mathlib.Core.Path.{refl, sym, ap, _∙_}
+use mathlib.Core.Bool.{true, false}
+use Prim.Native.Nat.{ℕ}
+use Rattle.constants.proofs.Settings.{either-is}
 use Rattle.pulse_map.specs.ModeS.{modeSBits, modeSLength}
 use Rattle.pulse_length.specs.Length.{modeSNumSamples}
 use Rattle.pulse_length.proofs.mode_s_num_samples.Statement.{statement}
 use Rattle.pulse_length.proofs.mode_s_num_samples.Tie as tie
 
+either-requires : tie.Need-either-requires
+either-requires c κs = search needs
+
 returns : tie.Need-returns
 unfolding modeSNumSamples modeSLength modeSBits
-returns c = simp (c .if1 .taken) refl
+returns c = either-is (λ (n : ℕ). modeSNumSamples n true) _ _ _ _ (c .either .ensures) refl refl ∙ ap (modeSNumSamples _) (sym (c .before .if1 .taken))
+
+either-requires-2 : tie.Need-either-requires-2
+either-requires-2 c κs = search needs
 
 returns-2 : tie.Need-returns-2
 unfolding modeSNumSamples modeSLength modeSBits
-returns-2 c = simp (c .if1 .left) refl
+returns-2 c = either-is (λ (n : ℕ). modeSNumSamples n false) _ _ _ _ (c .either2 .ensures) refl refl ∙ ap (modeSNumSamples _) (sym (c .before .if1 .left))
 
 pub mode-s-num-samples-spec : {M : Type 1} → statement M
-mode-s-num-samples-spec = tie.close (tie.spec returns returns-2)
+mode-s-num-samples-spec = tie.close (tie.spec either-requires returns either-requires-2 returns-2)

@@ -1,5 +1,6 @@
 -- `add_by` meets its contract.
 use borrow.Author.Needs.{needs}
+use Rattle.constants.specs.Setting.{perPulse}
 use Rattle.reply_add.proofs.Adding.{pulses-most, by-samples}
 use Rattle.reply_add.proofs.add_by.Statement.{statement}
 use Rattle.reply_add.proofs.add_by.Tie as tie
@@ -24,7 +25,7 @@ returns c =
     let w = c .before .before .before .before .before in
     let p = w .before .before .before in
     let a = p .before .before .before .before .args in
-    by-samples (a .delays) (a .amplitude) (a .c) _ _ _ (a .prototype .now) (a .memory .now) _ (a .slot) _ (p .message-to-pulses .ensures) (w .wave-of .ensures .0) (w .before .pad-pulses .ensures) (c .before .before .add-wave .ensures)
+    by-samples (perPulse (a .setting)) (a .delays) (a .amplitude) (a .c) _ _ _ (a .prototype .now) (a .memory .now) _ (a .slot) _ (p .message-to-pulses .ensures) (w .wave-of .ensures .0) (w .before .pad-pulses .ensures) (c .before .before .add-wave .ensures)
 
 pub add-by-spec : {M : Type 1} → statement M
 add-by-spec =

@@ -2,6 +2,7 @@
 use borrow.Author.Needs.{needs}
 use mathlib.Core.Path.{sym, _∙_}
 use mathlib.Core.Bool.{true, false}
+use Rattle.constants.specs.Setting.{perPulse}
 use Rattle.reply_add.proofs.Adding.{by-kind}
 use Rattle.reply_add.proofs.add_reply.Statement.{statement}
 use Rattle.reply_add.proofs.add_reply.Tie as tie
@@ -19,7 +20,7 @@ returns : tie.Need-returns
 returns c =
     let i = c .before .before .before .before in
     let a = i .before .before .before .before .before .before .args in
-    by-kind (a .mode-s .now) (a .mode-ac .now) (a .memory .now) _ (a .slot) _ (a .delays) (a .amplitude) (a .c) true (sym (i .if1 .taken) ∙ i .before .is-mode-ac .ensures) (c .before .before .add-by .ensures .0) (c .before .before .add-by .ensures .1)
+    by-kind (perPulse (a .setting)) (a .mode-s .now) (a .mode-ac .now) (a .memory .now) _ (a .slot) _ (a .delays) (a .amplitude) (a .c) true (sym (i .if1 .taken) ∙ i .before .is-mode-ac .ensures) (c .before .before .add-by .ensures .0) (c .before .before .add-by .ensures .1)
 
 add-by-requires-2 : tie.Need-add-by-requires-2
 add-by-requires-2 c κs = search needs
@@ -31,7 +32,7 @@ returns-2 : tie.Need-returns-2
 returns-2 c =
     let i = c .before .before .before .before in
     let a = i .before .before .before .before .before .before .args in
-    by-kind (a .mode-s .now) (a .mode-ac .now) (a .memory .now) _ (a .slot) _ (a .delays) (a .amplitude) (a .c) false (sym (i .if1 .left) ∙ i .before .is-mode-ac .ensures) (c .before .before .add-by2 .ensures .0) (c .before .before .add-by2 .ensures .1)
+    by-kind (perPulse (a .setting)) (a .mode-s .now) (a .mode-ac .now) (a .memory .now) _ (a .slot) _ (a .delays) (a .amplitude) (a .c) false (sym (i .if1 .left) ∙ i .before .is-mode-ac .ensures) (c .before .before .add-by2 .ensures .0) (c .before .before .add-by2 .ensures .1)
 
 pub add-reply-spec : {M : Type 1} → statement M
 add-reply-spec =

@@ -2,6 +2,7 @@
 use borrow.Author.Needs.{needs}
 use native.Mathlib.Omega.{arith}
 use lib.ListN.{length-take}
+use Rattle.constants.specs.Setting.{perPulse}
 use Rattle.reply_add.proofs.Adding.{by-wave, few}
 use Rattle.reply_add.proofs.add_wave.Statement.{statement}
 use Rattle.reply_add.proofs.add_wave.Tie as tie
@@ -34,7 +35,7 @@ returns c =
     let t = c .before .before .add-rotated .ensures in
     let f = c .before .before .before .before .before .before in
     let a = f .before .before .before .before .args in
-    by-wave (a .prototype .now) (a .padded .now) (a .w) _ (a .memory .now) _ (a .slot) _ (f .fill-values .ensures .0) (t .0) (t .1)
+    by-wave (perPulse (a .setting)) (a .prototype .now) (a .padded .now) (a .w) _ (a .memory .now) _ (a .slot) _ (f .fill-values .ensures .0) (t .0) (t .1)
 
 pub add-wave-spec : {M : Type 1} → statement M
 add-wave-spec = tie.close (tie.spec slice-aggregate-fill-values fill-values-requires array-share-prefix-values slice-aggregate-add-rotated add-rotated-requires cast-result same-length returns)

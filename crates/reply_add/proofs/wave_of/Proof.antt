@@ -1,5 +1,6 @@
 -- `wave_of` meets its contract.
 use borrow.Author.Needs.{needs}
+use Rattle.constants.specs.Setting.{perPulse}
 use Rattle.reply_add.proofs.Adding.{wave-is}
 use Rattle.reply_add.proofs.wave_of.Statement.{statement}
 use Rattle.reply_add.proofs.wave_of.Tie as tie
@@ -21,7 +22,7 @@ returns c =
     let s = c .before in
     let o = s .before .before in
     let a = o .before .args in
-    (wave-is (a .c) (a .amplitude) (a .delays) (a .len) _ _ _ _ (o .onset .ensures) (s .before .start-clock .ensures) (s .clock-step .ensures) (c .limit-of .ensures .0), c .limit-of .ensures .1)
+    (wave-is (perPulse (a .setting)) (a .c) (a .amplitude) (a .delays) (a .len) _ _ _ _ (o .onset .ensures) (s .before .start-clock .ensures) (s .clock-step .ensures) (c .limit-of .ensures .0), c .limit-of .ensures .1)
 
 pub wave-of-spec : {M : Type 1} → statement M
 wave-of-spec = tie.close (tie.spec onset-requires start-clock-requires clock-step-requires limit-of-requires returns)
