@@ -25,7 +25,8 @@ use Rattle.run_theorem.proofs.Demand3.{opened-runs}
 use Rattle.more1090_generator.specs.declared.FlatState.{FlatState}
 use Rattle.more1090_generator.specs.declared.FlatAnswer.{FlatAnswer}
 use Rattle.more1090_generator.specs.States.{flatOf}
-use Rattle.more1090_generator.specs.Answers.{valuesFlat, openedFlat, flatAnswer, answered, ranFlat, FlatLeft, leftFlat, flatRunLeft, flatRunsLeft}
+use Rattle.refusal_values.specs.Flat.{valuesFlat}
+use Rattle.more1090_generator.specs.Answers.{openedFlat, flatAnswer, answered, ranFlat, FlatLeft, leftFlat, flatRunLeft, flatRunsLeft}
 use Rattle.more1090_generator.specs.Seen.{FlatSeen, flatSeen, benchAnswer, benchSeen}
 use Rattle.more1090_generator.specs.OpenedCalls.{lastFlat, flatAdded, flatTotal, FlatCountsAdded, Demand3InC, OpenedCalls}
 use Rattle.more1090_generator.proofs.StateBack.{state-back}

@@ -24,9 +24,10 @@ use Rattle.more1090_generator.specs.declared.FlatState.{FlatState}
 use Rattle.more1090_generator.specs.declared.FlatOpened.{FlatOpened}
 use Rattle.more1090_generator.specs.declared.FlatAnswer.{FlatAnswer}
 use Rattle.more1090_generator.specs.declared.FlatRan.{FlatRan}
-use Rattle.more1090_generator.specs.declared.Values.{Values}
+use Rattle.refusal_values.specs.declared.Values.{Values}
+use Rattle.refusal_values.specs.Flat.{valuesFlat}
 use Rattle.more1090_generator.specs.States.{carrierFlat, phaseFlat, clockFlat, carrierFrom, phaseFrom, clockFrom, ratesFlat, ratesFrom, flatOf, stateFrom, noState}
-use Rattle.more1090_generator.specs.Answers.{valuesFlat, openedFlat, flatAnswer, answered, ranFlat, FlatLeft, leftFlat, flatRunLeft}
+use Rattle.more1090_generator.specs.Answers.{openedFlat, flatAnswer, answered, ranFlat, FlatLeft, leftFlat, flatRunLeft}
 
 pub state-flat : (s : State) (carrier phase clock : FlatDistribution) (ended : ℕ) → carrier ≡ carrierFlat (s .distributions .carrier) → phase ≡ phaseFlat (s .distributions .phase) → clock ≡ clockFlat (s .distributions .clock) → ended ≡ cond (s .ended) 1 0 → record { written = s .written; total = s .total; time = s .time; latest = s .latest; rates = ratesFlat (s .rates); «mode_s_delay» = s .delays .«mode_s»; «mode_ac_delay» = s .delays .«mode_ac»; carrier = carrier; phase = phase; clock = clock; ended = ended } ≡ flatOf s
 unfolding flatOf

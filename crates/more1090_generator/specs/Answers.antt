@@ -2,9 +2,8 @@
 use Prim.Native.Nat.{ℕ}
 use mathlib.Core.List.{List, [], _∷_}
 use lib.Ieee.{Float}
-use lib.ListN.{getD}
 use Rattle.refusals.specs.declared.Refusal.{Refusal}
-use Rattle.refusals.specs.Number.{numberOf, valuesOf}
+use Rattle.refusals.specs.Number.{numberOf}
 use Rattle.run_open_checks.specs.declared.Opened as Opened
 use Rattle.run_call.specs.declared.Counts.{Counts}
 use Rattle.run_call.specs.declared.Answer as Answer
@@ -16,12 +15,8 @@ use Rattle.more1090_generator.specs.declared.FlatState.{FlatState}
 use Rattle.more1090_generator.specs.declared.FlatOpened.{FlatOpened}
 use Rattle.more1090_generator.specs.declared.FlatAnswer.{FlatAnswer}
 use Rattle.more1090_generator.specs.declared.FlatRan.{FlatRan}
-use Rattle.more1090_generator.specs.declared.Values.{Values}
+use Rattle.refusal_values.specs.Flat.{valuesFlat}
 use Rattle.more1090_generator.specs.States.{flatOf, stateFrom, noState}
-
--- the values beside a refusal's number, 0 where there is none
-unfoldable pub valuesFlat : Refusal → Values
-valuesFlat q = record { value = getD (valuesOf q) 0 0; field = getD (valuesOf q) 1 0 }
 
 -- refusal 0 is none
 unfoldable pub openedFlat : Opened.Opened → FlatOpened

@@ -5,7 +5,7 @@ ghost use Rattle.constants.specs.Rate.{four};
 ghost use Rattle.run_open_checks.specs.Opening.{openedOf, leftBy};
 ghost use Rattle.more1090_generator.specs.States.{carrierFlat, phaseFlat, clockFlat, carrierFrom, phaseFrom, clockFrom, flatOf, stateFrom, noState};
 ghost use Rattle.run_call.specs.Given.{stopNumber};
-ghost use Rattle.more1090_generator.specs.Answers.{valuesFlat, openedFlat, answered, ranFlat, flatRunLeft};
+ghost use Rattle.more1090_generator.specs.Answers.{openedFlat, answered, ranFlat, flatRunLeft};
 use distributions::CarrierOffset;
 use distributions::CarrierPhase;
 use distributions::ClockError;
@@ -287,50 +287,6 @@ fn no_state() -> FlatState
     }
 }
 
-// The values beside a refusal's number, 0 where there is none.
-pub struct Values {
-    pub value: u64,
-    pub field: u64,
-}
-
-fn values_of(q: Refusal) -> Values
-    ensures { λ r. ⌜ r ≡ valuesFlat q ⌝ }
-{
-    match q {
-        Refusal::Duration => Values { value: 0, field: 0 },
-        Refusal::Rate(rate) => Values {
-            value: rate,
-            field: 0,
-        },
-        Refusal::Total => Values { value: 0, field: 0 },
-        Refusal::Distribution(distribution) => Values {
-            value: distribution,
-            field: 0,
-        },
-        Refusal::Taps => Values { value: 0, field: 0 },
-        Refusal::Prototype => Values { value: 0, field: 0 },
-        Refusal::Draw(draw, field) => Values {
-            value: draw,
-            field: field,
-        },
-        Refusal::Noise(index) => Values {
-            value: index,
-            field: 0,
-        },
-        Refusal::Length => Values { value: 0, field: 0 },
-        Refusal::StretchLength => Values { value: 0, field: 0 },
-        Refusal::Level => Values { value: 0, field: 0 },
-        Refusal::TriggerLevel => Values { value: 0, field: 0 },
-        Refusal::SamplesPerPulse => Values { value: 0, field: 0 },
-        Refusal::Log => Values { value: 0, field: 0 },
-        Refusal::Feeds => Values { value: 0, field: 0 },
-        Refusal::Record(index) => Values {
-            value: index,
-            field: 0,
-        },
-    }
-}
-
 fn opened_out(o: Opened) -> FlatOpened
     ensures { λ r. ⌜ r ≡ openedFlat o ⌝ }
 {
@@ -341,7 +297,7 @@ fn opened_out(o: Opened) -> FlatOpened
             value: 0,
         },
         Opened::Refused(q) => {
-            let v = values_of(q);
+            let v = refusal_values::values_of(q);
             FlatOpened {
                 state: no_state(),
                 refusal: refusals::number(q),
@@ -386,7 +342,7 @@ fn answer_out(n: Counts, answer: Answer) -> FlatAnswer
     match answer {
         Answer::Stopped(w) => flat_answer(n, stop_number(w), 0, 0, 0),
         Answer::Refused(q) => {
-            let v = values_of(q);
+            let v = refusal_values::values_of(q);
             flat_answer(n, 5, refusals::number(q), v.value, v.field)
         }
     }
