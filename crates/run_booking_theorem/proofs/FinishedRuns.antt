@@ -21,7 +21,6 @@ use Rattle.run_call_model.proofs.Demand3.{reached}
 use Rattle.run_generator.specs.Instance.{RepresentableDraw}
 use Rattle.run_generator.proofs.InstanceDemand3.{instance-laws}
 use Rattle.run_call.specs.declared.State.{State}
-use Rattle.run_call.specs.declared.Counts.{Counts}
 use Rattle.run_call.specs.StateGenerator.{filtersOf}
 use Rattle.run_call.specs.Buffers.{Left, CallBuffers}
 use Rattle.run_open_checks.specs.declared.Opened as Opened
@@ -32,13 +31,13 @@ use Rattle.run_theorem.specs.OpenedRuns.{Run, Opens, calls, gen, benchCalls, re
 use Rattle.run_theorem.proofs.Demand3.{opened-runs}
 use Rattle.run_booking_walk.specs.Walk.{Walk, atDraw, walkOf, walkFrom}
 use Rattle.run_booking.specs.Booking.{Figures, bookingOf, figuresOf}
-use Rattle.run_booking_theorem.specs.FinishedRuns.{added, inAll, Follows, Finished, FinishedRuns}
+use Rattle.run_booking_theorem.specs.FinishedRuns.{Totals, added, inAll, Follows, Finished, FinishedRuns}
 use Rattle.run_booking_theorem.proofs.Walked.{walk-ends}
 use Rattle.run_booking_theorem.proofs.BenchCounts.{AllTaken, sumTaken, sumSamples, sumNoise, sumRecords, Sums, sums}
 use Rattle.run_booking_theorem.proofs.OpenedBooking.{both-in-range, opened-so, booked}
 
 -- ---- counts of calls are those of the plain bench
-abbrev seenAll : List Seen → Counts
+abbrev seenAll : List Seen → Totals
 seenAll [] = record { taken = 0; samples = 0; noise = 0; records = 0 }
 seenAll (x ∷ xs) = added (x .counts) (seenAll xs)
 
@@ -51,15 +50,19 @@ module _ (r : Run) where
   abbrev G : Generator
   G = gen r
 
-  counts-in : (a : Bench.Answer) → countsOf a ≡ record { taken = Theory.drawsTaken a; samples = Theory.samplesWritten a; noise = Theory.noiseUsed a; records = Theory.recordsWritten a }
+  counts-in : (a : Bench.Answer) (n : Totals)
+      → added (countsOf a) n ≡ record { taken = Theory.drawsTaken a + n .taken; samples = Theory.samplesWritten a + n .samples; noise = Theory.noiseUsed a + n .noise; records = Theory.recordsWritten a + n .records }
   unfolding countsOf
-  counts-in (Bench.refused q) = refl
-  counts-in (Bench.ran taken samples noise records stop) = refl
+  counts-in (Bench.refused q) n = refl
+  counts-in (Bench.ran taken samples noise records reply-samples stop) n = refl
 
-  seen-results : (xs : List (Bench.Result (gen r))) → seenAll (map (seenResult (r .state) (r .buffers .modeS) (r .buffers .modeAC)) xs) ≡ record { taken = sumTaken (gen r) xs; samples = sumSamples (gen r) xs; noise = sumNoise (gen r) xs; records = sumRecords (gen r) xs }
-  unfolding seenResult
+  totals : List (Bench.Result (gen r)) → Totals
+  totals xs = record { taken = sumTaken (gen r) xs; samples = sumSamples (gen r) xs; noise = sumNoise (gen r) xs; records = sumRecords (gen r) xs }
+
+  seen-results : (xs : List (Bench.Result (gen r))) → seenAll (map (seenResult (r .state) (r .buffers .modeS) (r .buffers .modeAC)) xs) ≡ totals xs
+  unfolding seenResult totals
   seen-results [] = refl
-  seen-results (x ∷ xs) = λ i. added (counts-in (x .answer) i) (seen-results xs i)
+  seen-results (x ∷ xs) = ap (added (countsOf (x .answer))) (seen-results xs) ∙ counts-in (x .answer) (totals xs)
 
 -- ---- a run opened to its buffers
 module _ (tapsS tapsAC : List Float) (settings : List ℕ) (given : Opening.OpenBuffers) (s : State) (opens : Opening.openedOf four tapsS tapsAC settings given ≡ Opened.the-variants.Run s) where
@@ -84,6 +87,7 @@ module _ (tapsS tapsAC : List Float) (settings : List ℕ) (given : Opening.Open
     S = sums (gen run) (benchCalls run cs) (Bench.bench0 (gen run))
 
     counts-are : inAll (calls run cs) ≡ record { taken = sumTaken (gen run) (results run cs); samples = sumSamples (gen run) (results run cs); noise = sumNoise (gen run) (results run cs); records = sumRecords (gen run) (results run cs) }
+    unfolding totals
     counts-are = sym (seen-left (calls run cs)) ∙ ap seenAll (D .answers cs) ∙ seen-results run (results run cs)
 
     -- the bench used as many noise pairs as the run has samples
@@ -119,7 +123,7 @@ module _ (tapsS tapsAC : List Float) (settings : List ℕ) (given : Opening.Open
     finished : Finished tapsS tapsAC settings run cs bytes
     finished = record {
       last = found .0;
-      taken = ap (λ (n : Counts). n .taken) counts-are ∙ sym (zero-add _) ∙ S .taken ∙ sym all-taken;
+      taken = ap (λ (n : Totals). n .taken) counts-are ∙ sym (zero-add _) ∙ S .taken ∙ sym all-taken;
       booked =
           booked tapsS tapsAC settings s nought bytes (opened-so tapsS tapsAC settings given s opens) (F .whole) in-range
           ∙ (λ i. accepted (record {
@@ -135,13 +139,13 @@ module _ (tapsS tapsAC : List Float) (settings : List ℕ) (given : Opening.Open
         walked = ap (walkFrom (gen run) 0 0 (gen run .t0)) draws-are ∙ found .1 (F .behind)
 
         samples-are : s .total ≡ inAll (calls run cs) .samples
-        samples-are = sym used-all ∙ sym (S .samples) ∙ zero-add _ ∙ sym (ap (λ (n : Counts). n .samples) counts-are)
+        samples-are = sym used-all ∙ sym (S .samples) ∙ zero-add _ ∙ sym (ap (λ (n : Totals). n .samples) counts-are)
 
         noise-are : 2 * s .total ≡ inAll (calls run cs) .noise
-        noise-are = ap (λ (n : ℕ). 2 * n) (sym used-all) ∙ sym (S .noise) ∙ zero-add _ ∙ sym (ap (λ (n : Counts). n .noise) counts-are)
+        noise-are = ap (λ (n : ℕ). 2 * n) (sym used-all) ∙ sym (S .noise) ∙ zero-add _ ∙ sym (ap (λ (n : Totals). n .noise) counts-are)
 
         records-are : walkOf (gen run) (gen run .t0) (Bench.drawsOf (gen run) bytes) .records ≡ inAll (calls run cs) .records
-        records-are = ap (λ (w : Walk Float). w .records) walked ∙ zero-add _ ∙ sym (S .records) ∙ zero-add _ ∙ sym (ap (λ (n : Counts). n .records) counts-are)
+        records-are = ap (λ (w : Walk Float). w .records) walked ∙ zero-add _ ∙ sym (S .records) ∙ zero-add _ ∙ sym (ap (λ (n : Totals). n .records) counts-are)
 
 pub finished-runs : FinishedRuns
 unfolding Opening.leftBy

@@ -17,11 +17,17 @@ use Rattle.run_theorem.specs.OpenedRuns.{Run, Opens, calls, gen, drawsTaken, Re
 use Rattle.run_booking_walk.specs.Walk.{atDraw}
 use Rattle.run_booking.specs.Booking.{bookingOf}
 
-abbrev pub added : Counts → Counts → Counts
+-- draws taken, samples written, noise values used and records written by a list of calls in all
+pub record Totals : Type 0 where
+  pub taken : ℕ
+  pub samples : ℕ
+  pub noise : ℕ
+  pub records : ℕ
+
+abbrev pub added : Counts → Totals → Totals
 added a b = record { taken = a .taken + b .taken; samples = a .samples + b .samples; noise = a .noise + b .noise; records = a .records + b .records }
 
--- draws taken, samples written, noise values used and records written by a list of calls in all
-abbrev pub inAll : List Left → Counts
+abbrev pub inAll : List Left → Totals
 inAll [] = record { taken = 0; samples = 0; noise = 0; records = 0 }
 inAll (l ∷ ls) = added (l .ran .counts) (inAll ls)
 

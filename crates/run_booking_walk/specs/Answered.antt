@@ -2,6 +2,7 @@
 use Prim.Native.Nat.{ℕ}
 use mathlib.Core.List.{[]}
 use lib.Ieee.{Float}
+use Rattle.constants.specs.declared.SamplesPerPulse.the-variants.{Four}
 use Rattle.run_theory.specs.Generator.{Generator}
 use Rattle.run_theory.specs.FloatGenerator.{nought}
 use Rattle.message_config.specs.declared.Delays.{Delays}
@@ -14,6 +15,7 @@ use Rattle.run_booking_walk.specs.Walk as Walk
 -- the generator of distributions, delays and samples: a walk depends on nothing else
 abbrev pub walkGenerator : Distributions → Delays → ℕ → Generator
 walkGenerator all delays total = instanceOf (record {
+  setting = Four;
   rates = record {
     «extended_squitter» = nought;
     «acquisition_squitter» = nought;
