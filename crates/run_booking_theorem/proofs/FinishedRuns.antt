@@ -56,11 +56,11 @@ module _ (r : Run) where
   counts-in (Bench.refused q) n = refl
   counts-in (Bench.ran taken samples noise records reply-samples stop) n = refl
 
-  totals : List (Bench.Result (gen r)) → Totals
+  abbrev totals : List (Bench.Result (gen r)) → Totals
   totals xs = record { taken = sumTaken (gen r) xs; samples = sumSamples (gen r) xs; noise = sumNoise (gen r) xs; records = sumRecords (gen r) xs }
 
   seen-results : (xs : List (Bench.Result (gen r))) → seenAll (map (seenResult (r .state) (r .buffers .modeS) (r .buffers .modeAC)) xs) ≡ totals xs
-  unfolding seenResult totals
+  unfolding seenResult
   seen-results [] = refl
   seen-results (x ∷ xs) = ap (added (countsOf (x .answer))) (seen-results xs) ∙ counts-in (x .answer) (totals xs)
 
@@ -87,7 +87,6 @@ module _ (tapsS tapsAC : List Float) (settings : List ℕ) (given : Opening.Open
     S = sums (gen run) (benchCalls run cs) (Bench.bench0 (gen run))
 
     counts-are : inAll (calls run cs) ≡ record { taken = sumTaken (gen run) (results run cs); samples = sumSamples (gen run) (results run cs); noise = sumNoise (gen run) (results run cs); records = sumRecords (gen run) (results run cs) }
-    unfolding totals
     counts-are = sym (seen-left (calls run cs)) ∙ ap seenAll (D .answers cs) ∙ seen-results run (results run cs)
 
     -- the bench used as many noise pairs as the run has samples
