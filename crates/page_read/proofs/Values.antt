@@ -99,12 +99,12 @@ type-at-most-14 (suc (suc (suc (suc (suc (suc (suc n))))))) = omega arith
 abbrev made : Bool → ℕ → ℕ → ℕ → ℕ → List ℕ → LineFields
 made found first kind count size message = record { found = found; first = first; kind = kind; count = count; size = size; message = message }
 
-pub fields : (l : List ℕ) {first kind count size : ℕ} {message : List ℕ} → kind ≡ digitValue (getD l 17 0) → size ≡ typeLength kind → first ≡ readNumber (take 16 (drop 0 l)) → count ≡ readNumber (take 4 (drop 19 l)) → message ≡ shownMessage kind l size
+pub fields : (l : List ℕ) {first kind count size at : ℕ} {message : List ℕ} → kind ≡ digitValue (getD l 17 0) → size ≡ typeLength kind → first ≡ readNumber (take 16 (drop 0 l)) → count ≡ readNumber (take 4 (drop at l)) → at ≡ 19 → message ≡ shownMessage kind l size
     → made true first kind count size message ≡ shownFields l
 unfolding shownFields
-fields l {first} {kind} {count} {size} {message} k s f c m =
+fields l {first} {kind} {count} {size} {at} {message} k s f c e m =
     let s′ : size ≡ typeLength (digitValue (getD l 17 0)) = s ∙ ap typeLength k in
-    (λ i. made true (f i) (k i) (c i) (s′ i) ((m ∙ (λ j. shownMessage (k j) l (s′ j))) i))
+    (λ i. made true (f i) (k i) ((c ∙ ap (λ (n : ℕ). readNumber (take 4 (drop n l))) e) i) (s′ i) ((m ∙ (λ j. shownMessage (k j) l (s′ j))) i))
 
 module _ (l : List ℕ) where
   abbrev typed : LineFields

@@ -16,14 +16,14 @@ returns : tie.Need-returns
 unfolding place
 returns c =
     let a = c .before .before .args in
-    (sym (ap (λ (b : Bool). cond b (1 - a .k) (a .k)) (eq-eqb (a .kind) 6 (c .before .if1 .taken))), omega arith)
+    (sym (ap (λ (b : Bool). cond b (1 - a .k) (a .k)) (eq-eqb (a .kind) 6 (omega arith))), omega arith)
 
 returns-2 : tie.Need-returns-2
 unfolding place
 returns-2 c =
     let a = c .before .before .args in
     let e : 1 - a .k ≡ 0 = omega arith in
-    (sym (ap (λ (b : Bool). cond b (1 - a .k) (a .k)) (eq-eqb (a .kind) 6 (c .before .if1 .taken)) ∙ e), omega arith)
+    (sym (ap (λ (b : Bool). cond b (1 - a .k) (a .k)) (eq-eqb (a .kind) 6 (omega arith)) ∙ e), omega arith)
 
 returns-3 : tie.Need-returns-3
 unfolding place

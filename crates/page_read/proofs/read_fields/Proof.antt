@@ -1,7 +1,6 @@
 -- `page_read::read_fields` meets its contract.
-use mathlib.Core.Path.{_≡_, _∙_, ap}
-use lib.ListN.{take, drop}
-use Rattle.page_read.specs.Fields.{readNumber, shownMessage}
+use mathlib.Core.Path.{refl, _∙_, ap}
+use Rattle.page_read.specs.Fields.{shownMessage}
 use Rattle.page_read.proofs.Values.{fields, type-at-most-14}
 use borrow.Author.Needs.{needs}
 use native.Mathlib.Omega.{arith}
@@ -35,8 +34,7 @@ cast-t11 c = omega (arith, c .before .before .read-number2 .ensures .1)
 returns : tie.Need-returns
 returns c =
     let l = c .before .before .before .before .before .before .before .before .args .line .now in
-    let count : c .before .before .read-number2 .result ≡ readNumber (take 4 (drop 19 l)) = c .before .before .read-number2 .ensures .0 in
-    fields l (c .before .before .before .before .before .digit .ensures .0) (c .before .before .before .before .type-length .ensures) (c .before .before .before .read-number .ensures .0) count (c .read-message .ensures ∙ ap (shownMessage (c .before .before .before .before .before .digit .result) l) (c .before .wide .ensures .0))
+    fields l (c .before .before .before .before .before .digit .ensures .0) (c .before .before .before .before .type-length .ensures) (c .before .before .before .read-number .ensures .0) (c .before .before .read-number2 .ensures .0) refl (c .read-message .ensures ∙ ap (shownMessage (c .before .before .before .before .before .digit .result) l) (c .before .wide .ensures .0))
 
 pub read-fields-spec : {M : Type 1} → statement M
 read-fields-spec =
