@@ -8,7 +8,12 @@ use native.Mathlib.Omega.{arith}
 use lib.Ieee.{Float, nan}
 use lib.ListN.{length, drop, length-append}
 use lib.Seq.{drop-at}
-use Rattle.constants.specs.Rate.{four}
+use native.Mathlib.Nat.{le-trans}
+use lib.Dec.{lit≤}
+use Rattle.constants.specs.Rate.{four, replyLimit}
+use Rattle.constants.specs.Setting.{perPulse}
+use Rattle.constants.specs.declared.SamplesPerPulse.{SamplesPerPulse}
+use Rattle.constants.specs.declared.SamplesPerPulse.the-variants.{Four, Eight}
 use Rattle.pulse_shape.specs.Prototype.{modeSPrototype, modeACPrototype}
 use Rattle.run_theory.specs.Generator.{Generator}
 use Rattle.run_theory.specs.PlainRun.{reply, Reply, kind, replyOf, replies}
@@ -59,6 +64,11 @@ in-front r rest n k h e more =
     ∙ ap (λ (l : List ℕ). faultFrom n l (k + 1)) (drop-at r rest 66 h)
     ∙ more
 
+-- a count has four digits at both settings
+limit-few : (s : SamplesPerPulse) → replyLimit (perPulse s) ≤ 9999
+limit-few Four = lit≤ tt
+limit-few Eight = lit≤ tt
+
 module _ (f : Filters) (R : FiltersInRange f) (total : ℕ) (few : total ≤ 2 ^ 52) where
   abbrev G : Generator
   G = instanceOf f total
@@ -85,7 +95,7 @@ module _ (f : Filters) (R : FiltersInRange f) (total : ℕ) (few : total ≤ 2 ^
       let size : length line ≡ 66 = record-length c s (d .draw .kind) n (config-bytes f t d) in
       let i = fields f R total few d h in
       let typed = type-sized (d .draw .kind) (i .message-type) (i .known) in
-      let short : n ≤ 1094 = L .short t d s g h e in
+      let short : n ≤ 9999 = le-trans (L .short t d s g h e) (limit-few (f .setting)) in
       record {
         size = length-append line (lines rs) ∙ omega (arith, size, q .size);
         none-at-fault = λ k.
