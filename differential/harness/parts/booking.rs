@@ -98,8 +98,8 @@ impl Asked {
         rules::settings(&s)?;
         rules::taps(&self.taps_s, &self.taps_ac)?;
         let taps = [&self.taps_s[..], &self.taps_ac[..]].concat();
-        let [a, b] = judge::prototypes(&taps);
-        rules::prototypes([&a, &b])?;
+        let [a, b] = judge::prototypes(&taps, s.trigger_level);
+        rules::prototypes([&a, &b], s.trigger_level)?;
         let draws: Vec<Draw> = self.draws.chunks(DRAW_BYTES).map(draw_from_bytes).collect();
         rules::draws(&s, &draws)?;
         let distributions = judge::distributions(&s).expect("the reference takes the distributions");
@@ -241,7 +241,7 @@ fn finished(t: &mut Tally, r: &mut Random, seed: &str, tape: &Tape) {
 /// Settings, taps and draws of other lengths.
 fn lengths(t: &mut Tally, base: &Tape) {
     let right = Asked::of(base);
-    for n in [0, 1, 118, 120, 123, 124] {
+    for n in [0, 1, 119, 122, 124] {
         let mut a = right.clone();
         a.settings.resize(n, 0);
         asked(t, "bookings with other lengths", &format!("settings of {n} bytes"), &a);
