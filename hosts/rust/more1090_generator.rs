@@ -310,12 +310,13 @@ pub struct PagesResult {
 }
 
 #[repr(C)]
-struct LineResult {
-    found: u64,
-    first_sample: u64,
-    kind: u64,
-    count: u64,
-    message_length: u64,
+#[derive(Clone, Copy, Debug, PartialEq, Eq)]
+pub struct LineResult {
+    pub found: u64,
+    pub first_sample: u64,
+    pub kind: u64,
+    pub count: u64,
+    pub message_length: u64,
 }
 
 unsafe extern "C" {
@@ -337,10 +338,15 @@ pub struct Line {
     pub message: Vec<u8>,
 }
 
+/// `more1090_page_line`, on bytes of any number; the whole message is written.
+pub fn page_line_into(line: &[u8], message: &mut [u8; 14]) -> LineResult {
+    unsafe { more1090_page_line(line.as_ptr(), line.len(), message.as_mut_ptr()) }
+}
+
 /// A line of 72 bytes, without its line feed, read back; none where it shows no type.
 pub fn page_line(line: &[u8]) -> Option<Line> {
     let mut message = [0; 14];
-    let read = unsafe { more1090_page_line(line.as_ptr(), line.len(), message.as_mut_ptr()) };
+    let read = page_line_into(line, &mut message);
     (read.found == 1).then(|| Line {
         first_sample: read.first_sample,
         kind: read.kind as u8,
@@ -417,6 +423,7 @@ pub struct RackState {
 }
 
 #[repr(C)]
+#[derive(Clone, Copy, Debug, PartialEq)]
 pub struct RackResult {
     pub state: RackState,
     pub refusal: u64,

@@ -1,29 +1,8 @@
 //! Records on paper against a second routine, by Rust's own formatting; and lines read back.
 
+use super::port::more1090_generator::{PagesResult as Answer, page_line_into, pages};
 use crate::random::Random;
 use crate::tally::Tally;
-
-#[repr(C)]
-#[derive(Debug, PartialEq)]
-struct Answer {
-    refusal: u64,
-    value: u64,
-    pages: u64,
-}
-
-#[repr(C)]
-struct Fields {
-    found: u64,
-    first: u64,
-    kind: u64,
-    count: u64,
-    size: u64,
-}
-
-unsafe extern "C" {
-    fn more1090_pages(records: *const u8, length: usize, out: *mut u8, room: usize) -> Answer;
-    fn more1090_page_line(line: *const u8, length: usize, message: &mut [u8; 14]) -> Fields;
-}
 
 const LIMITS: [u64; 8] = [0, 9, 10, 9_999_999_999, (1 << 52) - 1, 1 << 52, (1 << 52) + 1, u64::MAX];
 
@@ -103,7 +82,7 @@ fn check(t: &mut Tally, name: &'static str, records: &[Record], extra: usize, ro
     let mut bytes: Vec<u8> = records.iter().flat_map(Record::bytes).collect();
     bytes.extend(vec![0; extra]);
     let mut out = vec![OLD; room];
-    let answer = unsafe { more1090_pages(bytes.as_ptr(), bytes.len(), out.as_mut_ptr(), out.len()) };
+    let answer = pages(&bytes, &mut out);
     let (its, left) = expected(records, extra, room);
     t.alike(name, (records.len(), extra, room), (its, left == out), (answer, true));
 }
@@ -112,10 +91,10 @@ fn check(t: &mut Tally, name: &'static str, records: &[Record], extra: usize, ro
 fn read_back(t: &mut Tally, x: &Record) {
     let line = x.line();
     let mut message = [OLD; 14];
-    let f = unsafe { more1090_page_line(line.as_ptr(), line.len(), &mut message) };
+    let f = page_line_into(line.as_bytes(), &mut message);
     let mut shown = [0; 14];
     shown[..x.size as usize].copy_from_slice(&x.message[..x.size as usize]);
-    t.alike("a line read back", &line, (1, x.first, x.kind as u64, x.count as u64, x.size as u64, shown), (f.found, f.first, f.kind, f.count, f.size, message));
+    t.alike("a line read back", &line, (1, x.first, x.kind as u64, x.count as u64, x.size as u64, shown), (f.found, f.first_sample, f.kind, f.count, f.message_length, message));
 }
 
 /// Bytes of any number; of 72, some with a type in its column.
@@ -126,7 +105,7 @@ fn any_bytes(t: &mut Tally, r: &mut Random) {
         line[17] = r.pick(b"/0123456789 ");
     }
     let mut message = [OLD; 14];
-    let f = unsafe { more1090_page_line(line.as_ptr(), n, &mut message) };
+    let f = page_line_into(&line, &mut message);
     let digit = |c: u8| (c as char).to_digit(10).unwrap_or(0) as u64;
     let value = |c: &[u8]| c.iter().fold(0, |v, &c| v * 10 + digit(c));
     let hex = |c: u8| if c.is_ascii_uppercase() { 0 } else { (c as char).to_digit(16).unwrap_or(0) as u8 };
@@ -142,7 +121,7 @@ fn any_bytes(t: &mut Tally, r: &mut Random) {
     } else {
         (0, 0, 0, 0, 0)
     };
-    t.alike("bytes read as a line", &line, (its, shown), ((f.found, f.first, f.kind, f.count, f.size), message));
+    t.alike("bytes read as a line", &line, (its, shown), ((f.found, f.first_sample, f.kind, f.count, f.message_length), message));
 }
 
 pub fn compare(t: &mut Tally, r: &mut Random, count: u64) {

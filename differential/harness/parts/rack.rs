@@ -1,40 +1,12 @@
 //! A rack of delayed feeds, against a second routine: sample by sample, from all samples so far.
 
+use super::port::more1090_generator::{RackState as Rack, rack_open as open, rack_run as run};
 use crate::random::Random;
 use crate::tally::Tally;
 
 const MEMORY: usize = 8190;
 const LENGTH: u64 = 9;
 const FEEDS: u64 = 17;
-
-#[repr(C)]
-#[derive(Clone, Copy, Debug, PartialEq)]
-struct Rack {
-    feeds: u64,
-    seen: u64,
-    delays: [u64; 16],
-    gains: [f32; 16],
-}
-
-#[repr(C)]
-#[derive(Clone, Copy)]
-struct Answered {
-    rack: Rack,
-    refusal: u64,
-}
-
-unsafe extern "C" {
-    fn more1090_rack_open(memory: *mut f32, memory_length: usize, delays: *const u64, delays_length: usize, gains: *const f32, gains_length: usize) -> Answered;
-    fn more1090_rack_run(rack: Rack, memory: *mut f32, memory_length: usize, samples: *const f32, samples_length: usize, room: *mut f32, room_length: usize) -> Answered;
-}
-
-fn open(memory: &mut [f32], delays: &[u64], gains: &[f32]) -> Answered {
-    unsafe { more1090_rack_open(memory.as_mut_ptr(), memory.len(), delays.as_ptr(), delays.len(), gains.as_ptr(), gains.len()) }
-}
-
-fn run(rack: Rack, memory: &mut [f32], samples: &[f32], room: &mut [f32]) -> Answered {
-    unsafe { more1090_rack_run(rack, memory.as_mut_ptr(), memory.len(), samples.as_ptr(), samples.len(), room.as_mut_ptr(), room.len()) }
-}
 
 pub fn compare(t: &mut Tally, r: &mut Random, count: u64) {
     stated(t);
@@ -64,11 +36,11 @@ fn stated(t: &mut Tally) {
     let mut memory = vec![3.0; MEMORY];
     let opened = open(&mut memory, &[1], &[-0.0]);
     let mut room = [7.0; 4];
-    let ran = run(opened.rack, &mut memory, &[1.0; 4], &mut room);
+    let ran = run(opened.state, &mut memory, &[1.0; 4], &mut room);
     t.alike("rack: a gain of -0.0", 0, (0, 0, vec![0, 0, 0x8000_0000, 0x8000_0000]), (opened.refusal, ran.refusal, bits(&room)));
-    t.alike("rack: no samples", 0, (0, ran.rack), {
-        let none = run(ran.rack, &mut memory, &[], &mut []);
-        (none.refusal, none.rack)
+    t.alike("rack: no samples", 0, (0, ran.state), {
+        let none = run(ran.state, &mut memory, &[], &mut []);
+        (none.refusal, none.state)
     });
     let mut short = vec![3.0; MEMORY - 1];
     t.alike("rack: 9 before 17", 0, LENGTH, open(&mut short, &[4096], &[1.0]).refusal);
@@ -109,8 +81,8 @@ fn openings(t: &mut Tally, r: &mut Random, count: u64) {
         let n = if opened { feeds } else { 0 };
         let at = |i: usize| if i < n { (delays[i], gains[i].to_bits()) } else { (0, 0) };
         let rows: Vec<(u64, u32)> = (0..16).map(at).collect();
-        let ours: Vec<(u64, u32)> = (0..16).map(|i| (o.rack.delays[i], o.rack.gains[i].to_bits())).collect();
-        t.alike("rack: opened", k, (n as u64, 0, rows), (o.rack.feeds, o.rack.seen, ours));
+        let ours: Vec<(u64, u32)> = (0..16).map(|i| (o.state.delays[i], o.state.gains[i].to_bits())).collect();
+        t.alike("rack: opened", k, (n as u64, 0, rows), (o.state.feeds, o.state.seen, ours));
     }
 }
 
@@ -126,7 +98,7 @@ struct Both {
 impl Both {
     fn new(delays: &[u64], gains: &[f32]) -> Both {
         let mut memory = vec![f32::NAN; MEMORY];
-        let rack = open(&mut memory, delays, gains).rack;
+        let rack = open(&mut memory, delays, gains).state;
         Both { rack, memory, delays: delays.to_vec(), gains: gains.to_vec(), all: Vec::new() }
     }
 
@@ -137,7 +109,7 @@ impl Both {
         let ran = run(self.rack, &mut self.memory, samples, &mut room);
         let second: Vec<f32> = self.delays.iter().zip(&self.gains).flat_map(|(&d, &g)| feed(d, g, &self.all, from)).collect();
         t.alike("rack: feeds of a call", (from, samples.len()), (0, bits(&second)), (ran.refusal, bits(&room)));
-        self.rack = ran.rack;
+        self.rack = ran.state;
     }
 
     /// A call that is refused changes nothing.
@@ -154,7 +126,7 @@ impl Both {
         let before = bits(&own);
         let mut room = vec![9.0; room];
         let ran = run(self.rack, &mut own, &vec![1.0; samples], &mut room);
-        t.alike("rack: a refused call", (memory, samples, room.len()), (LENGTH, self.rack, before, vec![9.0; room.len()]), (ran.refusal, ran.rack, bits(&own), room));
+        t.alike("rack: a refused call", (memory, samples, room.len()), (LENGTH, self.rack, before, vec![9.0; room.len()]), (ran.refusal, ran.state, bits(&own), room));
     }
 }
 
@@ -233,5 +205,5 @@ fn forged(t: &mut Tally, r: &mut Random) {
         .collect();
     t.alike("rack: a forged state", (rack.feeds, rack.seen, n), (0, bits(&second)), (ran.refusal, bits(&room)));
     t.alike("rack: memory after", n, bits(&held[2 * n..]), bits(&own));
-    t.alike("rack: seen after", (rack.seen, n), (4095.min(rack.seen.saturating_add(n as u64)), rack.feeds, rack.delays), (ran.rack.seen, ran.rack.feeds, ran.rack.delays));
+    t.alike("rack: seen after", (rack.seen, n), (4095.min(rack.seen.saturating_add(n as u64)), rack.feeds, rack.delays), (ran.state.seen, ran.state.feeds, ran.state.delays));
 }
