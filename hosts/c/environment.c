@@ -12,6 +12,7 @@
 #define CONTROL 0xffc0u
 #define DRAWS 7
 #define SAMPLES 80000
+#define FED 4096 /* samples that a rack takes */
 
 more1090_open_result more1090_proved_open(const uint8_t *, size_t, const float *, size_t, const float *, size_t, float *, size_t,
                                           float *, size_t, float *, size_t);
@@ -23,7 +24,11 @@ more1090_booking_result more1090_proved_booking(const uint8_t *, size_t, const f
 more1090_booking_result more1090_proved_booking_part(double, const uint8_t *, size_t, const float *, size_t, const float *,
                                                      size_t, const uint8_t *, size_t);
 
-/* What a whole run is given. */
+more1090_rack_result more1090_proved_rack_open(float *, size_t, const uint64_t *, size_t, const float *, size_t);
+more1090_rack_result more1090_proved_rack_run(more1090_rack, float *, size_t, const float *, size_t, float *, size_t);
+
+/* What a whole run is given. The last draw ends it. */
+static size_t draws_length;
 static uint8_t settings[MORE1090_SETTINGS_LEN], draws[(DRAWS + 1) * MORE1090_DRAW_LEN];
 static float taps_s[MORE1090_MODE_S_TAPS_LEN], taps_ac[MORE1090_MODE_AC_TAPS_LEN], noise[2 * SAMPLES];
 
@@ -34,6 +39,8 @@ typedef struct outcome {
     more1090_booking_result booking, part;
     float output[2 * SAMPLES];
     uint8_t records[DRAWS * MORE1090_RECORD_LEN];
+    uint64_t rack_refusals[2];
+    float feed[2 * FED];
 } outcome;
 static outcome wanted, found;
 
@@ -49,6 +56,21 @@ static void given_back(unsigned word) {
     }
 }
 
+/* A feed of what the run wrote first, one sample late, with a gain that makes its products round. */
+static void run_rack(unsigned word, int guarded, outcome *to) {
+    static float held[MORE1090_RACK_MEMORY_LEN];
+    const uint64_t delay = 1;
+    const float gain = 0.3f;
+    more1090_rack_result k =
+        (guarded ? more1090_rack_open : more1090_proved_rack_open)(held, MORE1090_RACK_MEMORY_LEN, &delay, 1, &gain, 1);
+    given_back(word);
+    to->rack_refusals[0] = k.refusal;
+    k = (guarded ? more1090_rack_run : more1090_proved_rack_run)(k.rack, held, MORE1090_RACK_MEMORY_LEN, to->output, 2 * FED,
+                                                                 to->feed, 2 * FED);
+    given_back(word);
+    to->rack_refusals[1] = k.refusal;
+}
+
 static void run(unsigned word, int guarded, outcome *to) {
     static float mode_s[MORE1090_PROTOTYPE_LEN], mode_ac[MORE1090_PROTOTYPE_LEN], memory[MORE1090_MEMORY_LEN];
     memset(to, 0, sizeof *to);
@@ -59,15 +81,16 @@ static void run(unsigned word, int guarded, outcome *to) {
     given_back(word);
     more1090_run_result r = (guarded ? more1090_run : more1090_proved_run)(
         o.state, mode_s, MORE1090_PROTOTYPE_LEN, mode_ac, MORE1090_PROTOTYPE_LEN, memory, MORE1090_MEMORY_LEN, draws,
-        sizeof draws, noise, 2 * SAMPLES, to->output, 2 * SAMPLES, to->records, sizeof to->records);
+        draws_length, noise, 2 * SAMPLES, to->output, 2 * SAMPLES, to->records, sizeof to->records);
     given_back(word);
     to->booking = (guarded ? more1090_booking : more1090_proved_booking)(
-        settings, sizeof settings, taps_s, MORE1090_MODE_S_TAPS_LEN, taps_ac, MORE1090_MODE_AC_TAPS_LEN, draws, sizeof draws);
+        settings, sizeof settings, taps_s, MORE1090_MODE_S_TAPS_LEN, taps_ac, MORE1090_MODE_AC_TAPS_LEN, draws, draws_length);
     given_back(word);
     to->part = (guarded ? more1090_booking_part : more1090_proved_booking_part)(
         0.1, settings, sizeof settings, taps_s, MORE1090_MODE_S_TAPS_LEN, taps_ac, MORE1090_MODE_AC_TAPS_LEN, draws,
-        DRAWS * MORE1090_DRAW_LEN);
+        draws_length - MORE1090_DRAW_LEN);
     given_back(word);
+    run_rack(word, guarded, to);
     _mm_setcsr(DEFAULT);
     to->refusals[0] = o.refusal;
     to->refusals[1] = r.refusal;
@@ -75,23 +98,51 @@ static void run(unsigned word, int guarded, outcome *to) {
     to->state = r.state;
 }
 
-/* Plain settings and draws; and such that most steps meet subnormal numbers: rates of the least f64, an offset of so few Hz that
- * sines are subnormal as f32, a phase of 0, noise of 1e-40. */
-static void make_case(double offset) {
-    const double least = 5e-324;
-    const uint8_t constant = 0;
+/* The worked tape of SPECIFICATION 11.3: its draws are of types 2, 6 and 2, and all else is 0. */
+static void make_worked(void) {
+    const uint32_t nanoseconds = 1000000;
+    const uint16_t data = 3584;
+    const float level = 0.5f;
+    const double gaps[3] = {100.0, 50.5, 1e6};
+    memset(settings, 0, sizeof settings);
+    put(settings + 8, &nanoseconds, 4);
+    for (int k = 0; k < 7; k++)
+        put_f64(settings + 12 + 8 * k, 1.0);
+    put(settings + 119, &level, 4);
+    memset(taps_s, 0, sizeof taps_s);
+    memset(taps_ac, 0, sizeof taps_ac);
+    taps_s[0] = taps_ac[0] = 1.0f;
+    memset(noise, 0, sizeof noise);
+    memset(draws, 0, sizeof draws);
+    for (int k = 0; k < 3; k++) {
+        uint8_t *to = put_f64(draws + k * MORE1090_DRAW_LEN, gaps[k]);
+        *to = k == 1 ? 6 : 2;
+    }
+    draws[45] = 1; /* the first draw's format pick */
+    put(draws + MORE1090_DRAW_LEN + 62, &data, 2);
+    draws_length = 3 * MORE1090_DRAW_LEN;
+}
+
+/* A reply of each type in noise. */
+static void make_plain(void) {
     make_settings(settings, 0.5f);
     make_taps(taps_s, MORE1090_MODE_S_TAPS_LEN);
     make_taps(taps_ac, MORE1090_MODE_AC_TAPS_LEN);
     for (unsigned n = 0; n <= DRAWS; n++)
         make_draw(draws + n * MORE1090_DRAW_LEN, n);
     put_f64(draws + DRAWS * MORE1090_DRAW_LEN, 80000.0);
+    draws_length = sizeof draws;
     for (int k = 0; k < 2 * SAMPLES; k++)
         noise[k] = (float)(k % 7) - 3;
-    if (offset == 0)
-        return;
+}
+
+/* The same, so that most steps meet subnormal numbers: rates of the least f64, an offset of so few Hz, from a phase of 0, that
+ * sines are subnormal as f32, and noise of 1e-40. */
+static void make_faint(double offset) {
+    const uint8_t constant = 0;
+    make_plain();
     for (int k = 0; k < 7; k++)
-        put_f64(settings + 12 + 8 * k, least);
+        put_f64(settings + 12 + 8 * k, 5e-324);
     put_f64(settings + 69, offset);
     put(settings + 85, &constant, 1);
     for (int k = 0; k < 2 * SAMPLES; k++)
@@ -99,10 +150,15 @@ static void make_case(double offset) {
 }
 
 int main(void) {
-    const double offsets[] = {0, 1e-38, 1e-35, 1e-32};
+    const double offsets[] = {1e-38, 1e-35, 1e-32};
     unsigned runs = 0, differ = 0, unguarded = 0;
-    for (int c = 0; c < 4; c++) {
-        make_case(offsets[c]);
+    for (int c = 0; c < 5; c++) {
+        if (c == 0)
+            make_worked();
+        else if (c == 1)
+            make_plain();
+        else
+            make_faint(offsets[c - 2]);
         run(DEFAULT, 1, &wanted);
         if (wanted.refusals[0] || wanted.refusals[1] || wanted.stop != MORE1090_STOP_DONE) {
             fprintf(stderr, "case %d does not run to its end\n", c);
