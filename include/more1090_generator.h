@@ -68,8 +68,9 @@ enum {
     MORE1090_ERR_DRAW = 7,      /* a field out of range; value: the first such draw, field: its first such field. Or a first
                                  * draw that jumps back: its time is before `latest` of the state; value 0, field 0 */
     MORE1090_ERR_NOISE = 8,         /* a noise value not finite or above 64 in size; value: its place */
-    MORE1090_ERR_LENGTH = 9           /* settings, memory, a prototype, output (0 or odd) or draws (no multiple of 65) of a wrong
+    MORE1090_ERR_LENGTH = 9,          /* settings, memory, a prototype, output (0 or odd) or draws (no multiple of 65) of a wrong
                                  * length */
+    MORE1090_ERR_STRETCH_LENGTH = 12 /* of one reply alone: output or noise that is not two numbers a sample */
 };
 
 /* Why a run call came back. */
@@ -152,6 +153,28 @@ more1090_run_result more1090_run(more1090_state state,
                           float *output, size_t output_length,
                           uint8_t *records, size_t records_length);
 
+typedef struct more1090_single_result {
+    uint64_t refusal; /* 0, or 1 to 9, or 12 */
+    uint64_t value;
+    uint64_t field;
+} more1090_single_result;
+
+/* One reply alone: a run's settings, its two filters, one draw of 65 bytes and noise; the whole stretch in one output, two
+ * floats for each sample of the settings' duration. The draw's gap is the reply's time. A sample is noise values 2n and 2n + 1
+ * times 2^-10, and what the reply adds there, added to it. A reply that starts before sample 0 or runs past the end is
+ * trimmed: its samples before sample 0 are passed over, its clock and carrier running through them. No draw is ignored and
+ * none ends the run; a start far past the end gives noise alone.
+ * Checks 9 (settings or draw of another length, output of odd length, or empty though the duration has samples), then 1, then
+ * 12 (output or noise that is not two numbers a sample), then 2 to 6 as opening does, then 7 (value 0, field) and 8, and
+ * answers the first that fails; output is then unchanged. It needs no prototypes and no working memory: both are on its stack,
+ * some 24 kB. (crates/more1090_single) */
+more1090_single_result more1090_single(const uint8_t *settings, size_t settings_length,
+                                       const float *taps_s, size_t taps_s_length,
+                                       const float *taps_ac, size_t taps_ac_length,
+                                       const uint8_t *draw, size_t draw_length,
+                                       const float *noise, size_t noise_length,
+                                       float *output, size_t output_length);
+
 /* The parity of a message in whole bytes, of any length: the remainder of the bytes times x^24 by the generator 0x1FFF409,
  * below 2^24. Of a message that ends in its own parity it is 0. (crates/more1090_parity) */
 uint32_t more1090_parity(const uint8_t *bytes, size_t bytes_length);
@@ -191,6 +214,7 @@ uint32_t more1090_interrogator(const uint8_t *message, size_t message_length, ui
 MORE1090_ASSERT(sizeof(more1090_state) == 184 && offsetof(more1090_state, ended) == 176);
 MORE1090_ASSERT(sizeof(more1090_open_result) == 200 && offsetof(more1090_open_result, refusal) == 184);
 MORE1090_ASSERT(sizeof(more1090_run_result) == 248 && offsetof(more1090_run_result, draws_taken) == 184);
+MORE1090_ASSERT(sizeof(more1090_single_result) == 24);
 #undef MORE1090_ASSERT
 
 #endif

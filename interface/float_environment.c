@@ -50,3 +50,10 @@ GUARDED(more1090_run_result, run,
          size_t noise_length, float *output, size_t output_length, uint8_t *records, size_t records_length),
         (state, mode_s, mode_s_length, mode_ac, mode_ac_length, memory, memory_length, draws, draws_length, noise, noise_length,
          output, output_length, records, records_length))
+
+GUARDED(more1090_single_result, single,
+        (const uint8_t *settings, size_t settings_length, const float *taps_s, size_t taps_s_length, const float *taps_ac,
+         size_t taps_ac_length, const uint8_t *draw, size_t draw_length, const float *noise, size_t noise_length, float *output,
+         size_t output_length),
+        (settings, settings_length, taps_s, taps_s_length, taps_ac, taps_ac_length, draw, draw_length, noise, noise_length,
+         output, output_length))

@@ -21,6 +21,7 @@ mod parts {
     pub mod replies;
     pub mod runs;
     pub mod shape;
+    pub mod singles;
     pub mod starts;
 }
 
@@ -46,6 +47,7 @@ fn main() {
     parts::shape::compare(&mut tally, &mut r, count);
     parts::starts::compare(&mut tally, &mut r, count);
     parts::runs::compare(&mut tally, &mut Random::new(seed), number(3, 1000));
+    parts::singles::compare(&mut tally, &mut Random::new(seed), number(3, 1000));
     tally.print();
     let (n, wrong) = tally.totals();
     println!("parts: {n} comparisons, {wrong} differences");

@@ -6,26 +6,15 @@
 //! type, count of samples, time in samples, CN0 in dB Hz, message. Progress goes to standard error. The draws and the
 //! noise have a generator each, so that what comes out does not depend on how much is lent at a time.
 mod draws;
+mod lowpass;
 mod more1090_generator;
 use draws::{CLOCK_MAX, Random, WEIGHTS};
+use lowpass::lowpass;
 use more1090_generator::{
     STOP_DONE, DRAW_LEN, MODE_AC_TAPS_LEN, MODE_S_TAPS_LEN, RECORD_LEN, Run, SETTINGS_LEN,
 };
-use std::f64::consts::PI;
 use std::fs::File;
 use std::io::{BufWriter, Error, ErrorKind, Result, Write, sink, stdout};
-
-/// A lowpass of sum 1: a sinc under a Hamming window. The cutoff is in parts of 1 / 256 of the taps' rate.
-fn lowpass(taps: usize, cutoff: f64) -> Vec<f32> {
-    let last = (taps - 1) as f64;
-    let tap = |k: usize| {
-        let x = 2.0 * PI * cutoff / 256.0 * (k as f64 - last / 2.0);
-        let sinc = if x == 0.0 { 1.0 } else { x.sin() / x };
-        sinc * (0.54 - 0.46 * (2.0 * PI * k as f64 / last).cos())
-    };
-    let sum: f64 = (0..taps).map(tap).sum();
-    (0..taps).map(|k| (tap(k) / sum) as f32).collect()
-}
 
 fn settings(seconds: f64, rate: f64) -> [u8; SETTINGS_LEN] {
     let mut s = Vec::new();

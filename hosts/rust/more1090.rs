@@ -1,15 +1,17 @@
 //! The program `more1090`: commands over the library, each a file in commands/ and a line in `COMMANDS`.
 //!
 //! Exit status: 0 done; 1 refused; 2 wrong use; 3 a file or pipe failed.
+mod lowpass;
 mod more1090_generator;
 mod shell;
 mod commands {
     pub mod message;
+    pub mod single;
 }
 
 use shell::{Command, Failure};
 
-const COMMANDS: &[Command] = &[commands::message::COMMAND];
+const COMMANDS: &[Command] = &[commands::message::COMMAND, commands::single::COMMAND];
 
 const VERSION: &str = include_str!("../../VERSION");
 

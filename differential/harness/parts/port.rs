@@ -1,7 +1,7 @@
 //! The port's opening and run calls, through its C interface (`include/more1090_generator.h`) and its binding for Rust.
 
 #[path = "../../../hosts/rust/more1090_generator.rs"]
-mod more1090_generator;
+pub mod more1090_generator;
 
 use crate::calls::{OPENING_MARK, OUTPUT_MARK, RECORDS_MARK};
 use crate::tape::*;
