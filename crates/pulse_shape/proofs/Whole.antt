@@ -5,7 +5,10 @@ use mathlib.Core.List.{List}
 use native.Mathlib.Omega.{arith}
 use lib.ListN.{length}
 use lib.Ieee.{Float}
-use Rattle.constants.specs.Rate.{four, prototypeLength, modeSPulse, modeACPulse, modeSTaps, modeACTaps}
+use Rattle.constants.specs.declared.SamplesPerPulse.{SamplesPerPulse}
+use Rattle.constants.specs.declared.SamplesPerPulse.the-variants.{Four, Eight}
+use Rattle.constants.specs.Setting.{perPulse}
+use Rattle.constants.specs.Rate.{prototypeLength, modeSPulse, modeACPulse, modeSTaps, modeACTaps}
 use Rattle.pulse_shape.specs.Values.{valuesFrom, values}
 use Rattle.pulse_shape.specs.Trapezoid.{modeSTrapezoid, modeACTrapezoid}
 use Rattle.pulse_shape.specs.Convolve.{convolveAt, convolveFull}
@@ -33,9 +36,17 @@ length-mode-ac : (sps : ℕ) → length (modeACTrapezoid sps) ≡ modeACPulse sp
 unfolding modeACTrapezoid
 length-mode-ac sps = length-values _ (modeACPulse sps) 0
 
--- at 4 samples per pulse: 307 and 1,486 values, 278 and 1,515
-pub mode-s-whole : (lowpass : List Float) → length lowpass ≡ modeSTaps four → modeSPrototype four lowpass ≡ convolveFull (modeSTrapezoid four) lowpass
-mode-s-whole lowpass e = prototype-whole four (modeSTrapezoid four) lowpass (rw (length-mode-s four, e))
+-- at both settings: 307 and 1,486 values, 278 and 1,515 at 4 samples per pulse
+pub mode-s-whole : (s : SamplesPerPulse) (lowpass : List Float) → length lowpass ≡ modeSTaps (perPulse s) → modeSPrototype (perPulse s) lowpass ≡ convolveFull (modeSTrapezoid (perPulse s)) lowpass
+mode-s-whole s lowpass e = prototype-whole (perPulse s) (modeSTrapezoid (perPulse s)) lowpass (rw (length-mode-s (perPulse s), e) (sum s))
+  where
+    sum : (s : SamplesPerPulse) → modeSPulse (perPulse s) + modeSTaps (perPulse s) - 1 ≡ prototypeLength (perPulse s)
+    sum Four = refl
+    sum Eight = refl
 
-pub mode-ac-whole : (lowpass : List Float) → length lowpass ≡ modeACTaps four → modeACPrototype four lowpass ≡ convolveFull (modeACTrapezoid four) lowpass
-mode-ac-whole lowpass e = prototype-whole four (modeACTrapezoid four) lowpass (rw (length-mode-ac four, e))
+pub mode-ac-whole : (s : SamplesPerPulse) (lowpass : List Float) → length lowpass ≡ modeACTaps (perPulse s) → modeACPrototype (perPulse s) lowpass ≡ convolveFull (modeACTrapezoid (perPulse s)) lowpass
+mode-ac-whole s lowpass e = prototype-whole (perPulse s) (modeACTrapezoid (perPulse s)) lowpass (rw (length-mode-ac (perPulse s), e) (sum s))
+  where
+    sum : (s : SamplesPerPulse) → modeACPulse (perPulse s) + modeACTaps (perPulse s) - 1 ≡ prototypeLength (perPulse s)
+    sum Four = refl
+    sum Eight = refl

@@ -135,13 +135,13 @@ module _ (P : Planned) where
 
   -- ---- samples
   abbrev SamplesWritten : ℕ → List Float → List Float → Type 0
-  SamplesWritten n memory′ output′ = _≡_ {A = DueBuffers} (record { memory = memory′; output = output′ }) (dueOf noise (t .written) (t .samples) n (record { memory = memory; output = output }))
+  SamplesWritten n memory′ output′ = _≡_ {A = DueBuffers} (record { memory = memory′; output = output′ }) (dueOf four noise (t .written) (t .samples) n (record { memory = memory; output = output }))
 
   samples-written-is : (n : ℕ) (m : Float) → Theory.Written G nan noise z n m → (memory′ output′ : List Float) → SamplesWritten n memory′ output′ → progressRead s modeS modeAC (progressAfterSamples t n m) memory′ rest output′ records ≡ progressWithSamples G nan noise z n m
   unfolding progressAfterSamples
   samples-written-is n m f memory′ output′ e = λ j. record {
     state = record {
-      memory = (samples-written-memory noise memory output memory′ output′ (t .written) (t .samples) n memory-is (f .noise-fits) (f .output-fits) e ∙ sym (any-memory (draws (filtersOf s modeS modeAC)) (s .total) memory (t .written) n)) j;
+      memory = (samples-written-memory four noise memory output memory′ output′ (t .written) (t .samples) n memory-is (f .noise-fits) (f .output-fits) e ∙ sym (any-memory (draws (filtersOf s modeS modeAC)) four (s .total) memory (t .written) n)) j;
       written = not-over (t .written + n) (t .written + n) refl (omega (arith, f .below, sized .run-in)) j;
       time = t .time;
       over = t .ended;
@@ -151,8 +151,8 @@ module _ (P : Planned) where
     samples = not-over (t .samples + n) (t .samples + n) refl (omega (arith, f .output-fits, sized .output-in)) j;
     lines = t .records;
     rest = rest;
-    output = (samples-written-output noise memory output memory′ output′ (t .written) (t .samples) n memory-is (f .noise-fits) (f .output-fits) e
-        ∙ ap (λ (l : List Float). overwritten (2 * t .samples) l output) (sym (any-samples (draws (filtersOf s modeS modeAC)) (s .total) memory (t .written) (take (2 * n) (drop (2 * t .samples) noise))))) j;
+    output = (samples-written-output four noise memory output memory′ output′ (t .written) (t .samples) n memory-is (f .noise-fits) (f .output-fits) e
+        ∙ ap (λ (l : List Float). overwritten (2 * t .samples) l output) (sym (any-samples (draws (filtersOf s modeS modeAC)) four (s .total) memory (t .written) (take (2 * n) (drop (2 * t .samples) noise))))) j;
     records = records;
   }
 

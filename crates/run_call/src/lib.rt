@@ -8,6 +8,7 @@ ghost use Rattle.run_call.specs.StepModel.{Inside, progressRead, restAft
 ghost use Rattle.run_call.specs.StateGenerator.{genOf};
 use constants::DRAW_LEN;
 use constants::RECORD_LEN;
+use constants::SamplesPerPulse;
 use draw::DrawFault;
 use message_config::Delays;
 use refusals::Refusal;
@@ -86,6 +87,7 @@ fn step(
     match p {
         Plan::Halt(_) => {}
         Plan::Drain(n) => run_due_samples::write_due(
+            SamplesPerPulse::Four,
             memory,
             noise,
             output,
@@ -94,6 +96,7 @@ fn step(
             n,
         ),
         Plan::Due(n, _) => run_due_samples::write_due(
+            SamplesPerPulse::Four,
             memory,
             noise,
             output,

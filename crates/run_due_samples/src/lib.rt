@@ -2,12 +2,13 @@
 ghost use mathlib.Core.Path.{_≡_};
 ghost use Prim.Native.Nat.{_+_, _*_, _/_, _%_, _≤_, _<_, min};
 ghost use lib.ListN.{length, drop, take};
+ghost use Rattle.constants.specs.Setting.{perPulse};
+ghost use Rattle.constants.specs.Rate.{replyLimit, holdBack, workingMemory};
 ghost use Rattle.run_call_model.specs.Buffers.{overwritten};
 ghost use Rattle.run_theory.specs.Zeros.{zeros};
 ghost use Rattle.run_due_samples.specs.DueModel.{mix, samplesOf, clearOf, fitsOf, DueBuffers, dueOf};
-use constants::MEMORY_LEN;
 use constants::NOISE_SCALE;
-use constants::RING_SLOTS_U64;
+use constants::SamplesPerPulse;
 
 // Writes a stretch of the memory with its noise.
 fn mix_stretch(
@@ -65,14 +66,16 @@ fn least(a: usize, b: usize) -> usize
 }
 
 // The slot of a sample in the memory.
-fn ring(n: u64) -> usize
-    ensures { λ r. ⌜ r ≡ n % 1126 ⌝ }
+fn ring(setting: SamplesPerPulse, n: u64) -> usize
+    ensures { λ r. ⌜ r ≡ n % (replyLimit (perPulse setting) + holdBack (perPulse setting)) ⌝ }
 {
-    (n % RING_SLOTS_U64) as usize
+    // by a number that is known where it is compiled, since a division is dear
+    setting.either(n % 1126, n % 2251) as usize
 }
 
 // Writes samples from sample `written` on, two numbers each, stretch by stretch.
 fn write_all(
+    setting: SamplesPerPulse,
     memory: &mut [f32],
     noise: &[f32],
     output: &mut [f32],
@@ -81,13 +84,13 @@ fn write_all(
     at: usize,
     values: usize,
 )
-    requires { ⌜ (length (now memory) ≡ 2252) × (values % 2 ≡ 0) × (from + values ≤ length (now noise)) × (at + values ≤ length (now output)) ⌝ }
-    ensures { λ _. ⌜ (now (output .exit) ≡ overwritten at (samplesOf (now (memory .entry)) written (take values (drop from (now (noise .entry))))) (now (output .entry))) × (now (memory .exit) ≡ clearOf (now (memory .entry)) written (values / 2)) ⌝ }
+    requires { ⌜ (length (now memory) ≡ workingMemory (perPulse setting)) × (values % 2 ≡ 0) × (from + values ≤ length (now noise)) × (at + values ≤ length (now output)) ⌝ }
+    ensures { λ _. ⌜ (now (output .exit) ≡ overwritten at (samplesOf (perPulse setting) (now (memory .entry)) written (take values (drop from (now (noise .entry))))) (now (output .entry))) × (now (memory .exit) ≡ clearOf (perPulse setting) (now (memory .entry)) written (values / 2)) ⌝ }
 {
-    let mut p = 2 * ring(written);
+    let mut p = 2 * ring(setting, written);
     let mut done: usize = 0;
     while done < values {
-        let len = least(MEMORY_LEN - p, values - done);
+        let len = least(setting.memory_len() - p, values - done);
         stretch(memory, noise, output, p, from + done, at + done, len);
         done = done + len;
         p = 0;
@@ -95,10 +98,17 @@ fn write_all(
 }
 
 // Memory has its length, and noise and output hold k samples and n more.
-fn fits(memory: usize, noise: usize, output: usize, samples: usize, n: usize) -> bool
-    ensures { λ r. ⌜ r ≡ fitsOf memory noise output samples n ⌝ }
+fn fits(
+    setting: SamplesPerPulse,
+    memory: usize,
+    noise: usize,
+    output: usize,
+    samples: usize,
+    n: usize,
+) -> bool
+    ensures { λ r. ⌜ r ≡ fitsOf (perPulse setting) memory noise output samples n ⌝ }
 {
-    if memory != MEMORY_LEN {
+    if memory != setting.memory_len() {
         return false;
     }
     let room = least(noise, output) / 2;
@@ -113,6 +123,7 @@ fn fits(memory: usize, noise: usize, output: usize, samples: usize, n: usize) ->
 
 // Writes n samples that are due, after k samples of the call. Where the buffers do not hold them, nothing is changed.
 pub fn write_due(
+    setting: SamplesPerPulse,
     memory: &mut [f32],
     noise: &[f32],
     output: &mut [f32],
@@ -120,11 +131,18 @@ pub fn write_due(
     samples: usize,
     n: usize,
 )
-    ensures { λ _. ⌜ record { memory = now (memory .exit); output = now (output .exit) } ≡ dueOf (now (noise .entry)) written samples n (record { memory = now (memory .entry); output = now (output .entry) }) ⌝ }
+    ensures { λ _. ⌜ record { memory = now (memory .exit); output = now (output .exit) } ≡ dueOf (perPulse setting) (now (noise .entry)) written samples n (record { memory = now (memory .entry); output = now (output .entry) }) ⌝ }
 {
-    if !fits(memory.len(), noise.len(), output.len(), samples, n) {
+    if !fits(
+        setting,
+        memory.len(),
+        noise.len(),
+        output.len(),
+        samples,
+        n,
+    ) {
         return;
     }
     let at = 2 * samples;
-    write_all(memory, noise, output, written, at, at, 2 * n);
+    write_all(setting, memory, noise, output, written, at, at, 2 * n);
 }

@@ -1,6 +1,7 @@
 -- `write_due` meets its contract: nothing is changed where the test fails, else `write_all` writes.
 use mathlib.Core.Path.{sym, _∙_}
 use lib.ListN.{length}
+use Rattle.constants.specs.Setting.{perPulse}
 use borrow.Author.Tests.{not-true, not-false}
 use Rattle.run_due_samples.proofs.BuffersTest.{Fits, fits-for, unchanged, changed}
 use borrow.Author.Needs.{needs}
@@ -10,16 +11,16 @@ use Rattle.run_due_samples.proofs.write_due.Tie as tie
 
 -- what the test showed
 abbrev Held : tie.Else1 → Type 0
-Held c = let a = c .before .before .before .before .before .args in Fits (length (a .memory .now)) (length (a .noise .now)) (length (a .output .now)) (a .samples) (a .n)
+Held c = let a = c .before .before .before .before .before .args in Fits (perPulse (a .setting)) (length (a .memory .now)) (length (a .noise .now)) (length (a .output .now)) (a .samples) (a .n)
 
 held : (c : tie.Else1) → Held c
-held c = fits-for _ _ _ _ _ (sym (c .before .fits2 .ensures) ∙ not-false _ (c .if1 .left))
+held c = fits-for _ _ _ _ _ _ (sym (c .before .fits2 .ensures) ∙ not-false _ (c .if1 .left))
 
 fits-requires : tie.Need-fits-requires
 fits-requires c κs = search needs
 
 returns : tie.Need-returns
-returns c = unchanged _ _ _ _ _ (sym (not-true _ (c .if1 .taken)) ∙ c .before .fits2 .ensures)
+returns c = unchanged _ _ _ _ _ _ (sym (not-true _ (c .if1 .taken)) ∙ c .before .fits2 .ensures)
 
 mul-at : tie.Need-mul-at
 mul-at c = omega (arith, held c .output-holds, c .before .before .before .before .before)
@@ -41,7 +42,7 @@ same-length-2 c = search needs
 returns-2 : tie.Need-returns-2
 returns-2 c =
     let e = c .before .before .before .before .before .before .before in
-    changed _ _ _ _ _ _ _ _ (search needs) (search needs) (sym (not-false _ (e .if1 .left)) ∙ e .before .fits2 .ensures)
+    changed _ _ _ _ _ _ _ _ _ (search needs) (search needs) (sym (not-false _ (e .if1 .left)) ∙ e .before .fits2 .ensures)
 
 pub write-due-spec : {M : Type 1} → statement M
 write-due-spec = tie.close (tie.spec fits-requires returns mul-at mul-write-all write-all-requires same-length same-length-2 returns-2)
