@@ -159,6 +159,8 @@ impl Load {
             b.extend(f64::to_le_bytes(first));
             b.extend(f64::to_le_bytes(second));
         }
+        // the Rust's trigger level
+        b.extend(0.5f32.to_le_bytes());
         b
     }
 }

@@ -1,4 +1,4 @@
-/* The reply generator for C and C++: opening a run, and run calls; and the parity of messages. Link
+/* The reply generator for C and C++: opening a run, and run calls; the parity of messages; and levels in decibels. Link
  * libmore1090.a and -lm (tools/library makes it).
  *
  * A run makes the samples of transponder replies at 8,000,000 a second, each a pair of floats, real part first, and a record
@@ -18,10 +18,11 @@
  * Lengths count values of the pointer's type: floats or bytes. Places and draws are counted from 0 in what is lent to that
  * call. Settings, draws and records are packed and little-endian, as on a tape (docs/SPECIFICATION.md, 4):
  *
- * Settings, 119 bytes: seconds u64; nanoseconds u32; seven rates f64, by type, in replies a second; three distributions,
+ * Settings, 123 bytes: seconds u64; nanoseconds u32; seven rates f64, by type, in replies a second; three distributions,
  *   each a kind u8 and two numbers f64. Carrier offset: 0 constant (Hz, at most 4,000,000 in size), 1 normal with sigma and
  *   max (Hz). Phase: 0 constant (radians), 1 uniform. Clock error: 0 constant (parts of one, at most 0.1 in size), 1 uniform
- *   with a max.
+ *   with a max. Then the trigger level f32, 0.1 to 0.9 (the nearest floats, both allowed): the part of a pulse's height at which
+ *   a reply's time is taken, 0.5 for the middle of its rise.
  * Types: 0 extended squitter, 1 acquisition squitter, 2 short with address parity, 3 all-call reply, 4 long with address
  *   parity, 5 military extended squitter, 6 Mode A/C.
  * Draw, 65 bytes, its fields: 0 gap f64, samples after the last draw, finite, not negative; 1 type u8, its rate above 0;
@@ -48,7 +49,7 @@ extern "C" {
 #define MORE1090_VERSION_PATCH 0
 
 #define MORE1090_SAMPLE_RATE 8000000 /* samples a second */
-#define MORE1090_SETTINGS_LEN 119
+#define MORE1090_SETTINGS_LEN 123
 #define MORE1090_MODE_S_TAPS_LEN 1486  /* floats: a lowpass at 512,000,000 taps a second */
 #define MORE1090_MODE_AC_TAPS_LEN 1515 /* floats: a lowpass at 512,000,000 * 1500 / 1450 taps a second */
 #define MORE1090_PROTOTYPE_LEN 1792    /* floats: each of the two prototypes */
@@ -64,12 +65,14 @@ enum {
     MORE1090_ERR_TOTAL_RATE = 3,    /* the rates' total is 0 or not finite */
     MORE1090_ERR_DISTRIBUTION = 4,  /* an unknown kind, or a parameter out of range; value: 0 carrier, 1 phase, 2 clock */
     MORE1090_ERR_TAPS = 5,          /* a filter of the wrong length, or a tap not finite or above 16 in size */
-    MORE1090_ERR_PROTOTYPE = 6, /* a prototype value not finite or above 16 in size, or no crossing of 0.5 */
+    MORE1090_ERR_PROTOTYPE = 6, /* a prototype value not finite or above 16 in size, or no crossing of the trigger level */
     MORE1090_ERR_DRAW = 7,      /* a field out of range; value: the first such draw, field: its first such field. Or a first
                                  * draw that jumps back: its time is before `latest` of the state; value 0, field 0 */
     MORE1090_ERR_NOISE = 8,         /* a noise value not finite or above 64 in size; value: its place */
-    MORE1090_ERR_LENGTH = 9           /* settings, memory, a prototype, output (0 or odd) or draws (no multiple of 65) of a wrong
+    MORE1090_ERR_LENGTH = 9,          /* settings, memory, a prototype, output (0 or odd) or draws (no multiple of 65) of a wrong
                                  * length */
+    MORE1090_ERR_LEVEL = 13,    /* a level above 200.0 dB, by more1090_level alone */
+    MORE1090_ERR_TRIGGER_LEVEL = 14 /* a trigger level below 0.1 or above 0.9, or a NaN */
 };
 
 /* Why a run call came back. */
@@ -109,7 +112,7 @@ typedef struct more1090_state {
 
 typedef struct more1090_open_result {
     more1090_state state;
-    uint64_t refusal; /* 0, or 1 to 6, or 9 */
+    uint64_t refusal; /* 0, or 1 to 6, 9 or 14 */
     uint64_t value;
 } more1090_open_result;
 
@@ -125,7 +128,7 @@ typedef struct more1090_run_result {
     uint64_t field;
 } more1090_run_result;
 
-/* Opens a run. Checks 9 (settings, mode_s, mode_ac, memory), then 1 to 6, and answers the first that fails: state is then
+/* Opens a run. Checks 9 (settings, mode_s, mode_ac, memory), then 1 to 4, 14, 5 and 6, and answers the first that fails: state is then
  * all zero, and nothing lent is changed. Else the refusal is 0, state is the run's before its first call, mode_s and mode_ac
  * hold the prototypes and memory is all 0.0. Settings and taps are not needed any more. */
 more1090_open_result more1090_open(const uint8_t *settings, size_t settings_length,
@@ -181,6 +184,14 @@ enum { MORE1090_NO_READING, MORE1090_II, MORE1090_SI, MORE1090_UNASSIGNED };
  * other overlays are unassigned. Answers the kind, and writes the II or SI code to *code, or 0 where there is none. Of other
  * bytes, however many, it answers MORE1090_NO_READING. code must point to a number. */
 uint32_t more1090_interrogator(const uint8_t *message, size_t message_length, uint32_t *code);
+
+#define MORE1090_HIGHEST_LEVEL 2000 /* tenths of a decibel */
+
+/* The amplitude of a level in tenths of a decibel, for a draw's field 3: 10^(tenths / 200) / 2,048,000, which is the reference's
+ * amplitude of a C/N0 of as many tenths of a dB Hz. It is within one part in 2^22 of that, and the nearest f32, ties to even, to
+ * a table's entry times a power of ten (SPECIFICATION 6.15). Answers MORE1090_OK and writes *amplitude; or MORE1090_ERR_LEVEL for
+ * tenths above 2000, whatever their size, and leaves it. amplitude must point to a float. (crates/more1090_level) */
+uint64_t more1090_level(uint64_t tenths, float *amplitude);
 
 #ifdef __cplusplus
 }

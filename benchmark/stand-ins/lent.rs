@@ -67,6 +67,11 @@ pub fn lend_taps(taps: &'static [f32]) {
     own().number += 1;
 }
 
+/// The level at which the benchmark's delays are taken.
+pub fn trigger_level() -> f32 {
+    0.5
+}
+
 /// The draw taken last.
 #[inline]
 pub fn draw() -> &'static Draw {

@@ -97,8 +97,8 @@ impl Bench {
         rules::settings(&s)?;
         rules::taps(mode_s, mode_ac)?;
         let taps = [mode_s, mode_ac].concat();
-        let [a, b] = judge::prototypes(&taps);
-        rules::prototypes([&a, &b])?;
+        let [a, b] = judge::prototypes(&taps, s.trigger_level);
+        rules::prototypes([&a, &b], s.trigger_level)?;
         Ok(Bench {
             settings: s,
             taps,
@@ -110,6 +110,10 @@ impl Bench {
             latest: None,
             replies: Vec::new(),
         })
+    }
+
+    pub fn trigger_level(&self) -> f32 {
+        self.settings.trigger_level
     }
 
     pub fn done(&self) -> bool {
@@ -142,7 +146,7 @@ impl Bench {
 
     pub fn call(&mut self, call: &Call) -> Result<Ran, Refusal> {
         let draws = self.check(call)?;
-        lent::lend_taps(&self.taps);
+        lent::lend_taps(&self.taps, self.settings.trigger_level);
         let mut ran = Ran {
             counts: Counts {
                 stop: Stop::Done,

@@ -2,6 +2,7 @@
 //! says each must answer. The format is in README.md.
 
 use crate::bench::{Bench, Call, Lengths, RIGHT_LENGTHS, Stop};
+use crate::make;
 use crate::random::Random;
 use crate::rules::Refusal;
 use crate::tape::*;
@@ -38,9 +39,9 @@ impl List {
         let mut expected = Vec::new();
         let bench = Bench::open(settings, mode_s, mode_ac, lent);
         match &bench {
-            Ok(_) => {
+            Ok(bench) => {
                 put_words(&mut expected, [0; 6]);
-                for p in crate::judge::prototypes(&[mode_s, mode_ac].concat()) {
+                for p in crate::judge::prototypes(&[mode_s, mode_ac].concat(), bench.trigger_level()) {
                     put_floats(&mut expected, &p);
                 }
                 put_floats(&mut expected, &vec![0.0; lent.memory]);
@@ -269,8 +270,8 @@ fn spoil(r: &mut Random, c: &mut Call) {
     }
 }
 
-/// Lengths of settings to try: none, too short, right, too long, and those of later settings.
-pub const SETTINGS_LENGTHS: [usize; 6] = [0, 118, 119, 120, 123, 124];
+/// Lengths of settings to try: none, those of earlier settings, too short, right, and too long.
+pub const SETTINGS_LENGTHS: [usize; 6] = [0, 119, 122, 123, 124, 127];
 
 /// An opening whose lengths, settings or taps may be wrong, with no call after it.
 pub fn random_opening(r: &mut Random, tape: &Tape) -> List {
@@ -292,6 +293,7 @@ pub fn random_opening(r: &mut Random, tape: &Tape) -> List {
         1 => s.rates[r.below(7)] = -1.0,
         2 => s.rates = [0.0; 7],
         3 => s.clock.kind = 2,
+        4 => s.trigger_level = r.pick(&make::LEVELS_OUT_OF_RANGE),
         _ => {}
     }
     let mut bytes = s.to_bytes();

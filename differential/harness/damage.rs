@@ -1,7 +1,7 @@
 //! Tapes at and beyond each limit of the specification: for each limit the last value inside and the first outside. What must
 //! come of each is worked out by the rules and the reference, as for any tape.
 
-use crate::make::MODE_AC_LIMIT;
+use crate::make::{GREATEST_LEVEL, LEAST_LEVEL, LEVELS_OUT_OF_RANGE, MODE_AC_LIMIT};
 use crate::tape::*;
 use std::f64::consts::PI;
 
@@ -74,6 +74,7 @@ fn go<'a>(base: &'a Tape, wanted: &'a dyn Fn(usize) -> bool) -> Maker<'a> {
     durations(&mut m);
     rates(&mut m);
     distributions(&mut m);
+    trigger_levels(&mut m);
     taps(&mut m);
     for draw in [0, base.draws.len() / 2, base.draws.len().saturating_sub(1)] {
         if draw < base.draws.len() {
@@ -169,6 +170,47 @@ fn distributions(m: &mut Maker) {
         m.change(format!("clock max {x:e}"), |t| {
             t.settings.clock = asked(1, x, f64::NAN)
         });
+    }
+}
+
+/// Trigger levels at and beyond the limits, and with what is checked before and after them.
+fn trigger_levels(m: &mut Maker) {
+    for x in [0.5, 0.25, LEAST_LEVEL, LEAST_LEVEL.next_up(), GREATEST_LEVEL, GREATEST_LEVEL.next_down()] {
+        m.change(format!("trigger level {x:e}"), |t| t.settings.trigger_level = x);
+    }
+    for x in LEVELS_OUT_OF_RANGE {
+        m.change(format!("trigger level {x:e}"), |t| t.settings.trigger_level = x);
+        m.change(format!("trigger level {x:e}, clock kind 2"), |t| {
+            t.settings.trigger_level = x;
+            t.settings.clock.kind = 2;
+        });
+        m.change(format!("trigger level {x:e}, a tap of 17"), |t| {
+            t.settings.trigger_level = x;
+            t.taps[0] = 17.0;
+        });
+        m.bytes(format!("trigger level {x:e}, nothing behind the settings"), |b| {
+            b[123..127].copy_from_slice(&x.to_le_bytes());
+            b.truncate(127);
+        });
+        m.bytes(format!("trigger level {x:e}, settings one byte short"), |b| {
+            b[123..127].copy_from_slice(&x.to_le_bytes());
+            b.truncate(126);
+        });
+    }
+    m.bytes("settings of 119 bytes".into(), |b| {
+        b.drain(123..127);
+    });
+    // One level for both: a prototype that crosses it beside one whose top is the level, or just above it.
+    for level in [LEAST_LEVEL, 0.25, GREATEST_LEVEL] {
+        for (from, to) in [(0, MODE_S_TAPS), (MODE_S_TAPS, TAPS)] {
+            for top in [level, level.next_up(), level.next_down()] {
+                m.change(format!("trigger level {level:e}, taps {from} on: {top:e}"), |t| {
+                    t.settings.trigger_level = level;
+                    t.taps[from..to].fill(0.0);
+                    t.taps[from] = top;
+                });
+            }
+        }
     }
 }
 

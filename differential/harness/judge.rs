@@ -82,9 +82,9 @@ thread_local! {
     static LAST: RefCell<Option<Made>> = const { RefCell::new(None) };
 }
 
-/// The two prototypes, Mode S and Mode A/C, of lent taps. Those of the taps lent last are kept.
-pub fn prototypes(taps: &[f32]) -> [Vec<f32>; 2] {
-    lent::lend_taps(taps);
+/// The two prototypes, Mode S and Mode A/C, of taps that are lent with a trigger level. Those of the taps lent last are kept.
+pub fn prototypes(taps: &[f32], level: f32) -> [Vec<f32>; 2] {
+    lent::lend_taps(taps, level);
     LAST.with_borrow_mut(|last| match last {
         Some((t, made)) if same_bits(t, taps) => made.clone(),
         _ => {
@@ -148,7 +148,7 @@ pub fn run(tape: &Tape) -> Result<Run, Stopped> {
 }
 
 pub fn run_in_batches(tape: &Tape, batch_size: usize) -> Result<Run, Stopped> {
-    lent::lend_taps(&tape.taps);
+    lent::lend_taps(&tape.taps, tape.settings.trigger_level);
     lent::lend(&tape.draws, &tape.noise);
     let done = catch_unwind(AssertUnwindSafe(|| go(tape, batch_size)));
     match done {

@@ -10,6 +10,24 @@ use std::f64::consts::PI;
 /// The largest clock error of a Mode A/C reply.
 pub const MODE_AC_LIMIT: f64 = f64::from_bits(0x3fb0_369d_0369_d028);
 
+/// The least and the greatest trigger level.
+pub const LEAST_LEVEL: f32 = 0.1;
+pub const GREATEST_LEVEL: f32 = 0.9;
+
+/// Trigger levels that are refused.
+pub const LEVELS_OUT_OF_RANGE: [f32; 10] = [
+    LEAST_LEVEL.next_down(),
+    GREATEST_LEVEL.next_up(),
+    f32::NAN,
+    -f32::NAN,
+    f32::INFINITY,
+    f32::NEG_INFINITY,
+    0.0,
+    -0.0,
+    -0.5,
+    1.0,
+];
+
 /// A low-pass filter: a Hamming-windowed sinc of that many taps, cutoff at 2 of 256, sum about 1.
 pub fn windowed_sinc(taps: usize) -> Vec<f32> {
     let middle = (taps - 1) as f64 / 2.0;
@@ -55,12 +73,12 @@ pub fn late(taps: usize) -> Vec<f32> {
     t
 }
 
-/// Both filters, such that the prototypes are accepted.
-pub fn taps(r: &mut Random) -> Vec<f32> {
+/// Both filters, such that the prototypes are accepted at the trigger level.
+pub fn taps(r: &mut Random, level: f32) -> Vec<f32> {
     loop {
         let t = [filter(r, MODE_S_TAPS), filter(r, MODE_AC_TAPS)].concat();
-        let [a, b] = judge::prototypes(&t);
-        if rules::prototypes([&a, &b]).is_ok() {
+        let [a, b] = judge::prototypes(&t, level);
+        if rules::prototypes([&a, &b], level).is_ok() {
             return t;
         }
     }
@@ -138,6 +156,22 @@ fn clock(r: &mut Random) -> Asked {
     }
 }
 
+/// 0.5, a level at or beside a limit, or any that is accepted.
+pub fn trigger_level(r: &mut Random) -> f32 {
+    let some = (f64::from(LEAST_LEVEL) + 0.8 * r.unit()) as f32;
+    match r.below(4) {
+        0 => 0.5,
+        1 => r.pick(&[
+            LEAST_LEVEL,
+            LEAST_LEVEL.next_up(),
+            0.25,
+            GREATEST_LEVEL.next_down(),
+            GREATEST_LEVEL,
+        ]),
+        _ => some.clamp(LEAST_LEVEL, GREATEST_LEVEL),
+    }
+}
+
 pub fn settings(r: &mut Random, samples: usize) -> Settings {
     Settings {
         seconds: 0,
@@ -146,6 +180,7 @@ pub fn settings(r: &mut Random, samples: usize) -> Settings {
         carrier: carrier(r),
         phase: phase(r),
         clock: clock(r),
+        trigger_level: trigger_level(r),
     }
 }
 
@@ -300,6 +335,11 @@ fn steep(r: &mut Random) -> Tape {
     let mut s = settings(r, samples);
     s.rates = [1.0; 7];
     s.clock = asked(1, 0.1, 0.0);
+    let taps = [late(MODE_S_TAPS), impulse(MODE_AC_TAPS, 0, 16.0)].concat();
+    let [a, b] = judge::prototypes(&taps, s.trigger_level);
+    if rules::prototypes([&a, &b], s.trigger_level).is_err() {
+        s.trigger_level = 0.5;
+    }
     let mut time: f64 = 0.0;
     let mut draws = Vec::new();
     for k in 0..r.between(4, 60) {
@@ -319,7 +359,7 @@ fn steep(r: &mut Random) -> Tape {
     draws.push(last);
     Tape {
         settings: s,
-        taps: [late(MODE_S_TAPS), impulse(MODE_AC_TAPS, 0, 16.0)].concat(),
+        taps,
         draws,
         noise: noise(r, samples),
     }
@@ -334,7 +374,7 @@ fn faint(r: &mut Random) -> Tape {
     s.carrier = asked(0, r.pick(&[1e-38, -1e-36, 1e-34, 1e-32]), 0.0);
     s.phase = asked(0, r.pick(&[0.0, -0.0]), 0.0);
     s.clock = asked(1, MODE_AC_LIMIT, 0.0);
-    let taps = taps(r);
+    let taps = taps(r, s.trigger_level);
     let draws = draws(r, &s, samples);
     let noise = noise(r, samples).iter().map(|x| x * 1e-40).collect();
     Tape {
@@ -359,7 +399,7 @@ pub fn tape(r: &mut Random) -> Tape {
             break s;
         }
     };
-    let taps = taps(r);
+    let taps = taps(r, settings.trigger_level);
     let draws = draws(r, &settings, samples);
     let noise = noise(r, samples);
     Tape {
@@ -405,6 +445,7 @@ pub fn worked() -> Tape {
             carrier: zero,
             phase: zero,
             clock: zero,
+            trigger_level: 0.5,
         },
         taps: [impulse(MODE_S_TAPS, 0, 1.0), impulse(MODE_AC_TAPS, 0, 1.0)].concat(),
         draws: vec![
@@ -437,6 +478,7 @@ pub fn worked_drawn() -> Tape {
     t.settings.clock = asked(1, 0.1, 0.0);
     t.draws[0].amplitude = 1.0;
     t.draws[1].clock = 0.05;
+    t.settings.trigger_level = 0.75;
     t.noise.truncate(4000);
     t
 }

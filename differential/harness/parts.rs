@@ -17,6 +17,7 @@ mod parts {
     pub mod flips;
     pub mod floats;
     pub mod interrogators;
+    pub mod levels;
     pub mod port;
     pub mod replies;
     pub mod runs;
@@ -43,6 +44,7 @@ fn main() {
     parts::replies::compare(&mut tally, &mut r, count);
     parts::flips::compare(&mut tally, &mut Random::new(seed), count);
     parts::interrogators::compare(&mut tally, &mut Random::new(seed), count);
+    parts::levels::compare(&mut tally, &mut Random::new(seed), count);
     parts::shape::compare(&mut tally, &mut r, count);
     parts::starts::compare(&mut tally, &mut r, count);
     parts::runs::compare(&mut tally, &mut Random::new(seed), number(3, 1000));

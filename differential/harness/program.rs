@@ -44,8 +44,8 @@ fn read(bytes: &[u8]) -> Result<(Tape, bool), Refusal> {
     r.count(|n| n == TAPS)?;
     let taps = floats(r.take(4 * TAPS)?);
     rules::taps(&taps[..MODE_S_TAPS], &taps[MODE_S_TAPS..])?;
-    let [mode_s, mode_ac] = judge::prototypes(&taps);
-    rules::prototypes([&mode_s, &mode_ac])?;
+    let [mode_s, mode_ac] = judge::prototypes(&taps, settings.trigger_level);
+    rules::prototypes([&mode_s, &mode_ac], settings.trigger_level)?;
     let n = r.count(|n| n <= MOST_DRAWS)?;
     let draws: Vec<Draw> = r
         .take(DRAW_BYTES * n)?

@@ -31,7 +31,7 @@ pub fn refused_draw(draw: u64, field: u64) -> Refusal {
     }
 }
 
-/// Refusals 1 to 4, in that order.
+/// Refusals 1 to 4 and 14, in that order.
 pub fn settings(s: &Settings) -> Result<(), Refusal> {
     if s.nanoseconds >= 1_000_000_000 || s.samples() > 1 << 52 {
         return Err(refusal(1));
@@ -48,8 +48,14 @@ pub fn settings(s: &Settings) -> Result<(), Refusal> {
     let right = [carrier(s.carrier), phase(s.phase), clock(s.clock)];
     match right.iter().position(|r| !r) {
         Some(k) => Err(refusal_at(4, k as u64)),
+        None if !trigger_level(s.trigger_level) => Err(refusal(14)),
         None => Ok(()),
     }
+}
+
+/// From 0.1 to 0.9, as the nearest f32; a NaN is not.
+fn trigger_level(level: f32) -> bool {
+    (0.1..=0.9).contains(&level)
 }
 
 fn carrier(d: Asked) -> bool {
@@ -83,11 +89,11 @@ pub fn taps(mode_s: &[f32], mode_ac: &[f32]) -> Result<(), Refusal> {
     if lengths && small { Ok(()) } else { Err(refusal(5)) }
 }
 
-/// Refusal 6, for the two prototypes.
-pub fn prototypes(all: [&[f32]; 2]) -> Result<(), Refusal> {
+/// Refusal 6, for the two prototypes, at one trigger level.
+pub fn prototypes(all: [&[f32]; 2], level: f32) -> Result<(), Refusal> {
     for p in all {
         let small = p.iter().all(|x| x.abs() <= 16.0);
-        let crosses = p.windows(2).any(|w| w[0] <= 0.5 && 0.5 < w[1]);
+        let crosses = p.windows(2).any(|w| w[0] <= level && level < w[1]);
         if !small || !crosses {
             return Err(refusal(6));
         }

@@ -2,7 +2,7 @@
 
 pub use lent::Draw;
 
-pub const SETTINGS_BYTES: usize = 119;
+pub const SETTINGS_BYTES: usize = 123;
 pub const DRAW_BYTES: usize = 65;
 pub const RECORD_BYTES: usize = 66;
 pub const MODE_S_TAPS: usize = 1486;
@@ -26,6 +26,7 @@ pub struct Settings {
     pub carrier: Asked,
     pub phase: Asked,
     pub clock: Asked,
+    pub trigger_level: f32,
 }
 
 #[derive(Debug, Clone)]
@@ -54,6 +55,7 @@ impl Settings {
             b.extend(d.first.to_le_bytes());
             b.extend(d.second.to_le_bytes());
         }
+        b.extend(self.trigger_level.to_le_bytes());
         assert_eq!(b.len(), SETTINGS_BYTES);
         b
     }
@@ -71,6 +73,7 @@ impl Settings {
             carrier: asked(68),
             phase: asked(85),
             clock: asked(102),
+            trigger_level: f32_at(b, 119),
         }
     }
 }

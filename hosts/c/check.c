@@ -1,5 +1,6 @@
 /* What the header says of lengths, tried: a pointer lent with length 0 may be NULL, and settings, prototypes and working
- * memory of another length are refused 9 before anything else is looked at. It exits with 0 where all is so.
+ * memory of another length are refused 9 before anything else is looked at. And what it says of levels that are refused. It
+ * exits with 0 where all is so.
  *
  *     c_check */
 #include "inputs.h"
@@ -28,7 +29,7 @@ static uint64_t opened_without(const void *none) {
 }
 
 static void check_opening(void) {
-    const size_t lengths[] = {0, 118, 120, 123, 124};
+    const size_t lengths[] = {0, 119, 122, 124, 128};
     const uint32_t second = 1000000000;
     expect("no settings", MORE1090_ERR_LENGTH, opened_without(settings));
     expect("no Mode S prototype", MORE1090_ERR_LENGTH, opened_without(mode_s));
@@ -37,6 +38,10 @@ static void check_opening(void) {
     expect("no Mode S taps", MORE1090_ERR_TAPS, opened_without(taps_s));
     expect("no Mode A/C taps", MORE1090_ERR_TAPS, opened_without(taps_ac));
     expect("nothing", MORE1090_ERR_LENGTH, more1090_open(NULL, 0, NULL, 0, NULL, 0, NULL, 0, NULL, 0, NULL, 0).refusal);
+    make_settings(settings, 0.05f);
+    expect("a trigger level below 0.1", MORE1090_ERR_TRIGGER_LEVEL, opened_without(taps_s));
+    make_settings(settings, 0.9f);
+    expect("a trigger level of 0.9", MORE1090_OK, opened_without(NULL));
     put(settings + 8, &second, 4); /* refusal 1, where it is read */
     expect("nanoseconds", MORE1090_ERR_DURATION, opened_without(NULL));
     for (int k = 0; k < 5; k++)
@@ -57,7 +62,7 @@ static more1090_run_result called(more1090_state state, size_t d, size_t n, size
 }
 
 static void check_calls(void) {
-    make_settings(settings);
+    make_settings(settings, 0.5f);
     make_draw(draws, 0);
     make_draw(draws + MORE1090_DRAW_LEN, 1);
     const more1090_state state =
@@ -68,19 +73,37 @@ static void check_calls(void) {
     expect("no draws, no noise, no records", MORE1090_STOP_WANTS_DRAWS, called(state, 0, 0, 400, 0).stop);
     expect("no noise", MORE1090_STOP_WANTS_NOISE, called(state, sizeof draws, 0, 400, sizeof records).stop);
     expect("no output", MORE1090_ERR_LENGTH, called(state, sizeof draws, 2, 0, sizeof records).refusal);
-    expect("noise for one sample", 1, called(state, sizeof draws, 2, 400, 0).samples);
+    expect("noise for one sample", 1, called(state, sizeof draws, 2, 400, 0).samples_written);
     put_f64(draws, 20.0); /* a first reply that starts within 32 samples: its record comes before any sample */
     expect("no records", MORE1090_STOP_RECORDS_FULL, called(state, sizeof draws, 2, 400, 0).stop);
     expect("nothing", MORE1090_ERR_LENGTH,
            more1090_run(state, NULL, 0, NULL, 0, NULL, 0, NULL, 0, NULL, 0, NULL, 0, NULL, 0).refusal);
 }
 
+static uint32_t bits_of(float x) {
+    uint32_t bits;
+    memcpy(&bits, &x, 4);
+    return bits;
+}
+
+static void check_levels(void) {
+    const uint64_t too_high[] = {2001, 65536, 4294967296, UINT64_MAX};
+    float amplitude = 0.0f;
+    expect("200.0 dB", MORE1090_OK, more1090_level(MORE1090_HIGHEST_LEVEL, &amplitude));
+    expect("its bits", 0x45989680, bits_of(amplitude));
+    for (int k = 0; k < 4; k++) {
+        expect("a level above 200.0 dB", MORE1090_ERR_LEVEL, more1090_level(too_high[k], &amplitude));
+        expect("what it leaves", 0x45989680, bits_of(amplitude));
+    }
+}
+
 int main(void) {
-    make_settings(settings);
+    make_settings(settings, 0.5f);
     make_taps(taps_s, MORE1090_MODE_S_TAPS_LEN);
     make_taps(taps_ac, MORE1090_MODE_AC_TAPS_LEN);
     expect("all that is asked for", MORE1090_OK, opened_without(NULL));
     check_opening();
     check_calls();
+    check_levels();
     return failed;
 }

@@ -67,7 +67,7 @@ static void run(unsigned word, int guarded, outcome *to) {
 static void make_case(double offset) {
     const double least = 5e-324;
     const uint8_t constant = 0;
-    make_settings(settings);
+    make_settings(settings, 0.5f);
     make_taps(taps_s, MORE1090_MODE_S_TAPS_LEN);
     make_taps(taps_ac, MORE1090_MODE_AC_TAPS_LEN);
     for (unsigned n = 0; n <= DRAWS; n++)

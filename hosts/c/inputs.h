@@ -11,8 +11,9 @@ static uint8_t *put(uint8_t *to, const void *value, size_t bytes) {
 
 static uint8_t *put_f64(uint8_t *to, double x) { return put(to, &x, 8); }
 
-/* 10 ms, a rate for every type, and distributions: the carrier 50 kHz off, the phase as drawn, the clock right. */
-static void make_settings(uint8_t *to) {
+/* 10 ms, a rate for every type, distributions (the carrier 50 kHz off, the phase as drawn, the clock right), and the trigger
+ * level. */
+static void make_settings(uint8_t *to, float trigger_level) {
     const uint64_t seconds = 0;
     const uint32_t nanoseconds = 10000000;
     const uint8_t kinds[3] = {0, 1, 0};
@@ -26,6 +27,7 @@ static void make_settings(uint8_t *to) {
         to = put_f64(to, firsts[k]);
         to = put_f64(to, 0.0);
     }
+    put(to, &trigger_level, 4);
 }
 
 /* A lowpass of sum 1: a raised cosine of 128 taps in the middle. */
@@ -53,4 +55,13 @@ static void make_draw(uint8_t *to, unsigned n) {
     for (int k = 0; k < 14; k++)
         *to++ = (uint8_t)(16 * n + k);
     put(to, &data, 2);
+}
+
+/* Gives a draw a level in tenths of a decibel, as C/N0 and as amplitude. Answers 0; or the refusal, and then leaves the draw. */
+static inline uint64_t set_level(uint8_t *draw, uint64_t tenths) {
+    float amplitude;
+    const uint64_t refusal = more1090_level(tenths, &amplitude);
+    if (refusal == MORE1090_OK)
+        put(put_f64(draw + 9, (double)tenths / 10), &amplitude, 4);
+    return refusal;
 }

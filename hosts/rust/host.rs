@@ -1,15 +1,17 @@
 //! A whole run from Rust: random replies as the published Rust draws them, windowed-sinc lowpasses, normal noise, cf32 out.
 //!
-//!     rust_host SECONDS REPLIES_A_SECOND SEED OUTPUT [RECORDS]
+//!     rust_host [--trigger-level PART] SECONDS REPLIES_A_SECOND SEED OUTPUT [RECORDS [LEVEL]]
 //!
 //! OUTPUT gets pairs of f32 at 8,000,000 a second (`-`: standard output); RECORDS a line for each reply: first sample,
-//! type, count of samples, time in samples, CN0 in dB Hz, message. Progress goes to standard error. The draws and the
-//! noise have a generator each, so that what comes out does not depend on how much is lent at a time.
+//! type, count of samples, time in samples, CN0 in dB Hz, message (`-`: nowhere). LEVEL, in dB with one digit after the point
+//! or none, is that of every reply; else each has its own, by distance. Progress goes to standard error. The draws and the
+//! noise have a generator each, so that what comes out does not depend on how much is lent at a time. PART is the trigger level,
+//! 0.1 to 0.9 of a pulse's height (0.5).
 mod draws;
 mod more1090_generator;
-use draws::{CLOCK_MAX, Random, WEIGHTS};
+use draws::{CLOCK_MAX, Level, Random, WEIGHTS};
 use more1090_generator::{
-    STOP_DONE, DRAW_LEN, MODE_AC_TAPS_LEN, MODE_S_TAPS_LEN, RECORD_LEN, Run, SETTINGS_LEN,
+    STOP_DONE, DRAW_LEN, MODE_AC_TAPS_LEN, MODE_S_TAPS_LEN, RECORD_LEN, Run, SETTINGS_LEN, level, tenths_of_db,
 };
 use std::f64::consts::PI;
 use std::fs::File;
@@ -27,7 +29,7 @@ fn lowpass(taps: usize, cutoff: f64) -> Vec<f32> {
     (0..taps).map(|k| (tap(k) / sum) as f32).collect()
 }
 
-fn settings(seconds: f64, rate: f64) -> [u8; SETTINGS_LEN] {
+fn settings(seconds: f64, rate: f64, trigger_level: f32) -> [u8; SETTINGS_LEN] {
     let mut s = Vec::new();
     s.extend((seconds as u64).to_le_bytes());
     s.extend(((seconds.fract() * 1e9) as u32).to_le_bytes());
@@ -39,6 +41,7 @@ fn settings(seconds: f64, rate: f64) -> [u8; SETTINGS_LEN] {
         s.extend(first.to_le_bytes());
         s.extend(second.to_le_bytes());
     }
+    s.extend(trigger_level.to_le_bytes());
     s.try_into().unwrap()
 }
 
@@ -58,25 +61,31 @@ fn line(r: &[u8]) -> String {
     )
 }
 
+/// A refusal by its number.
+fn refused(number: u64) -> Error {
+    Error::other(format!("refused {number}"))
+}
+
 fn simulate(
     seconds: f64,
     rate: f64,
+    trigger_level: f32,
     seed: u64,
+    level: Option<Level>,
     out: &mut dyn Write,
     lines: &mut dyn Write,
 ) -> Result<()> {
     let taps_s = lowpass(MODE_S_TAPS_LEN, 2.0);
     let taps_ac = lowpass(MODE_AC_TAPS_LEN, 2.0 * 1450.0 / 1500.0);
-    let refused = |n: u64| Error::other(format!("refused {n}"));
-    let mut run =
-        Run::open(&settings(seconds, rate), &taps_s, &taps_ac).map_err(|r| refused(r.0))?;
+    let mut run = Run::open(&settings(seconds, rate, trigger_level), &taps_s, &taps_ac)
+        .map_err(|r| refused(r.0))?;
     let (mut drawn, mut noisy) = (Random(seed), Random(!seed));
     let (mut draws, mut noise) = (Vec::new(), Vec::new());
     let (mut output, mut records) = (vec![0.0; 1 << 17], vec![0; 64 * RECORD_LEN]);
     let (mut replies, mut told) = (0, 0);
     loop {
         while draws.len() < 64 * DRAW_LEN {
-            draws.extend(drawn.draw(rate));
+            draws.extend(drawn.draw(rate, level));
         }
         while noise.len() < output.len() {
             noise.extend(noisy.normals().map(|x| x as f32));
@@ -110,14 +119,27 @@ fn simulate(
     }
 }
 
+fn usage() -> ! {
+    eprintln!("usage: rust_host [--trigger-level PART] SECONDS REPLIES_A_SECOND SEED OUTPUT [RECORDS [LEVEL]]");
+    std::process::exit(2)
+}
+
 fn main() -> Result<()> {
-    let args: Vec<String> = std::env::args().skip(1).collect();
+    let mut args: Vec<String> = std::env::args().skip(1).collect();
+    let mut trigger_level = 0.5;
+    if args.len() > 1 && args[0] == "--trigger-level" {
+        trigger_level = args[1].parse().unwrap_or_else(|_| usage());
+        args.drain(..2);
+    }
     let number = |k: usize| args.get(k).and_then(|a| a.parse::<f64>().ok());
     let (Some(seconds), Some(rate), Some(seed), Some(output)) =
         (number(0), number(1), number(2), args.get(3))
     else {
-        eprintln!("usage: rust_host SECONDS REPLIES_A_SECOND SEED OUTPUT [RECORDS]");
-        std::process::exit(2);
+        usage();
+    };
+    let level = match args.get(5).map(|text| tenths_of_db(text).unwrap_or_else(|| usage())) {
+        Some(tenths) => Some(Level { cn0: tenths as f64 / 10.0, amplitude: level(tenths).map_err(refused)? }),
+        None => None,
     };
     let mut out: Box<dyn Write> = if output == "-" {
         Box::new(stdout())
@@ -125,10 +147,10 @@ fn main() -> Result<()> {
         Box::new(File::create(output)?)
     };
     let mut lines: Box<dyn Write> = match args.get(4) {
-        Some(file) => Box::new(BufWriter::new(File::create(file)?)),
-        None => Box::new(sink()),
+        Some(file) if file != "-" => Box::new(BufWriter::new(File::create(file)?)),
+        _ => Box::new(sink()),
     };
-    match simulate(seconds, rate, seed as u64, &mut out, &mut lines) {
+    match simulate(seconds, rate, trigger_level, seed as u64, level, &mut out, &mut lines) {
         Err(e) if e.kind() == ErrorKind::BrokenPipe => Ok(()),
         other => other,
     }

@@ -4,12 +4,13 @@
 mod more1090_generator;
 mod shell;
 mod commands {
+    pub mod level;
     pub mod message;
 }
 
 use shell::{Command, Failure};
 
-const COMMANDS: &[Command] = &[commands::message::COMMAND];
+const COMMANDS: &[Command] = &[commands::level::COMMAND, commands::message::COMMAND];
 
 const VERSION: &str = include_str!("../../VERSION");
 

@@ -3,7 +3,7 @@
 // A program uses a part of it.
 #![allow(dead_code)]
 
-pub const SETTINGS_LEN: usize = 119;
+pub const SETTINGS_LEN: usize = 123;
 pub const MODE_S_TAPS_LEN: usize = 1486;
 pub const MODE_AC_TAPS_LEN: usize = 1515;
 pub const PROTOTYPE: usize = 1792;
@@ -207,4 +207,27 @@ pub fn interrogator(message: &[u8]) -> Option<Interrogator> {
         2 => Some(Interrogator::Si(code)),
         _ => Some(Interrogator::Unassigned),
     }
+}
+
+unsafe extern "C" {
+    safe fn more1090_level(tenths: u64, amplitude: &mut f32) -> u64;
+}
+
+/// The amplitude of a level in tenths of a decibel, or the refusal's number above 2000.
+pub fn level(tenths: u64) -> Result<f32, u64> {
+    let mut amplitude = 0.0;
+    match more1090_level(tenths, &mut amplitude) {
+        0 => Ok(amplitude),
+        refusal => Err(refusal),
+    }
+}
+
+/// The tenths of a level that is written in dB, with one digit after the point or none; a number past u64 as the largest.
+pub fn tenths_of_db(text: &str) -> Option<u64> {
+    let (whole, tenth) = text.split_once('.').unwrap_or((text, "0"));
+    let digits = |t: &str| !t.is_empty() && t.bytes().all(|b| b.is_ascii_digit());
+    if !digits(whole) || !digits(tenth) || tenth.len() != 1 {
+        return None;
+    }
+    Some(format!("{whole}{tenth}").parse().unwrap_or(u64::MAX))
 }

@@ -1,11 +1,11 @@
 -- What the theorems over the rate ask of it holds at both settings: bounds, and branches that are a power of two.
-use mathlib.Core.Path.{_≡_, refl, sym}
+use mathlib.Core.Path.{_≡_, refl, sym, _∙_}
 use native.Mathlib.Nat.{le-trans, le-of-eq}
-use Prim.Native.Nat.{ℕ, _+_, _^_, _≤_, _<_}
+use Prim.Native.Nat.{ℕ, _^_, _≤_, _<_}
 use lib.Dec.{lit≤, lit<}
 use Rattle.constants.specs.declared.SamplesPerPulse.{SamplesPerPulse}
 use Rattle.constants.specs.declared.SamplesPerPulse.the-variants.{Four, Eight}
-use Rattle.constants.specs.Rate.{branches, prototypeLength, modeSTaps, modeACTaps, replyLimit, holdBack, workingMemory}
+use Rattle.constants.specs.Rate.{branches}
 use Rattle.constants.specs.Setting.{perPulse, either}
 
 pub rate-pos : (s : SamplesPerPulse) → 0 < perPulse s
@@ -33,44 +33,11 @@ pub few-branches : (s : SamplesPerPulse) → 2 ^ branchBits s ≤ 2 ^ 20
 few-branches Four = lit≤ tt
 few-branches Eight = lit≤ tt
 
--- ---- the numbers that the code has, at each setting
-abbrev pub Is : (ℕ → ℕ) → SamplesPerPulse → ℕ → ℕ → Type 0
-Is f s a b = either s a b ≡ f (perPulse s)
-
-pub number-is : (s : SamplesPerPulse) → Is (λ n. n) s 4 8
+-- ---- a number that the code has for each setting is that of a definition
+pub either-is : (f : ℕ → ℕ) (s : SamplesPerPulse) (a b r : ℕ) → r ≡ either s a b → a ≡ f 4 → b ≡ f 8 → r ≡ f (perPulse s)
 unfolding either
-number-is Four = refl
-number-is Eight = refl
-
-pub branches-is : (s : SamplesPerPulse) → Is branches s 256 512
-unfolding either
-branches-is Four = refl
-branches-is Eight = refl
-
-pub prototype-is : (s : SamplesPerPulse) → Is prototypeLength s 1792 3584
-unfolding either
-prototype-is Four = refl
-prototype-is Eight = refl
-
-pub mode-s-taps-is : (s : SamplesPerPulse) → Is modeSTaps s 1486 2971
-unfolding either
-mode-s-taps-is Four = refl
-mode-s-taps-is Eight = refl
-
-pub mode-ac-taps-is : (s : SamplesPerPulse) → Is modeACTaps s 1515 3029
-unfolding either
-mode-ac-taps-is Four = refl
-mode-ac-taps-is Eight = refl
-
-pub slots-is : (s : SamplesPerPulse) → Is (λ n. replyLimit n + holdBack n) s 1126 2251
-unfolding either
-slots-is Four = refl
-slots-is Eight = refl
-
-pub memory-is : (s : SamplesPerPulse) → Is workingMemory s 2252 4502
-unfolding either
-memory-is Four = refl
-memory-is Eight = refl
+either-is f Four a b r e p q = e ∙ p
+either-is f Eight a b r e p q = e ∙ q
 
 -- between the two, where the first is not the larger
 pub between : (s : SamplesPerPulse) (a b r : ℕ) → a ≤ b → r ≡ either s a b → (a ≤ r) × (r ≤ b)

@@ -1,4 +1,4 @@
-// The numbers that follow from the samples per pulse, and the bytes of settings, draws and records. specs/Rate has the former.
+// The numbers that follow from the samples per pulse, and the bytes of draws and records. specs/Rate has the former.
 ghost use mathlib.Core.Path.{_≡_};
 ghost use Prim.Native.Nat.{min, _≤_, _+_};
 ghost use Rattle.constants.specs.Setting.{perPulse, either};
@@ -103,9 +103,7 @@ pub const MEMORY_LEN: usize = 2 * RING_SLOTS;
 // What a noise value is multiplied by, 2^-10.
 pub const NOISE_SCALE: f32 = 0.0009765625;
 
-// Bytes of the settings, of a draw and of a record.
-pub const SETTINGS_LEN: usize = 119;
-
+// Bytes of a draw and of a record.
 pub const DRAW_LEN: usize = 65;
 
 pub const RECORD_LEN: usize = 66;

@@ -118,7 +118,7 @@ refusal-above Refusal.the-variants.Log e = absurd (omega arith)
 refusal-above Refusal.the-variants.Feeds e = absurd (omega arith)
 refusal-above (Refusal.the-variants.Record k) e = absurd (omega arith)
 
-opened-as : (tapsS tapsAC : List Float) (settings : List ℕ) (given : Opening.OpenBuffers) (o : Opened.Opened) → Opening.openedOf four Opening.half tapsS tapsAC settings given ≡ o → openedFlat o .refusal ≡ 0
+opened-as : (tapsS tapsAC : List Float) (settings : List ℕ) (given : Opening.OpenBuffers) (o : Opened.Opened) → Opening.openedOf four tapsS tapsAC settings given ≡ o → openedFlat o .refusal ≡ 0
     → (r : Run) × Demand3InC tapsS tapsAC settings given (openedFlat o .state) r
 unfolding openedFlat
 opened-as tapsS tapsAC settings given (Opened.the-variants.Refused q) e h = absurd (refusal-above q h)

@@ -61,7 +61,7 @@ unfolding ranFlat
 ran-flat r f a p q = λ i. record { state = p i; answer = q i }
 
 module _ (tapsS tapsAC : List Float) (bytes : List ℕ) (lent : Opening.OpenBuffers) where
-  pub open-flat : (o : Opened.Opened) (after : Opening.OpenBuffers) → (o ≡ Opening.openedOf four Opening.half tapsS tapsAC bytes lent) × (after ≡ Opening.leftBy four tapsS tapsAC o lent) → (r : FlatOpened) → r ≡ openedFlat o → (r ≡ openedFlat (Opening.openedOf four Opening.half tapsS tapsAC bytes lent)) × (after ≡ Opening.leftBy four tapsS tapsAC (Opening.openedOf four Opening.half tapsS tapsAC bytes lent) lent)
+  pub open-flat : (o : Opened.Opened) (after : Opening.OpenBuffers) → (o ≡ Opening.openedOf four tapsS tapsAC bytes lent) × (after ≡ Opening.leftBy four tapsS tapsAC o lent) → (r : FlatOpened) → r ≡ openedFlat o → (r ≡ openedFlat (Opening.openedOf four tapsS tapsAC bytes lent)) × (after ≡ Opening.leftBy four tapsS tapsAC (Opening.openedOf four tapsS tapsAC bytes lent) lent)
   open-flat o after e r p = (p ∙ ap openedFlat (e .0), e .1 ∙ ap (λ (x : Opened.Opened). Opening.leftBy four tapsS tapsAC x lent) (e .0))
 
 module _ (f : FlatState) (modeS modeAC memory : List Float) (draws : List ℕ) (noise output : List Float) (records : List ℕ) where

@@ -35,6 +35,6 @@ module _ (tapsS tapsAC : List Float) (lent : Opening.OpenBuffers) where
   opening-kept (Opened.the-variants.Run s) h = absurd (h refl)
   opening-kept (Opened.the-variants.Refused q) h = refl
 
-  pub refused-opening : (bytes : List ℕ) → let o = Opening.openedOf four Opening.half tapsS tapsAC bytes lent in
+  pub refused-opening : (bytes : List ℕ) → let o = Opening.openedOf four tapsS tapsAC bytes lent in
       (openedFlat o .refusal ≡ 0 → ⊥) → Opening.leftBy four tapsS tapsAC o lent ≡ lent
-  refused-opening bytes = opening-kept (Opening.openedOf four Opening.half tapsS tapsAC bytes lent)
+  refused-opening bytes = opening-kept (Opening.openedOf four tapsS tapsAC bytes lent)

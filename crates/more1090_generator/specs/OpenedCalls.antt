@@ -36,5 +36,5 @@ pub record Demand3InC (tapsS tapsAC : List Float) (settings : List ℕ) (given :
 
 abbrev pub OpenedCalls : Type 0
 OpenedCalls = (tapsS tapsAC : List Float) (settings : List ℕ) (given : Opening.OpenBuffers) →
-    let o = Opening.openedOf four Opening.half tapsS tapsAC settings given in
+    let o = Opening.openedOf four tapsS tapsAC settings given in
     openedFlat o .refusal ≡ 0 → (r : Run) × Demand3InC tapsS tapsAC settings given (openedFlat o .state) r

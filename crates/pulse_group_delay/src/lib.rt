@@ -18,7 +18,8 @@ fn delay_at(level: f32, j: usize, a: f32, b: f32) -> f64
 {
     let from = std::num::f32_to_f64_with_nan(a);
     let to = std::num::f32_to_f64_with_nan(b);
-    let tau = (std::num::f32_to_f64_with_nan(level) - from) / (to - from);
+    let at = std::num::f32_to_f64_with_nan(level);
+    let tau = (at - from) / (to - from);
     (std::num::nearest_u64_to_f64(j as u64) + tau) / 64.0
 }
 

@@ -1,1 +1,1 @@
-pub mod AtSettings
+pub mod Required

@@ -44,7 +44,7 @@ over ratio None = None
 unfoldable pub modeACGroupDelay : ℕ → Float → List Float → Crossing
 modeACGroupDelay sps level prototype = over modeACRatio (groupDelay sps level prototype)
 
--- a crossing in the specification's terms: a delay, or, for "no 0.5 crossing", refusal 6
+-- a crossing in the specification's terms: a delay, or, where the level is not crossed, refusal 6
 unfoldable pub crossingAnswer : Crossing → Answer Float
 crossingAnswer (At delay) = accepted delay
 crossingAnswer None = refused Prototype

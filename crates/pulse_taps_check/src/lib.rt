@@ -30,7 +30,8 @@ pub fn all_within_16(values: &[f32]) -> bool
 pub fn mode_s_taps_accepted(setting: SamplesPerPulse, taps: &[f32]) -> bool
     ensures { λ r. ⌜ r ≡ modeSTapsAccepted (perPulse setting) (now (taps .entry)) ⌝ }
 {
-    if taps.len() == setting.mode_s_taps_len() {
+    let mode_s_len = setting.mode_s_taps_len();
+    if taps.len() == mode_s_len {
         return all_within_16(taps);
     }
     false
@@ -39,7 +40,8 @@ pub fn mode_s_taps_accepted(setting: SamplesPerPulse, taps: &[f32]) -> bool
 pub fn mode_ac_taps_accepted(setting: SamplesPerPulse, taps: &[f32]) -> bool
     ensures { λ r. ⌜ r ≡ modeACTapsAccepted (perPulse setting) (now (taps .entry)) ⌝ }
 {
-    if taps.len() == setting.mode_ac_taps_len() {
+    let mode_ac_len = setting.mode_ac_taps_len();
+    if taps.len() == mode_ac_len {
         return all_within_16(taps);
     }
     false

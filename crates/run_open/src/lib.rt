@@ -5,7 +5,7 @@ ghost use lib.ListN.{length};
 ghost use Rattle.run_theory.specs.Zeros.{zeros};
 ghost use Rattle.run_open.specs.FillModel.{over};
 ghost use Rattle.constants.specs.Rate.{four};
-ghost use Rattle.run_open_checks.specs.Opening.{half, openedOf, isRun, leftBy};
+ghost use Rattle.run_open_checks.specs.Opening.{openedOf, isRun, leftBy};
 use constants::PROTOTYPE_LEN;
 use constants::least;
 use run_open_checks::Opened;
@@ -69,7 +69,7 @@ pub fn open(
     mode_ac: &mut [f32],
     memory: &mut [f32],
 ) -> Opened
-    ensures { λ r. ⌜ (r ≡ openedOf four half (now («taps_s» .entry)) (now («taps_ac» .entry)) (now (settings .entry)) (record { modeS = now («mode_s» .entry); modeAC = now («mode_ac» .entry); memory = now (memory .entry) })) × (record { modeS = now («mode_s» .exit); modeAC = now («mode_ac» .exit); memory = now (memory .exit) } ≡ leftBy four (now («taps_s» .entry)) (now («taps_ac» .entry)) r (record { modeS = now («mode_s» .entry); modeAC = now («mode_ac» .entry); memory = now (memory .entry) })) ⌝ }
+    ensures { λ r. ⌜ (r ≡ openedOf four (now («taps_s» .entry)) (now («taps_ac» .entry)) (now (settings .entry)) (record { modeS = now («mode_s» .entry); modeAC = now («mode_ac» .entry); memory = now (memory .entry) })) × (record { modeS = now («mode_s» .exit); modeAC = now («mode_ac» .exit); memory = now (memory .exit) } ≡ leftBy four (now («taps_s» .entry)) (now («taps_ac» .entry)) r (record { modeS = now («mode_s» .entry); modeAC = now («mode_ac» .entry); memory = now (memory .entry) })) ⌝ }
 {
     let p = run_open_checks::prepare(
         settings,

@@ -30,14 +30,14 @@ use Rattle.run_open_checks.specs.Opening.{OpenBuffers, firstState, buffe
 -- the lengths, from facts and to facts
 pub fits-if : (settings modeS modeAC memory : ℕ) → Fits settings modeS modeAC memory → true ≡ buffersFit four settings modeS modeAC memory
 unfolding buffersFit
-fits-if settings modeS modeAC memory f = sym (rw (eq-eqb settings 119 (f .settings-is), eq-eqb memory 2252 (f .memory-is), eq-eqb modeS 1792 (f .mode-s-is), eq-eqb modeAC 1792 (f .mode-ac-is)))
+fits-if settings modeS modeAC memory f = sym (rw (eq-eqb settings 123 (f .settings-is), eq-eqb memory 2252 (f .memory-is), eq-eqb modeS 1792 (f .mode-s-is), eq-eqb modeAC 1792 (f .mode-ac-is)))
 
 pub fits-for : (settings modeS modeAC memory : ℕ) → buffersFit four settings modeS modeAC memory ≡ true → Fits settings modeS modeAC memory
 unfolding buffersFit
-fits-for settings modeS modeAC memory e = go (eqb settings 119) refl (eqb memory 2252) refl (eqb modeS 1792) refl (eqb modeAC 1792) refl e
+fits-for settings modeS modeAC memory e = go (eqb settings 123) refl (eqb memory 2252) refl (eqb modeS 1792) refl (eqb modeAC 1792) refl e
   where
-    go : (z : Bool) → eqb settings 119 ≡ z → (a : Bool) → eqb memory 2252 ≡ a → (b : Bool) → eqb modeS 1792 ≡ b → (c : Bool) → eqb modeAC 1792 ≡ c → z && a && b && c ≡ true → Fits settings modeS modeAC memory
-    go true o true p true q true r e = record { settings-is = eqb-true settings 119 o; mode-s-is = eqb-true modeS 1792 q; mode-ac-is = eqb-true modeAC 1792 r; memory-is = eqb-true memory 2252 p }
+    go : (z : Bool) → eqb settings 123 ≡ z → (a : Bool) → eqb memory 2252 ≡ a → (b : Bool) → eqb modeS 1792 ≡ b → (c : Bool) → eqb modeAC 1792 ≡ c → z && a && b && c ≡ true → Fits settings modeS modeAC memory
+    go true o true p true q true r e = record { settings-is = eqb-true settings 123 o; mode-s-is = eqb-true modeS 1792 q; mode-ac-is = eqb-true modeAC 1792 r; memory-is = eqb-true memory 2252 p }
     go false o a p b q c r e = absurd (false≢true e)
     go true o false p b q c r e = absurd (false≢true e)
     go true o true p false q c r e = absurd (false≢true e)
@@ -117,37 +117,38 @@ module _ (level : Float) (tapsS tapsAC : List Float) where
         ∙ (λ i. delaysThen rates total all ((g ∙ ap (modeSDelay four level) e) i) ((h ∙ ap (modeACDelay four level) f) i))
         ∙ taps-pass (sym a ∙ b) (sym c ∙ d)
 
-  -- refusal 9, then 1 to 4
+module _ (tapsS tapsAC : List Float) where
+  -- refusal 9, then 1 to 4 and 14
   module _ (bytes : List ℕ) (modeS modeAC memory : ℕ) where
     by-buffers : (b : Bool) → buffersFit four (length bytes) modeS modeAC memory ≡ b
-        → cond b (settingsThen four level tapsS tapsAC (settingsOf bytes .rates) (acceptedOf four (settingsOf bytes))) (Refused Cause.Length) ≡ openedFor four level tapsS tapsAC bytes modeS modeAC memory
+        → cond b (settingsThen four tapsS tapsAC (settingsOf bytes) (acceptedOf four (settingsOf bytes))) (Refused Cause.Length) ≡ openedFor four tapsS tapsAC bytes modeS modeAC memory
     unfolding openedFor
-    by-buffers b e = ap (λ (x : Bool). cond x (settingsThen four level tapsS tapsAC (settingsOf bytes .rates) (acceptedOf four (settingsOf bytes))) (Refused Cause.Length)) (sym e)
+    by-buffers b e = ap (λ (x : Bool). cond x (settingsThen four tapsS tapsAC (settingsOf bytes) (acceptedOf four (settingsOf bytes))) (Refused Cause.Length)) (sym e)
 
-    pub buffers-refused : buffersFit four (length bytes) modeS modeAC memory ≡ false → Refused Cause.Length ≡ openedFor four level tapsS tapsAC bytes modeS modeAC memory
+    pub buffers-refused : buffersFit four (length bytes) modeS modeAC memory ≡ false → Refused Cause.Length ≡ openedFor four tapsS tapsAC bytes modeS modeAC memory
     buffers-refused = by-buffers false
 
     -- the settings, and what their check gives
     module _ (s : Settings) (x : Checked.Checked) (held : s ≡ settingsOf bytes) (checks : x ≡ acceptedOf four s) (fit : buffersFit four (length bytes) modeS modeAC memory ≡ true) where
-      by-settings : settingsThen four level tapsS tapsAC (s .rates) x ≡ openedFor four level tapsS tapsAC bytes modeS modeAC memory
+      by-settings : settingsThen four tapsS tapsAC s x ≡ openedFor four tapsS tapsAC bytes modeS modeAC memory
       by-settings =
-          ap (settingsThen four level tapsS tapsAC (s .rates)) checks
-          ∙ ap (λ (z : Settings). settingsThen four level tapsS tapsAC (z .rates) (acceptedOf four z)) held
+          ap (settingsThen four tapsS tapsAC s) checks
+          ∙ ap (λ (z : Settings). settingsThen four tapsS tapsAC z (acceptedOf four z)) held
           ∙ by-buffers true fit
 
-      pub settings-refused : (r : Refusal) → x ≡ Checked.the-variants.Refused r → Refused r ≡ openedFor four level tapsS tapsAC bytes modeS modeAC memory
+      pub settings-refused : (r : Refusal) → x ≡ Checked.the-variants.Refused r → Refused r ≡ openedFor four tapsS tapsAC bytes modeS modeAC memory
       unfolding settingsThen
-      settings-refused r e = ap (settingsThen four level tapsS tapsAC (s .rates)) (sym e) ∙ by-settings
+      settings-refused r e = ap (settingsThen four tapsS tapsAC s) (sym e) ∙ by-settings
 
-      pub settings-pass : (total : ℕ) (all : Distributions) → x ≡ Checked.the-variants.Accepted total all → tapsOf four level tapsS tapsAC (s .rates) total all ≡ openedFor four level tapsS tapsAC bytes modeS modeAC memory
+      pub settings-pass : (total : ℕ) (all : Distributions) → x ≡ Checked.the-variants.Accepted total all → tapsOf four (s .«trigger_level») tapsS tapsAC (s .rates) total all ≡ openedFor four tapsS tapsAC bytes modeS modeAC memory
       unfolding settingsThen
-      settings-pass total all e = ap (settingsThen four level tapsS tapsAC (s .rates)) (sym e) ∙ by-settings
+      settings-pass total all e = ap (settingsThen four tapsS tapsAC s) (sym e) ∙ by-settings
 
-      pub settings-given : {r : Opened} (total : ℕ) (all : Distributions) → x ≡ Checked.the-variants.Accepted total all → r ≡ tapsOf four level tapsS tapsAC (s .rates) total all → r ≡ openedFor four level tapsS tapsAC bytes modeS modeAC memory
+      pub settings-given : {r : Opened} (total : ℕ) (all : Distributions) → x ≡ Checked.the-variants.Accepted total all → r ≡ tapsOf four (s .«trigger_level») tapsS tapsAC (s .rates) total all → r ≡ openedFor four tapsS tapsAC bytes modeS modeAC memory
       settings-given total all e k = k ∙ settings-pass total all e
 
     -- a run is opened only where the buffers fit
-    pub run-fits : (o : Opened) → o ≡ openedFor four level tapsS tapsAC bytes modeS modeAC memory → isRun o ≡ true → Fits (length bytes) modeS modeAC memory
+    pub run-fits : (o : Opened) → o ≡ openedFor four tapsS tapsAC bytes modeS modeAC memory → isRun o ≡ true → Fits (length bytes) modeS modeAC memory
     unfolding isRun
     run-fits o e t = fits-for (length bytes) modeS modeAC memory (go (buffersFit four (length bytes) modeS modeAC memory) refl)
       where
@@ -155,7 +156,7 @@ module _ (level : Float) (tapsS tapsAC : List Float) where
         go true f = refl
         go false f = ap isRun (buffers-refused f ∙ sym e) ∙ t
 
-    pub prepared : {o : Opened} {p q : List Float} → o ≡ openedFor four level tapsS tapsAC bytes modeS modeAC memory → p ≡ modeSPrototype four tapsS → q ≡ modeACPrototype four tapsAC
-        → record { opened = o; «mode_s» = p; «mode_ac» = q } ≡ preparedOf four level tapsS tapsAC bytes modeS modeAC memory
+    pub prepared : {o : Opened} {p q : List Float} → o ≡ openedFor four tapsS tapsAC bytes modeS modeAC memory → p ≡ modeSPrototype four tapsS → q ≡ modeACPrototype four tapsAC
+        → record { opened = o; «mode_s» = p; «mode_ac» = q } ≡ preparedOf four tapsS tapsAC bytes modeS modeAC memory
     unfolding preparedOf
     prepared e f g = λ i. record { opened = e i; «mode_s» = f i; «mode_ac» = g i }

@@ -1,4 +1,4 @@
--- Refusals 9, 1 to 4, 5 and 6 of opening are each given for their cause only, and for the first cause in the order of SPECIFICATION 3.2: opening's answer is one that `Answered` of specs/ allows (`answered`), and no other (`only`).
+-- Refusals 9, 1 to 4, 14, 5 and 6 of opening are each given for their cause only, and for the first cause in the order of SPECIFICATION 3.2: opening's answer is one that `Answered` of specs/ allows (`answered`), and no other (`only`).
 -- So a run is opened exactly where none has a cause (`opens`).
 use Prim.Native.Nat.{ℕ, zero, suc, _+_, _<_}
 use mathlib.Core.Path.{_≡_, refl, sym, _∙_}
@@ -27,7 +27,7 @@ use Rattle.settings.proofs.FirstCause as SettingsCause
 use Rattle.run_open_checks.specs.declared.Opened.{Opened}
 use Rattle.run_open_checks.specs.declared.Opened.the-variants.{Run, Refused}
 use Rattle.run_open_checks.specs.Opening.{OpenBuffers, firstState, buffersFit, modeSDelay, modeACDelay, delaysGiven, delaysThen, delaysOf, tapsOf, settingsThen, openedFor, openedOf}
-use Rattle.run_open_checks.specs.FirstCause.{Fits, AllWithin16, GoodTaps, Crosses, GoodPrototype, BuffersFit, NoEarlierCause, BothTaps, BothPrototypes, Answered, refused-9, refused-1-to-4, refused-5, refused-6, accepted}
+use Rattle.run_open_checks.specs.FirstCause.{Fits, AllWithin16, GoodTaps, Crosses, GoodPrototype, BuffersFit, NoEarlierCause, BothTaps, BothPrototypes, levelOf, Answered, refused-9, refused-settings, refused-5, refused-6, accepted}
 use Rattle.run_open_checks.proofs.Decided.{fits-if, fits-for, mode-s-delay-of, mode-ac-delay-of, no-mode-s, no-mode-ac, both-found, mode-s-taps-refused, mode-ac-taps-refused, taps-pass, buffers-refused, settings-refused, settings-pass}
 
 -- ---- the tests decide these facts
@@ -120,9 +120,12 @@ mode-ac-says : (level : Float) (p : List Float) → DelaySays level p (modeACGro
 unfolding modeACDelay modeACGroupDelay groupDelay
 mode-ac-says level p = delay-says level p _ (over-says level modeACRatio p (delayFrom four level 0 p) (crossing-says four level 0 p))
 
-module _ (level : Float) (tapsS tapsAC : List Float) (bytes : List ℕ) (l : OpenBuffers) where
+module _ (tapsS tapsAC : List Float) (bytes : List ℕ) (l : OpenBuffers) where
+  abbrev level : Float
+  level = levelOf bytes
+
   abbrev Right : Opened → Type 0
-  Right = Answered level tapsS tapsAC bytes l
+  Right = Answered tapsS tapsAC bytes l
 
   -- ---- for its cause only
   by-delays : (n : ℕ) (d : Distributions) → NoEarlierCause bytes l n d → BothTaps tapsS tapsAC
@@ -142,17 +145,17 @@ module _ (level : Float) (tapsS tapsAC : List Float) (bytes : List ℕ) (l : Ope
   by-taps n d P true f false g = refused-5 P (λ both. g (both .1))
   by-taps n d P false f ac g = refused-5 P (λ both. f (both .0))
 
-  by-settings : BuffersFit bytes l → (c : Checked.Checked) → Settings.Answered four (settingsOf bytes) c → Right (settingsThen four level tapsS tapsAC (settingsOf bytes .rates) c)
+  by-settings : BuffersFit bytes l → (c : Checked.Checked) → Settings.Answered four (settingsOf bytes) c → Right (settingsThen four tapsS tapsAC (settingsOf bytes) c)
   unfolding settingsThen tapsOf modeSTapsAccepted modeACTapsAccepted
   by-settings f (Checked.the-variants.Accepted n d) s = by-taps n d (record { lent = f; settings = s }) (modeSTapsAccepted four tapsS) (taps-decide (modeSTaps four) tapsS) (modeACTapsAccepted four tapsAC) (taps-decide (modeACTaps four) tapsAC)
-  by-settings f (Checked.the-variants.Refused q) s = refused-1-to-4 f s
+  by-settings f (Checked.the-variants.Refused q) s = refused-settings f s
 
-  pub answered : Right (openedOf four level tapsS tapsAC bytes l)
+  pub answered : Right (openedOf four tapsS tapsAC bytes l)
   unfolding openedOf openedFor
   answered = go (buffersFit four (length bytes) (length (l .modeS)) (length (l .modeAC)) (length (l .memory))) (buffers-decides (length bytes) (length (l .modeS)) (length (l .modeAC)) (length (l .memory)))
     where
       go : (b : Bool) → Decides b (BuffersFit bytes l)
-          → Right (cond b (settingsThen four level tapsS tapsAC (settingsOf bytes .rates) (acceptedOf four (settingsOf bytes))) (Refused Cause.Length))
+          → Right (cond b (settingsThen four tapsS tapsAC (settingsOf bytes) (acceptedOf four (settingsOf bytes))) (Refused Cause.Length))
       go true f = by-settings f (acceptedOf four (settingsOf bytes)) (SettingsCause.answered four (settingsOf bytes))
       go false f = refused-9 f
 
@@ -160,9 +163,9 @@ module _ (level : Float) (tapsS tapsAC : List Float) (bytes : List ℕ) (l : Ope
   fit : BuffersFit bytes l → buffersFit four (length bytes) (length (l .modeS)) (length (l .modeAC)) (length (l .memory)) ≡ true
   fit = holds _ (buffers-decides (length bytes) (length (l .modeS)) (length (l .modeAC)) (length (l .memory)))
 
-  passes : (n : ℕ) (d : Distributions) → NoEarlierCause bytes l n d → openedOf four level tapsS tapsAC bytes l ≡ tapsOf four level tapsS tapsAC (settingsOf bytes .rates) n d
+  passes : (n : ℕ) (d : Distributions) → NoEarlierCause bytes l n d → openedOf four tapsS tapsAC bytes l ≡ tapsOf four level tapsS tapsAC (settingsOf bytes .rates) n d
   unfolding openedOf
-  passes n d P = sym (settings-pass level tapsS tapsAC bytes _ _ _ (settingsOf bytes) _ refl refl (fit (P .lent)) n d (SettingsCause.only four (settingsOf bytes) _ (P .settings)))
+  passes n d P = sym (settings-pass tapsS tapsAC bytes _ _ _ (settingsOf bytes) _ refl refl (fit (P .lent)) n d (SettingsCause.only four (settingsOf bytes) _ (P .settings)))
 
   good-taps : BothTaps tapsS tapsAC → (modeSTapsAccepted four tapsS ≡ true) × (modeACTapsAccepted four tapsAC ≡ true)
   unfolding modeSTapsAccepted modeACTapsAccepted
@@ -194,10 +197,10 @@ module _ (level : Float) (tapsS tapsAC : List Float) (bytes : List ℕ) (l : Ope
         go (At a) e f None h g = no-mode-ac _ n d _ _ a e h
         go None e f y h g = no-mode-s _ n d _ _ e
 
-  pub only : (c : Opened) → Right c → openedOf four level tapsS tapsAC bytes l ≡ c
+  pub only : (c : Opened) → Right c → openedOf four tapsS tapsAC bytes l ≡ c
   unfolding delaysOf openedOf
-  only c (refused-9 f) = sym (buffers-refused level tapsS tapsAC bytes _ _ _ (fails _ (buffers-decides (length bytes) (length (l .modeS)) (length (l .modeAC)) (length (l .memory))) f))
-  only c (refused-1-to-4 {q} f s) = sym (settings-refused level tapsS tapsAC bytes _ _ _ (settingsOf bytes) _ refl refl (fit f) q (SettingsCause.only four (settingsOf bytes) _ s))
+  only c (refused-9 f) = sym (buffers-refused tapsS tapsAC bytes _ _ _ (fails _ (buffers-decides (length bytes) (length (l .modeS)) (length (l .modeAC)) (length (l .memory))) f))
+  only c (refused-settings {q} f s) = sym (settings-refused tapsS tapsAC bytes _ _ _ (settingsOf bytes) _ refl refl (fit f) q (SettingsCause.only four (settingsOf bytes) _ s))
   only c (refused-5 {n} {d} P t) = passes n d P ∙ sym (taps-refused n d t)
   only c (refused-6 {n} {d} P t p) = passes n d P ∙ sym (prototype-refused n d p ∙ taps-go-on n d t)
   only c (accepted {n} {d} {a} {b} P t p f g) =
@@ -205,12 +208,12 @@ module _ (level : Float) (tapsS tapsAC : List Float) (bytes : List ℕ) (l : Ope
       ∙ sym (both-found _ n d _ _ a b (mode-s-delay-of four level _ (within-16 level _ (p .0)) ∙ f) (mode-ac-delay-of four level _ (within-16 level _ (p .1)) ∙ g) ∙ taps-go-on n d t)
 
   -- a run is opened where no refusal has a cause
-  pub opens : (n : ℕ) (d : Distributions) → NoEarlierCause bytes l n d → BothTaps tapsS tapsAC → BothPrototypes level tapsS tapsAC → (s : State) × (openedOf four level tapsS tapsAC bytes l ≡ Run s)
+  pub opens : (n : ℕ) (d : Distributions) → NoEarlierCause bytes l n d → BothTaps tapsS tapsAC → BothPrototypes level tapsS tapsAC → (s : State) × (openedOf four tapsS tapsAC bytes l ≡ Run s)
   opens n d P t p = go (modeSDelay four level (modeSPrototype four tapsS)) (mode-s-says level (modeSPrototype four tapsS)) (modeACDelay four level (modeACPrototype four tapsAC)) (mode-ac-says level (modeACPrototype four tapsAC))
     where
       go : (x : Crossing) → DelaySays level (modeSPrototype four tapsS) (groupDelay four level (modeSPrototype four tapsS)) x
           → (y : Crossing) → DelaySays level (modeACPrototype four tapsAC) (modeACGroupDelay four level (modeACPrototype four tapsAC)) y
-          → (s : State) × (openedOf four level tapsS tapsAC bytes l ≡ Run s)
+          → (s : State) × (openedOf four tapsS tapsAC bytes l ≡ Run s)
       go (At a) f (At b) g = (_, only _ (accepted P t p (f .1) (g .1)))
       go (At a) f None g = absurd (g (p .1))
       go None f y g = absurd (f (p .0))

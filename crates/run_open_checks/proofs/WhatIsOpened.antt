@@ -1,14 +1,12 @@
--- What an opened run gives, beside that no refusal has a cause (`FirstCause`): its delays and distributions are in range and it has at most 2^52 samples (`opened-in-range`); and it stands where the theory of lists of calls begins (`opened-first`).
+-- What an opened run gives, beside that no refusal has a cause (`FirstCause`): its delays and distributions are in range and it has at most 2^52 samples (`opened-run-in-range`), at every trigger level that is accepted; and it stands where the theory of lists of calls begins (`opened-first`).
 use Prim.Native.Nat.{ℕ, _^_, _≤_}
 use mathlib.Core.Path.{_≡_, refl, sym, subst}
 use mathlib.Core.Bool.{true}
 use mathlib.Core.List.{List}
 use lib.Dec.{T}
-use lib.Ieee.{Float, nan, binary32, fits, ofBits, lt}
-use lib.Ieee.Bits.{ofBits-fits}
+use lib.Ieee.{Float, nan}
 use Rattle.constants.specs.Rate.{four}
 use Rattle.run_call_model.specs.Machine as Machine
-use Rattle.message_config.proofs.InRange.{zeroF}
 use Rattle.pulse_shape.specs.declared.Crossing.the-variants.{At}
 use Rattle.pulse_shape.specs.Prototype.{modeSPrototype, modeACPrototype}
 use Rattle.pulse_shape.specs.Accepted.{allWithin16}
@@ -22,13 +20,13 @@ use Rattle.settings.specs.declared.Checked as Checked
 use Rattle.settings.specs.Settings.{settingsOf}
 use Rattle.settings.specs.Accepted.{acceptedOf}
 use Rattle.settings.proofs.FirstCause as Settings
-use Rattle.settings.proofs.InRange.{read-held}
+use Rattle.settings.proofs.InRange.{read-held, accepted-level}
 use Rattle.run_open_checks.specs.declared.Opened as Opened
-use Rattle.run_open_checks.specs.Opening.{OpenBuffers, half, firstState, openedOf, leftBy}
-use Rattle.run_open_checks.specs.FirstCause.{Answered, refused-9, refused-1-to-4, refused-5, refused-6, accepted}
+use Rattle.run_open_checks.specs.Opening.{OpenBuffers, firstState, openedOf, leftBy}
+use Rattle.run_open_checks.specs.FirstCause.{levelOf, Answered, refused-9, refused-settings, refused-5, refused-6, accepted}
 use Rattle.run_open_checks.proofs.FirstCause.{answered, within-16}
 
-module _ (level : Float) (tapsS tapsAC : List Float) (bytes : List ℕ) (l : OpenBuffers) where
+module _ (tapsS tapsAC : List Float) (bytes : List ℕ) (l : OpenBuffers) where
   -- what a run's range depends on, and that its state is the first one
   pub record Accepts (state : State) : Type 0 where
     pub total : ℕ
@@ -36,17 +34,17 @@ module _ (level : Float) (tapsS tapsAC : List Float) (bytes : List ℕ) (l : Ope
     pub modeS : Float
     pub modeAC : Float
     pub settings : acceptedOf four (settingsOf bytes) ≡ Checked.the-variants.Accepted total all
-    pub delay-s : (allWithin16 (modeSPrototype four tapsS) ≡ true) × (groupDelay four level (modeSPrototype four tapsS) ≡ At modeS)
-    pub delay-ac : (allWithin16 (modeACPrototype four tapsAC) ≡ true) × (modeACGroupDelay four level (modeACPrototype four tapsAC) ≡ At modeAC)
+    pub delay-s : (allWithin16 (modeSPrototype four tapsS) ≡ true) × (groupDelay four (levelOf bytes) (modeSPrototype four tapsS) ≡ At modeS)
+    pub delay-ac : (allWithin16 (modeACPrototype four tapsAC) ≡ true) × (modeACGroupDelay four (levelOf bytes) (modeACPrototype four tapsAC) ≡ At modeAC)
     pub is : state ≡ firstState (settingsOf bytes .rates) total all modeS modeAC
 
   abbrev Told : Opened.Opened → Type 0
   Told (Opened.the-variants.Run state) = Accepts state
   Told (Opened.the-variants.Refused refusal) = T true
 
-  told : (c : Opened.Opened) → Answered level tapsS tapsAC bytes l c → Told c
+  told : (c : Opened.Opened) → Answered tapsS tapsAC bytes l c → Told c
   told c (refused-9 f) = tt
-  told c (refused-1-to-4 f s) = tt
+  told c (refused-settings f s) = tt
   told c (refused-5 P t) = tt
   told c (refused-6 P t p) = tt
   told c (accepted {n} {d} {a} {b} P t p f g) =
@@ -61,18 +59,17 @@ module _ (level : Float) (tapsS tapsAC : List Float) (bytes : List ℕ) (l : Ope
         is = refl;
       }
 
-  module _ (state : State) (opens : openedOf four level tapsS tapsAC bytes l ≡ Opened.the-variants.Run state) where
+  module _ (state : State) (opens : openedOf four tapsS tapsAC bytes l ≡ Opened.the-variants.Run state) where
     pub what-is-opened : Accepts state
-    what-is-opened = subst Told opens (told _ (answered level tapsS tapsAC bytes l))
+    what-is-opened = subst Told opens (told _ (answered tapsS tapsAC bytes l))
 
-    -- for a level above 0.0
-    pub opened-in-range : T (fits binary32 level) → T (lt zeroF level)
-        → Range.FiltersInRange (filtersOf state (modeSPrototype four tapsS) (modeACPrototype four tapsAC)) × (state .total ≤ 2 ^ 52)
+    pub opened-run-in-range : Range.FiltersInRange (filtersOf state (modeSPrototype four tapsS) (modeACPrototype four tapsAC)) × (state .total ≤ 2 ^ 52)
     unfolding firstState
-    opened-in-range F above =
+    opened-run-in-range =
         let w = what-is-opened in
+        let held = read-held bytes in
         subst (λ (s : State). Range.FiltersInRange (filtersOf s (modeSPrototype four tapsS) (modeACPrototype four tapsAC)) × (s .total ≤ 2 ^ 52)) (sym (w .is))
-        (Range.opened-in-range Four (settingsOf bytes) (read-held bytes) level F above tapsS tapsAC (w .total) (w .all) (w .modeS) (w .modeAC) (w .settings) (w .delay-s .0) (w .delay-ac .0) (w .delay-s .1) (w .delay-ac .1))
+        (Range.opened-in-range Four (settingsOf bytes) held (levelOf bytes) (held .level) (accepted-level four (settingsOf bytes) (w .total) (w .all) (w .settings)) tapsS tapsAC (w .total) (w .all) (w .modeS) (w .modeAC) (w .settings) (w .delay-s .0) (w .delay-ac .0) (w .delay-s .1) (w .delay-ac .1))
 
     -- with what opening leaves in working memory it is the theory's opened state
     pub opened-first :
@@ -84,9 +81,3 @@ module _ (level : Float) (tapsS tapsAC : List Float) (bytes : List ℕ) (l : Ope
         subst (λ (s : State). _≡_ {A = Machine.State (genOf s (modeSPrototype four tapsS) (modeACPrototype four tapsAC)) nan}
         (record { memory = leftBy four tapsS tapsAC (Opened.the-variants.Run s) l .memory; written = s .written; time = s .time; over = s .ended; mark = s .latest })
         (Machine.opened (genOf s (modeSPrototype four tapsS) (modeACPrototype four tapsAC)) nan)) (sym (what-is-opened .is)) refl
-
--- at level 0.5
-pub opened-run-in-range : (tapsS tapsAC : List Float) (bytes : List ℕ) (l : OpenBuffers) (state : State) → openedOf four half tapsS tapsAC bytes l ≡ Opened.the-variants.Run state
-    → Range.FiltersInRange (filtersOf state (modeSPrototype four tapsS) (modeACPrototype four tapsAC)) × (state .total ≤ 2 ^ 52)
-unfolding ofBits lt
-opened-run-in-range tapsS tapsAC bytes l state opens = opened-in-range half tapsS tapsAC bytes l state opens (ofBits-fits binary32 0x3f00_0000) tt

@@ -1,4 +1,4 @@
--- Which answer of opening is right: refusals 9, 1 to 4, 5 and 6 each for its cause, and for the first cause in the order of SPECIFICATION 3.2.
+-- Which answer of opening is right: refusals 9, 1 to 4, 14, 5 and 6 each for its cause, and for the first cause in the order of SPECIFICATION 3.2.
 use Prim.Native.Nat.{ℕ, suc, _<_}
 use mathlib.Core.Path.{_≡_}
 use mathlib.Core.Bool.{true}
@@ -45,11 +45,11 @@ pub record GoodPrototype (level : Float) (prototype : List Float) : Type 0 where
   pub within : AllWithin16 prototype
   pub crossing : Crosses level prototype
 
--- no cause for 9 (SPECIFICATION 3.1), and the settings have 119 bytes
+-- no cause for 9 (SPECIFICATION 3.1), and the settings have 123 bytes
 abbrev pub BuffersFit : List ℕ → OpenBuffers → Type 0
 BuffersFit bytes l = Fits (length bytes) (length (l .modeS)) (length (l .modeAC)) (length (l .memory))
 
--- refusals 9 and 1 to 4 do not apply: the run has n samples and the distributions d
+-- refusals 9, 1 to 4 and 14 do not apply: the run has n samples and the distributions d
 pub record NoEarlierCause (bytes : List ℕ) (l : OpenBuffers) (n : ℕ) (d : Distributions) : Type 0 where
   pub lent : BuffersFit bytes l
   pub settings : Settings.Answered four (settingsOf bytes) (Checked.the-variants.Accepted n d)
@@ -61,12 +61,16 @@ BothTaps tapsS tapsAC = GoodTaps (modeSTaps four) tapsS × GoodTaps (modeACTaps 
 abbrev pub BothPrototypes : Float → List Float → List Float → Type 0
 BothPrototypes level tapsS tapsAC = GoodPrototype level (modeSPrototype four tapsS) × GoodPrototype level (modeACPrototype four tapsAC)
 
--- which answer is right: each refusal for its cause, where no earlier one applies, and a run where none does. The level is 0.5 (SPECIFICATION 1.5).
-pub data Answered (level : Float) (tapsS tapsAC : List Float) (bytes : List ℕ) (l : OpenBuffers) : Opened → Type 0 where
-  refused-9 : (BuffersFit bytes l → ⊥) → Answered level tapsS tapsAC bytes l (Refused Cause.Length)
-  refused-1-to-4 : {q : Refusal} → BuffersFit bytes l → Settings.Answered four (settingsOf bytes) (Checked.the-variants.Refused q) → Answered level tapsS tapsAC bytes l (Refused q)
-  refused-5 : {n : ℕ} {d : Distributions} → NoEarlierCause bytes l n d → (BothTaps tapsS tapsAC → ⊥) → Answered level tapsS tapsAC bytes l (Refused Cause.Taps)
-  refused-6 : {n : ℕ} {d : Distributions} → NoEarlierCause bytes l n d → BothTaps tapsS tapsAC → (BothPrototypes level tapsS tapsAC → ⊥) → Answered level tapsS tapsAC bytes l (Refused Cause.Prototype)
-  accepted : {n : ℕ} {d : Distributions} {a b : Float} → NoEarlierCause bytes l n d → BothTaps tapsS tapsAC → BothPrototypes level tapsS tapsAC
-      → groupDelay four level (modeSPrototype four tapsS) ≡ At a → modeACGroupDelay four level (modeACPrototype four tapsAC) ≡ At b
-      → Answered level tapsS tapsAC bytes l (Run (firstState (settingsOf bytes .rates) n d a b))
+-- the settings' trigger level, one for both prototypes
+abbrev pub levelOf : List ℕ → Float
+levelOf bytes = settingsOf bytes .«trigger_level»
+
+-- which answer is right: each refusal for its cause, where no earlier one applies, and a run where none does. `refused-settings` is refusals 1 to 4 and 14, in the order of `Settings.Answered`.
+pub data Answered (tapsS tapsAC : List Float) (bytes : List ℕ) (l : OpenBuffers) : Opened → Type 0 where
+  refused-9 : (BuffersFit bytes l → ⊥) → Answered tapsS tapsAC bytes l (Refused Cause.Length)
+  refused-settings : {q : Refusal} → BuffersFit bytes l → Settings.Answered four (settingsOf bytes) (Checked.the-variants.Refused q) → Answered tapsS tapsAC bytes l (Refused q)
+  refused-5 : {n : ℕ} {d : Distributions} → NoEarlierCause bytes l n d → (BothTaps tapsS tapsAC → ⊥) → Answered tapsS tapsAC bytes l (Refused Cause.Taps)
+  refused-6 : {n : ℕ} {d : Distributions} → NoEarlierCause bytes l n d → BothTaps tapsS tapsAC → (BothPrototypes (levelOf bytes) tapsS tapsAC → ⊥) → Answered tapsS tapsAC bytes l (Refused Cause.Prototype)
+  accepted : {n : ℕ} {d : Distributions} {a b : Float} → NoEarlierCause bytes l n d → BothTaps tapsS tapsAC → BothPrototypes (levelOf bytes) tapsS tapsAC
+      → groupDelay four (levelOf bytes) (modeSPrototype four tapsS) ≡ At a → modeACGroupDelay four (levelOf bytes) (modeACPrototype four tapsAC) ≡ At b
+      → Answered tapsS tapsAC bytes l (Run (firstState (settingsOf bytes .rates) n d a b))

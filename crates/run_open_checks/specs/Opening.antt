@@ -4,7 +4,7 @@ use mathlib.Core.Bool.{Bool, true, false, _&&_, cond}
 use mathlib.Core.List.{List}
 use lib.Dec.{eqb}
 use lib.ListN.{length}
-use lib.Ieee.{Float, binary32, ofBits}
+use lib.Ieee.{Float}
 use Rattle.constants.specs.Rate.{prototypeLength, workingMemory}
 use Rattle.run_theory.specs.FloatGenerator.{nought}
 use Rattle.run_theory.specs.Zeros.{zeros}
@@ -17,6 +17,7 @@ use Rattle.refusals.specs.Answer.{Answer, accepted, refused}
 use Rattle.run_call.specs.declared.State.{State}
 use Rattle.settings.specs.declared.MessagesPerSecond.{MessagesPerSecond}
 use Rattle.settings.specs.declared.Distributions.{Distributions}
+use Rattle.settings.specs.declared.Settings.{Settings}
 use Rattle.settings.specs.declared.Checked as Checked
 use Rattle.settings.specs.Settings.{settingsLength, settingsOf}
 use Rattle.settings.specs.Accepted.{acceptedOf}
@@ -42,7 +43,7 @@ firstState rates total all modeS modeAC = record {
   distributions = all;
 }
 
--- the lengths of the settings, of the two prototypes and of working memory are 119, 1,792, 1,792 and 2,252
+-- the lengths of the settings, of the two prototypes and of working memory are 123, 1,792, 1,792 and 2,252
 unfoldable pub buffersFit : ℕ → ℕ → ℕ → ℕ → ℕ → Bool
 buffersFit sps settings modeS modeAC memory = eqb settings settingsLength && eqb memory (workingMemory sps) && eqb modeS (prototypeLength sps) && eqb modeAC (prototypeLength sps)
 
@@ -63,11 +64,7 @@ delaysGiven rates total all (refused refusal) b = Opened.the-variants.Refused re
 unfoldable pub delaysThen : MessagesPerSecond → ℕ → Distributions → Crossing.Crossing → Crossing.Crossing → Opened.Opened
 delaysThen rates total all modeS modeAC = delaysGiven rates total all (crossingAnswer modeS) (crossingAnswer modeAC)
 
--- 0.5, the level that prototypes cross (SPECIFICATION 6.3)
-abbrev pub half : Float
-half = ofBits binary32 0x3f00_0000
-
--- the samples per pulse, the level of the prototypes' crossings (0.5 in SPECIFICATION 6.3), and the two lowpasses
+-- the samples per pulse, the trigger level, and the two lowpasses
 module _ (sps : ℕ) (level : Float) (tapsS tapsAC : List Float) where
   unfoldable pub delaysOf : MessagesPerSecond → ℕ → Distributions → Opened.Opened
   delaysOf rates total all = delaysThen rates total all (modeSDelay sps level (modeSPrototype sps tapsS)) (modeACDelay sps level (modeACPrototype sps tapsAC))
@@ -76,15 +73,16 @@ module _ (sps : ℕ) (level : Float) (tapsS tapsAC : List Float) where
   unfoldable pub tapsOf : MessagesPerSecond → ℕ → Distributions → Opened.Opened
   tapsOf rates total all = cond (modeSTapsAccepted sps tapsS && modeACTapsAccepted sps tapsAC) (delaysOf rates total all) (Opened.the-variants.Refused Refusal.the-variants.Taps)
 
-  -- refusals 1 to 4, of the settings; then 5 and 6
-  unfoldable pub settingsThen : MessagesPerSecond → Checked.Checked → Opened.Opened
-  settingsThen rates (Checked.the-variants.Accepted total all) = tapsOf rates total all
-  settingsThen rates (Checked.the-variants.Refused refusal) = Opened.the-variants.Refused refusal
+module _ (sps : ℕ) (tapsS tapsAC : List Float) where
+  -- refusals 1 to 4 and 14, of the settings; then 5 and 6, both prototypes at the settings' trigger level
+  unfoldable pub settingsThen : Settings → Checked.Checked → Opened.Opened
+  settingsThen s (Checked.the-variants.Accepted total all) = tapsOf sps (s .«trigger_level») tapsS tapsAC (s .rates) total all
+  settingsThen s (Checked.the-variants.Refused refusal) = Opened.the-variants.Refused refusal
 
-  -- what opening answers, given prototypes and working memory of these lengths: refusal 9, "working memory not 2,252 f32, a prototype not 1,792 f32", and settings of another length than 119 bytes, before any of them is read (docs/DECISIONS.md); then the others
+  -- what opening answers, given prototypes and working memory of these lengths: refusal 9, "working memory not 2,252 f32, a prototype not 1,792 f32", and settings of another length than 123 bytes, before any of them is read (docs/DECISIONS.md); then the others
   unfoldable pub openedFor : List ℕ → ℕ → ℕ → ℕ → Opened.Opened
   openedFor bytes modeS modeAC memory =
-      cond (buffersFit sps (length bytes) modeS modeAC memory) (settingsThen (settingsOf bytes .rates) (acceptedOf sps (settingsOf bytes))) (Opened.the-variants.Refused Refusal.the-variants.Length)
+      cond (buffersFit sps (length bytes) modeS modeAC memory) (settingsThen (settingsOf bytes) (acceptedOf sps (settingsOf bytes))) (Opened.the-variants.Refused Refusal.the-variants.Length)
 
   unfoldable pub openedOf : List ℕ → OpenBuffers → Opened.Opened
   openedOf bytes lent = openedFor bytes (length (lent .modeS)) (length (lent .modeAC)) (length (lent .memory))

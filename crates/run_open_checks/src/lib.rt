@@ -1,11 +1,10 @@
-// What opening a run answers: refusal 9 for the lengths of the buffers, refusals 1 to 6, or the first state; and the prototypes. It writes nothing: `run_open` does.
+// What opening a run answers: refusal 9 for the lengths of the buffers, refusals 1 to 4, 14, 5 and 6, or the first state; and the prototypes. It writes nothing: `run_open` does.
 ghost use mathlib.Core.Path.{_≡_};
 ghost use Rattle.constants.specs.Rate.{four};
 ghost use Rattle.pulse_shape.specs.Prototype.{modeSPrototype, modeACPrototype};
-ghost use Rattle.run_open_checks.specs.Opening.{half, buffersFit, modeSDelay, modeACDelay, firstState, delaysThen, tapsOf, openedFor, preparedOf};
+ghost use Rattle.run_open_checks.specs.Opening.{buffersFit, modeSDelay, modeACDelay, firstState, delaysThen, tapsOf, openedFor, preparedOf};
 use constants::MEMORY_LEN;
 use constants::PROTOTYPE_LEN;
-use constants::SETTINGS_LEN;
 use constants::SamplesPerPulse;
 use message_config::Delays;
 use pulse_shape::Crossing;
@@ -14,6 +13,7 @@ use run_call::State;
 use settings::Checked;
 use settings::Distributions;
 use settings::MessagesPerSecond;
+use settings::SETTINGS_LEN;
 
 pub enum Opened {
     Run(State),
@@ -136,10 +136,9 @@ fn check_taps(
     first_state_or_refusal(rates, total, all, delay_s, delay_ac)
 }
 
-// Refusal 9, then 1 to 6, or the state. The level is that of the prototypes' crossings.
+// Refusal 9, then 1 to 4, 14, 5 and 6, or the state.
 fn check_open(
     settings: &[u8],
-    level: f32,
     taps_s: &[f32],
     taps_ac: &[f32],
     proto_s: &[f32],
@@ -149,13 +148,14 @@ fn check_open(
     memory: usize,
 ) -> Opened
     requires { ⌜ (now «proto_s» ≡ modeSPrototype four (now «taps_s»)) × (now «proto_ac» ≡ modeACPrototype four (now «taps_ac»)) ⌝ }
-    ensures { λ r. ⌜ r ≡ openedFor four level (now («taps_s» .entry)) (now («taps_ac» .entry)) (now (settings .entry)) «mode_s» «mode_ac» memory ⌝ }
+    ensures { λ r. ⌜ r ≡ openedFor four (now («taps_s» .entry)) (now («taps_ac» .entry)) (now (settings .entry)) «mode_s» «mode_ac» memory ⌝ }
 {
     if !buffers_fit(settings.len(), mode_s, mode_ac, memory) {
         return Opened::Refused(Refusal::Length);
     }
     let s = settings::read(settings);
     let rates = s.rates;
+    let level = s.trigger_level;
     match settings::check(s) {
         Checked::Refused(refusal) => Opened::Refused(refusal),
         Checked::Accepted(total, all) => {
@@ -164,7 +164,7 @@ fn check_open(
     }
 }
 
-// What opening answers, given prototypes and working memory of these lengths, and the prototypes that a run is opened with: refusal 9, then 1 to 6, or the state. The prototypes cross 0.5.
+// What opening answers, given prototypes and working memory of these lengths, and the prototypes that a run is opened with: refusal 9, then 1 to 4, 14, 5 and 6, or the state.
 pub fn prepare(
     settings: &[u8],
     taps_s: &[f32],
@@ -173,13 +173,12 @@ pub fn prepare(
     mode_ac: usize,
     memory: usize,
 ) -> Prepared
-    ensures { λ r. ⌜ r ≡ preparedOf four half (now («taps_s» .entry)) (now («taps_ac» .entry)) (now (settings .entry)) «mode_s» «mode_ac» memory ⌝ }
+    ensures { λ r. ⌜ r ≡ preparedOf four (now («taps_s» .entry)) (now («taps_ac» .entry)) (now (settings .entry)) «mode_s» «mode_ac» memory ⌝ }
 {
     let proto_s = pulse_shape::mode_s_prototype(taps_s);
     let proto_ac = pulse_shape::mode_ac_prototype(taps_ac);
     let opened = check_open(
         settings,
-        0.5,
         taps_s,
         taps_ac,
         &proto_s,

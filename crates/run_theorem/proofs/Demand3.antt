@@ -143,7 +143,7 @@ module _ (r : Run) where
       ap (λ (x : State). lastState x (runsGiven s pS pAC (t .1) cs)) (given-state s pS pAC (t .0 .answer) (t .1)) ∙ state-given cs (t .1)
 
 -- ---- an opened run
-module _ (tapsS tapsAC : List Float) (settings : List ℕ) (given : Opening.OpenBuffers) (s : State) (opens : Opening.openedOf four Opening.half tapsS tapsAC settings given ≡ Opened.the-variants.Run s) where
+module _ (tapsS tapsAC : List Float) (settings : List ℕ) (given : Opening.OpenBuffers) (s : State) (opens : Opening.openedOf four tapsS tapsAC settings given ≡ Opened.the-variants.Run s) where
   memory : List Float
   memory = Opening.leftBy four tapsS tapsAC (Opened.the-variants.Run s) given .memory
 
@@ -170,7 +170,7 @@ module _ (tapsS tapsAC : List Float) (settings : List ℕ) (given : Opening.Open
   unfolding memory
   calls-are cs =
       runs-are s (run .buffers .modeS) (run .buffers .modeAC) (length-prototype four _ tapsS) (length-prototype four _ tapsAC) cs (machineOf s (run .buffers .modeS) (run .buffers .modeAC) memory) memory-length
-      ∙ ap (λ (z : Machine.State (gen run) nan). runsGiven s (run .buffers .modeS) (run .buffers .modeAC) z cs) (opened-first Opening.half tapsS tapsAC settings given s opens)
+      ∙ ap (λ (z : Machine.State (gen run) nan). runsGiven s (run .buffers .modeS) (run .buffers .modeAC) z cs) (opened-first tapsS tapsAC settings given s opens)
 
   as-shown : (cs : List CallBuffers) → Alike run cs (calls run cs) (Machine.runs (gen run) nan (benchCalls run cs))
   as-shown cs = subst (λ (ls : List Left). Alike run cs ls (Machine.runs (gen run) nan (benchCalls run cs))) (sym (calls-are cs)) (alike-all run cs first)
@@ -196,7 +196,7 @@ module _ (tapsS tapsAC : List Float) (settings : List ℕ) (given : Opening.Open
       let q = opened-run-in-range tapsS tapsAC settings given s opens in
       let m = matched (gen run) (instance-laws (filtersOf s (modeSPrototype four tapsS) (modeACPrototype four tapsAC)) (q .0) (s .total) (q .1)) nan (benchCalls run cs) in
       ap (λ (ls : List Left). lastState s ls) (calls-are cs)
-      ∙ ap (λ (z : Machine.State (gen run) nan). lastState (stateOf s (run .buffers .modeS) (run .buffers .modeAC) z) (runsGiven s (run .buffers .modeS) (run .buffers .modeAC) first cs)) (opened-first Opening.half tapsS tapsAC settings given s opens)
+      ∙ ap (λ (z : Machine.State (gen run) nan). lastState (stateOf s (run .buffers .modeS) (run .buffers .modeAC) z) (runsGiven s (run .buffers .modeS) (run .buffers .modeAC) first cs)) (opened-first tapsS tapsAC settings given s opens)
       ∙ state-given run cs first
       ∙ (λ i. record { written = m .written i; total = s .total; time = m .time i; latest = m .mark i; ended = m .over i; rates = s .rates; delays = s .delays; distributions = s .distributions })
 

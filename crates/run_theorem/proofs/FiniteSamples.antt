@@ -35,13 +35,13 @@ finite-53 nan h = absurd h
 finite-53 (inf s) h = absurd h
 finite-53 (fin s m e) h = is-true (within (fin s m e) (fin false 1 (pos 53))) (fin-le false m e false 1 (pos 53) (le-trans (le-of-eq (mul-one (m * up e))) h))
 
-module _ (tapsS tapsAC : List Float) (bytes : List ℕ) (lent : Opening.OpenBuffers) (s : State) (opens : Opening.openedOf four Opening.half tapsS tapsAC bytes lent ≡ Opened.the-variants.Run s) where
+module _ (tapsS tapsAC : List Float) (bytes : List ℕ) (lent : Opening.OpenBuffers) (s : State) (opens : Opening.openedOf four tapsS tapsAC bytes lent ≡ Opened.the-variants.Run s) where
   abbrev G : Generator
   G = genOf s (modeSPrototype four tapsS) (modeACPrototype four tapsAC)
 
   pub opened-finite : (run : List (Bench.Call G) → List (Bench.Result G)) → Demand3 G run → (cs : List (Bench.Call G)) → Each Finite53 (allSamples G (run cs))
   opened-finite run D cs =
       let r = opened-run-in-range tapsS tapsAC bytes lent s opens in
-      let w = what-is-opened Opening.half tapsS tapsAC bytes lent s opens in
+      let w = what-is-opened tapsS tapsAC bytes lent s opens in
       each-on (AtMost (2 ^ 53)) Finite53 finite-53 (allSamples G (run cs))
       (samples-sized (filtersOf s (modeSPrototype four tapsS) (modeACPrototype four tapsAC)) (r .0) (s .total) (r .1) (record { whole = length-prototype four _ tapsS; small = w .delay-s .0 }) (record { whole = length-prototype four _ tapsAC; small = w .delay-ac .0 }) run D cs)

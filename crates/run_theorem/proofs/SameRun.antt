@@ -9,15 +9,15 @@ use Rattle.settings.specs.declared.Checked.the-variants.{Accepted}
 use Rattle.settings.specs.Settings.{settingsOf}
 use Rattle.run_call.specs.declared.State.{State}
 use Rattle.run_open_checks.specs.declared.Opened as Opened
-use Rattle.run_open_checks.specs.Opening.{OpenBuffers, half, firstState, openedOf, leftBy}
+use Rattle.run_open_checks.specs.Opening.{OpenBuffers, firstState, openedOf, leftBy}
 use Rattle.run_open_checks.proofs.WhatIsOpened.{what-is-opened}
 use Rattle.run_theorem.specs.OpenedRuns.{Run, Opens}
 
 module _ (tapsS tapsAC : List Float) (settings : List ℕ) (given given′ : OpenBuffers) where
-  same-state : (s s′ : State) → openedOf four half tapsS tapsAC settings given ≡ Opened.the-variants.Run s → openedOf four half tapsS tapsAC settings given′ ≡ Opened.the-variants.Run s′ → s ≡ s′
+  same-state : (s s′ : State) → openedOf four tapsS tapsAC settings given ≡ Opened.the-variants.Run s → openedOf four tapsS tapsAC settings given′ ≡ Opened.the-variants.Run s′ → s ≡ s′
   same-state s s′ opens opens′ =
-      let w = what-is-opened half tapsS tapsAC settings given s opens in
-      let v = what-is-opened half tapsS tapsAC settings given′ s′ opens′ in
+      let w = what-is-opened tapsS tapsAC settings given s opens in
+      let v = what-is-opened tapsS tapsAC settings given′ s′ opens′ in
       let a : Accepted (w .total) (w .all) ≡ Accepted (v .total) (v .all) = sym (w .settings) ∙ v .settings in
       let b : At (w .modeS) ≡ At (v .modeS) = sym (w .delay-s .1) ∙ v .delay-s .1 in
       let c : At (w .modeAC) ≡ At (v .modeAC) = sym (w .delay-ac .1) ∙ v .delay-ac .1 in

@@ -35,7 +35,7 @@ pub record Run : Type 0 where
 
 -- Opening with these settings and filters, given these buffers, answers the run and leaves its buffers. (So the contract of `open` says it.)
 pub record Opens (tapsS tapsAC : List Float) (settings : List ℕ) (given : Opening.OpenBuffers) (r : Run) : Type 0 where
-  pub answers : Opening.openedOf four Opening.half tapsS tapsAC settings given ≡ Opened.the-variants.Run (r .state)
+  pub answers : Opening.openedOf four tapsS tapsAC settings given ≡ Opened.the-variants.Run (r .state)
   pub leaves : r .buffers ≡ Opening.leftBy four tapsS tapsAC (Opened.the-variants.Run (r .state)) given
 
 -- ---- a list of run calls on a run

@@ -1,7 +1,8 @@
 -- What each test of settings decides: which answer of the definitions it gives.
 use Prim.Native.Nat.{ℕ}
-use mathlib.Core.Path.{_≡_, ap, _∙_}
+use mathlib.Core.Path.{_≡_, sym, ap, _∙_}
 use mathlib.Core.Bool.{Bool, true, false, cond}
+use lib.Ieee.{Float}
 use Rattle.distributions.specs.Accepted.{carrierOffset, carrierPhase, clockError, offsetAnswer, phaseAnswer, clockAnswer}
 use Rattle.distributions.specs.declared.CarrierOffset.{CarrierOffset}
 use Rattle.distributions.specs.declared.CarrierPhase.{CarrierPhase}
@@ -10,20 +11,23 @@ use Rattle.distributions.specs.declared.OffsetAnswer as Offset
 use Rattle.distributions.specs.declared.PhaseAnswer as Phase
 use Rattle.distributions.specs.declared.ClockAnswer as Clock
 use Rattle.settings_duration.specs.Duration.{samples, refusal, durationOf}
+use Rattle.refusals.specs.declared.Refusal as Refusals
 use Rattle.refusals.specs.declared.Refusal.the-variants as Refusal
 use Rattle.settings.specs.declared.Settings.{Settings}
+use Rattle.settings.specs.declared.Distributions.{Distributions}
+use Rattle.settings.specs.declared.Checked.{Checked}
 use Rattle.settings.specs.declared.BadRate.the-variants.{None, At}
 use Rattle.settings.specs.declared.Checked.the-variants.{Accepted, Refused}
 use Rattle.settings.specs.Settings.{ratesOf}
-use Rattle.settings.specs.Accepted.{firstBadRate, totalOf, totalFits, withClock, withPhase, withOffset, distributionsOf, totalThen, ratesThen, durationThen, acceptedOf}
+use Rattle.settings.specs.Accepted.{firstBadRate, totalOf, totalFits, withClock, withPhase, withOffset, distributionsOf, totalThen, ratesThen, durationThen, valuesOf, levelInRange, levelThen, acceptedOf}
 
 module _ (sps : ℕ) (s : Settings) where
-  pub duration-refused : (k : ℕ) → durationOf sps (s .seconds) (s .nanoseconds) ≡ refusal k → acceptedOf sps s ≡ Refused Refusal.Duration
-  unfolding acceptedOf durationThen
+  pub duration-refused : (k : ℕ) → durationOf sps (s .seconds) (s .nanoseconds) ≡ refusal k → valuesOf sps s ≡ Refused Refusal.Duration
+  unfolding valuesOf durationThen
   duration-refused k e = ap (durationThen sps s) e
 
-  pub duration-passes : (n : ℕ) → durationOf sps (s .seconds) (s .nanoseconds) ≡ samples n → acceptedOf sps s ≡ ratesThen sps n s
-  unfolding acceptedOf durationThen
+  pub duration-passes : (n : ℕ) → durationOf sps (s .seconds) (s .nanoseconds) ≡ samples n → valuesOf sps s ≡ ratesThen sps n s
+  unfolding valuesOf durationThen
   duration-passes n e = ap (durationThen sps s) e
 
 module _ (sps n : ℕ) (s : Settings) where
@@ -71,3 +75,20 @@ module _ (sps n : ℕ) (s : Settings) where
       pub all-accepted : (c : ClockError) → clockError (s .clock) ≡ Clock.the-variants.Accepted c → distributionsOf sps n s ≡ Accepted n (record { carrier = o; phase = p; clock = c })
       unfolding withClock clockAnswer
       all-accepted c = by-clock (Clock.the-variants.Accepted c)
+
+-- refusal 14, behind the others
+module _ (level : Float) (values : Checked) where
+  pub values-refused : (q : Refusals.Refusal) → values ≡ Refused q → Refused q ≡ levelThen level values
+  unfolding levelThen
+  values-refused q e = sym (ap (levelThen level) e)
+
+  module _ (n : ℕ) (d : Distributions) (e : values ≡ Accepted n d) where
+    by-level : (b : Bool) → levelInRange level ≡ b → cond b (Accepted n d) (Refused Refusal.TriggerLevel) ≡ levelThen level values
+    unfolding levelThen
+    by-level b t = ap (λ (x : Bool). cond x (Accepted n d) (Refused Refusal.TriggerLevel)) (sym t) ∙ sym (ap (levelThen level) e)
+
+    pub level-refused : levelInRange level ≡ false → Refused Refusal.TriggerLevel ≡ levelThen level values
+    level-refused = by-level false
+
+    pub level-passes : levelInRange level ≡ true → Accepted n d ≡ levelThen level values
+    level-passes = by-level true

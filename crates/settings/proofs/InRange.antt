@@ -1,15 +1,19 @@
--- Accepted settings give at most 2^52 samples and distributions in the ranges of SPECIFICATION 4.2 (`accepted-in-range`); a constant phase, wrapped, lies from -PI to PI.
-use Prim.Native.Nat.{ℕ, zero, suc, _≤_}
+-- Accepted settings give at most 2^52 samples and distributions in the ranges of SPECIFICATION 4.2 (`accepted-in-range`); a constant phase, wrapped, lies from -PI to PI; and a trigger level above 0 (`accepted-level`).
+use Prim.Native.Nat.{ℕ, zero, suc, _*_, _≤_, _<_}
 use mathlib.Core.Path.{_≡_, refl, sym, subst}
 use mathlib.Core.Bool.{Bool, true, false, _&&_, cond}
 use mathlib.Core.List.{List}
+use native.Mathlib.Nat.{le-trans, le-of-eq, zero-mul}
 use native.Mathlib.Omega.{arith}
-use lib.Dec.{T}
-use lib.Ieee.{Float, binary64, fits}
+use lib.IntN.{pos}
+use lib.Dec.{T, lt→ltb}
+use lib.Ieee.{Float, nan, inf, fin, binary32, binary64, ofBits, up, down, lt, le, fits}
+use lib.Ieee.Fits.{down-pos}
 use lib.Ieee.Bits.{ofBits-fits}
 use lib.Ieee.Scale.{finite}
 use Rattle.float_narrow.specs.Range.{within}
 use Rattle.math.specs.Phase.{phaseWrap}
+use Rattle.float_rounding.proofs.Order.{le-fin}
 use Rattle.float_rounding.proofs.Size.{Within}
 use Rattle.math.proofs.Constants.{piUnits}
 use Rattle.math.proofs.Wrapped.{wrapped}
@@ -26,9 +30,12 @@ use Rattle.settings.specs.declared.Settings.{Settings}
 use Rattle.settings.specs.declared.Distributions.{Distributions}
 use Rattle.settings.specs.declared.Checked.the-variants.{Accepted, Refused}
 use Rattle.settings.specs.Settings.{rawDistributionAt, settingsOf}
-use Rattle.settings.specs.Accepted.{acceptedOf}
+use Rattle.settings.specs.Accepted.{leastLevel, greatestLevel, levelInRange, acceptedOf}
 use Rattle.settings.specs.FirstCause.{Answered, accepted}
 use Rattle.settings.proofs.FirstCause.{answered, lasts-for}
+
+abbrev zeroF : Float
+zeroF = fin false 0 (pos 0)
 
 -- x is a value of `f64`
 abbrev pub Held : Float → Type 0
@@ -62,6 +69,7 @@ pub record HeldSettings (s : Settings) : Type 0 where
   pub carrier : HeldAsked (s .carrier)
   pub phase : HeldAsked (s .phase)
   pub clock : HeldAsked (s .clock)
+  pub level : T (fits binary32 (s .«trigger_level»))
 
 pub read-held : (s : List ℕ) → HeldSettings (settingsOf s)
 unfolding settingsOf rawDistributionAt
@@ -69,6 +77,7 @@ read-held s = record {
   carrier = (ofBits-fits binary64 _, ofBits-fits binary64 _);
   phase = (ofBits-fits binary64 _, ofBits-fits binary64 _);
   clock = (ofBits-fits binary64 _, ofBits-fits binary64 _);
+  level = ofBits-fits binary32 _;
 }
 
 -- ---- each distribution
@@ -133,11 +142,38 @@ pub accepted-in-range : (sps : ℕ) (s : Settings) → HeldSettings s → (n : �
 accepted-in-range sps s H n d e = go (subst (Answered sps s) e (answered sps s))
   where
     go : Answered sps s (Accepted n d) → (n ≤ mostSamples) × InRange sps d
-    go (accepted P f g h) = (
+    go (accepted P D t) = (
       lasts-for sps (s .seconds) (s .nanoseconds) n (P .lasts) .1,
       record {
-        carrier = offset-in-range sps (s .carrier) (H .carrier) (d .carrier) f;
-        phase = phase-in-range (s .phase) (H .phase) (d .phase) g;
-        clock = clock-in-range (s .clock) (H .clock) (d .clock) h;
+        carrier = offset-in-range sps (s .carrier) (H .carrier) (d .carrier) (D .carrier-is);
+        phase = phase-in-range (s .phase) (H .phase) (d .phase) (D .phase-is);
+        clock = clock-in-range (s .clock) (H .clock) (d .clock) (D .clock-is);
       },
     )
+
+-- ---- the trigger level
+-- a value that is at least the least level is above 0
+above-0 : (x : Float) → T (le leastLevel x) → T (lt zeroF x)
+unfolding ofBits
+above-0 nan t = absurd (unfold le in t)
+above-0 (inf true) t = absurd (unfold le in t)
+above-0 (inf false) t = unfold lt in tt
+above-0 (fin true n d) t = absurd (no-zero (down d) (down-pos d) (le-fin false _ _ true n d t .0))
+  where
+    no-zero : (k : ℕ) → 0 < k → 13421773 * 1 * k ≡ 0 → ⊥
+    no-zero k h e = omega arith
+above-0 (fin false n d) t = unfold lt in lt→ltb (0 * down d) (n * up d * 1) (some (n * up d) (down d) (down-pos d) _ (le-fin false _ _ false n d t))
+  where
+    some : (m k : ℕ) → 0 < k → (a : ℕ) → 13421773 * 1 * k ≤ m * a → 0 * k < m * 1
+    some zero k h a g = absurd (none k h (le-trans g (le-of-eq (zero-mul a))))
+      where
+        none : (k : ℕ) → 0 < k → 13421773 * 1 * k ≤ 0 → ⊥
+        none k h g = omega arith
+    some (suc m) k h a g = omega arith
+
+pub accepted-level : (sps : ℕ) (s : Settings) (n : ℕ) (d : Distributions) → acceptedOf sps s ≡ Accepted n d → T (lt zeroF (s .«trigger_level»))
+unfolding levelInRange
+accepted-level sps s n d e = go (subst (Answered sps s) e (answered sps s))
+  where
+    go : Answered sps s (Accepted n d) → T (lt zeroF (s .«trigger_level»))
+    go (accepted P D t) = above-0 (s .«trigger_level») (split (le leastLevel (s .«trigger_level»)) (le (s .«trigger_level») greatestLevel) t .0)

@@ -1,10 +1,10 @@
--- Whole settings: where there are 119 bytes, each number is the one that its bytes stand for, and no 0 past the end is read (`whole`).
+-- Whole settings: where there are 123 bytes, each number is the one that its bytes stand for, and no 0 past the end is read (`whole`).
 use Prim.Native.Nat.{ℕ, _+_, _≤_}
 use mathlib.Core.Path.{_≡_, ap}
 use mathlib.Core.List.{List}
 use native.Mathlib.Omega.{arith}
 use lib.ListN.{length, getD}
-use lib.Ieee.{Float, binary64, ofBits}
+use lib.Ieee.{Float, binary32, binary64, ofBits}
 use Rattle.le_read.specs.LeBytes.{leAt}
 use Rattle.le_read_floats.specs.FloatReads.{f64At}
 use Rattle.distributions.specs.declared.RawDistribution.{RawDistribution}
@@ -50,7 +50,7 @@ asked-there : (s : List ℕ) (at : ℕ) → at + 17 ≤ length s → rawDistribu
 unfolding rawDistributionAt
 asked-there s at h = λ i. record { kind = getD s at 0; first = float-there s (at + 1) (omega arith) i; second = float-there s (at + 9) (omega arith) i }
 
--- the settings read from 119 bytes or more, with nothing read past their end
+-- the settings read from 123 bytes or more, with nothing read past their end
 abbrev pub wholeSettings : List ℕ → Settings
 wholeSettings s = record {
   seconds = leAt 8 s 0;
@@ -59,6 +59,7 @@ wholeSettings s = record {
   carrier = wholeAsked s 68;
   phase = wholeAsked s 85;
   clock = wholeAsked s 102;
+  «trigger_level» = ofBits binary32 (leAt 4 s 119);
 }
 
 pub whole : (s : List ℕ) → settingsLength ≤ length s → settingsOf s ≡ wholeSettings s
@@ -70,4 +71,5 @@ whole s h = λ i. record {
   carrier = asked-there s 68 (omega arith) i;
   phase = asked-there s 85 (omega arith) i;
   clock = asked-there s 102 (omega arith) i;
+  «trigger_level» = ap (ofBits binary32) (number-there 4 s 119 (omega arith)) i;
 }

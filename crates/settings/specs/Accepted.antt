@@ -1,8 +1,8 @@
--- Refusals 1 to 4 of settings, in that order (SPECIFICATION 3.2), or what is accepted: the run's samples and its distributions.
+-- Refusals 1 to 4 and 14 of settings, in that order (SPECIFICATION 3.2), or what is accepted: the run's samples and its distributions.
 use Prim.Native.Nat.{ℕ, suc}
 use mathlib.Core.Bool.{Bool, _&&_, cond}
 use mathlib.Core.List.{List, [], _∷_}
-use lib.Ieee.{Float, binary64, ofBits, add, lt}
+use lib.Ieee.{Float, binary32, binary64, ofBits, add, lt, le}
 use lib.Ieee.Scale.{finite}
 use Rattle.distributions.specs.Accepted.{finiteNotNegative, carrierOffset, carrierPhase, clockError, offsetAnswer, phaseAnswer, clockAnswer}
 use Rattle.distributions.specs.declared.CarrierOffset.{CarrierOffset}
@@ -63,5 +63,24 @@ unfoldable pub durationThen : ℕ → Settings → Answer → Checked.Checked
 durationThen sps s (samples n) = ratesThen sps n s
 durationThen sps s (refusal k) = Checked.the-variants.Refused Refusal.the-variants.Duration
 
+unfoldable pub valuesOf : ℕ → Settings → Checked.Checked
+valuesOf sps s = durationThen sps s (durationOf sps (s .seconds) (s .nanoseconds))
+
+-- the nearest f32 of 0.1 and of 0.9
+abbrev pub leastLevel : Float
+leastLevel = ofBits binary32 0x3dcc_cccd
+
+abbrev pub greatestLevel : Float
+greatestLevel = ofBits binary32 0x3f66_6666
+
+-- a trigger level from 0.1 to 0.9, both ends allowed: no comparison with a NaN holds
+unfoldable pub levelInRange : Float → Bool
+levelInRange level = le leastLevel level && le level greatestLevel
+
+-- refusal 14, where none of 1 to 4 was found
+unfoldable pub levelThen : Float → Checked.Checked → Checked.Checked
+levelThen level (Checked.the-variants.Accepted n d) = cond (levelInRange level) (Checked.the-variants.Accepted n d) (Checked.the-variants.Refused Refusal.the-variants.TriggerLevel)
+levelThen level (Checked.the-variants.Refused q) = Checked.the-variants.Refused q
+
 unfoldable pub acceptedOf : ℕ → Settings → Checked.Checked
-acceptedOf sps s = durationThen sps s (durationOf sps (s .seconds) (s .nanoseconds))
+acceptedOf sps s = levelThen (s .«trigger_level») (valuesOf sps s)

@@ -1,4 +1,4 @@
--- Which answer to settings is right: refusals 1 to 4 each for its cause, and for the first cause in the order of SPECIFICATION 3.2.
+-- Which answer to settings is right: refusals 1 to 4 and 14 each for its cause, and for the first cause in the order of SPECIFICATION 3.2.
 use Prim.Native.Nat.{ℕ, _<_}
 use mathlib.Core.Path.{_≡_}
 use mathlib.Core.Bool.{Bool, true, false}
@@ -15,7 +15,7 @@ use Rattle.settings.specs.declared.Distributions.{Distributions}
 use Rattle.settings.specs.declared.Checked.{Checked}
 use Rattle.settings.specs.declared.Checked.the-variants.{Accepted, Refused}
 use Rattle.settings.specs.Settings.{ratesOf, rateOf}
-use Rattle.settings.specs.Accepted.{totalOf, totalFits}
+use Rattle.settings.specs.Accepted.{totalOf, totalFits, levelInRange}
 
 -- the run has n samples
 abbrev pub Lasts : ℕ → Settings → ℕ → Type 0
@@ -38,6 +38,12 @@ pub record NoEarlierCause (sps : ℕ) (s : Settings) (n : ℕ) : Type 0 where
   pub rates : GoodRates s 7
   pub total : goodTotal s ≡ true
 
+-- refusal 4 does not apply: the three distributions are accepted as these
+pub record GoodDistributions (sps : ℕ) (s : Settings) (d : Distributions) : Type 0 where
+  pub carrier-is : carrierOffset sps (s .carrier) ≡ Offset.the-variants.Accepted (d .carrier)
+  pub phase-is : carrierPhase (s .phase) ≡ Phase.the-variants.Accepted (d .phase)
+  pub clock-is : clockError (s .clock) ≡ Clock.the-variants.Accepted (d .clock)
+
 -- which answer to settings is right: each refusal for its cause, where no earlier one applies, and acceptance where none does
 pub data Answered (sps : ℕ) (s : Settings) : Checked → Type 0 where
   refused-1 : durationOf sps (s .seconds) (s .nanoseconds) ≡ refusal 1 → Answered sps s (Refused Refusal.Duration)
@@ -48,5 +54,5 @@ pub data Answered (sps : ℕ) (s : Settings) : Checked → Type 0 where
       → carrierPhase (s .phase) ≡ Phase.the-variants.Refused → Answered sps s (Refused (Refusal.Distribution 1))
   refused-4-2 : {n : ℕ} {o : CarrierOffset} {p : CarrierPhase} → NoEarlierCause sps s n → carrierOffset sps (s .carrier) ≡ Offset.the-variants.Accepted o
       → carrierPhase (s .phase) ≡ Phase.the-variants.Accepted p → clockError (s .clock) ≡ Clock.the-variants.Refused → Answered sps s (Refused (Refusal.Distribution 2))
-  accepted : {n : ℕ} {d : Distributions} → NoEarlierCause sps s n → carrierOffset sps (s .carrier) ≡ Offset.the-variants.Accepted (d .carrier)
-      → carrierPhase (s .phase) ≡ Phase.the-variants.Accepted (d .phase) → clockError (s .clock) ≡ Clock.the-variants.Accepted (d .clock) → Answered sps s (Accepted n d)
+  refused-14 : {n : ℕ} {d : Distributions} → NoEarlierCause sps s n → GoodDistributions sps s d → levelInRange (s .«trigger_level») ≡ false → Answered sps s (Refused Refusal.TriggerLevel)
+  accepted : {n : ℕ} {d : Distributions} → NoEarlierCause sps s n → GoodDistributions sps s d → levelInRange (s .«trigger_level») ≡ true → Answered sps s (Accepted n d)

@@ -1,8 +1,8 @@
--- Settings, read from their 119 bytes (SPECIFICATION 4.1).
+-- Settings, read from their 123 bytes (SPECIFICATION 4.1).
 use Prim.Native.Nat.{ℕ, _+_}
 use mathlib.Core.List.{List, [], _∷_}
 use lib.ListN.{getD}
-use lib.Ieee.{Float, binary64, ofBits}
+use lib.Ieee.{Float, binary32, binary64, ofBits}
 use Rattle.le_read.specs.LeBytes.{numberAt}
 use Rattle.le_read_floats.specs.FloatReads.{f64At}
 use Rattle.distributions.specs.declared.RawDistribution.{RawDistribution}
@@ -11,7 +11,7 @@ use Rattle.settings.specs.declared.Settings.{Settings}
 
 -- the bytes of settings
 abbrev pub settingsLength : ℕ
-settingsLength = 119
+settingsLength = 123
 
 unfoldable pub ratesAt : List ℕ → ℕ → MessagesPerSecond
 ratesAt s at = record {
@@ -27,7 +27,7 @@ ratesAt s at = record {
 unfoldable pub rawDistributionAt : List ℕ → ℕ → RawDistribution
 rawDistributionAt s at = record { kind = getD s at 0; first = f64At s (at + 1); second = f64At s (at + 9) }
 
--- the settings at the start of bytes, of which there are 119 or more (fewer are refused before they are read)
+-- the settings at the start of bytes, of which there are 123 or more (fewer are refused before they are read)
 unfoldable pub settingsOf : List ℕ → Settings
 settingsOf s = record {
   seconds = numberAt 8 s 0;
@@ -36,6 +36,7 @@ settingsOf s = record {
   carrier = rawDistributionAt s 68;
   phase = rawDistributionAt s 85;
   clock = rawDistributionAt s 102;
+  «trigger_level» = ofBits binary32 (numberAt 4 s 119);
 }
 
 -- the rates in the order of the types

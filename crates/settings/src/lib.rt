@@ -1,9 +1,9 @@
-// A run's settings: their 119 bytes, the rate of a type, and refusals 1 to 4. Each function is equal to a definition of specs/ on every input.
+// A run's settings: their 123 bytes, the rate of a type, and refusals 1 to 4 and 14. Each function is equal to a definition of specs/ on every input.
 ghost use mathlib.Core.Path.{_≡_};
 ghost use Prim.Native.Nat.{_≤_};
 ghost use Rattle.settings.specs.Settings.{settingsLength, ratesAt, rawDistributionAt, settingsOf, rateOf, ratesOf};
 ghost use Rattle.constants.specs.Rate.{four};
-ghost use Rattle.settings.specs.Accepted.{firstBadRate, totalOf, totalFits, distributionsOf, ratesThen, acceptedOf};
+ghost use Rattle.settings.specs.Accepted.{firstBadRate, totalOf, totalFits, distributionsOf, ratesThen, valuesOf, levelInRange, levelThen, acceptedOf};
 use constants::SamplesPerPulse;
 use distributions::CarrierOffset;
 use distributions::CarrierPhase;
@@ -14,6 +14,14 @@ use distributions::PhaseAnswer;
 use distributions::RawDistribution;
 use refusals::Refusal;
 use settings_duration::InSamples;
+
+// Bytes of settings.
+pub const SETTINGS_LEN: usize = 123;
+
+// The least and the greatest trigger level: the nearest f32 of 0.1 and of 0.9.
+const LEAST_LEVEL: f32 = 0.1;
+
+const GREATEST_LEVEL: f32 = 0.9;
 
 // Messages per second for each message type, in the order of the types.
 pub struct MessagesPerSecond {
@@ -33,6 +41,7 @@ pub struct Settings {
     pub carrier: RawDistribution,
     pub phase: RawDistribution,
     pub clock: RawDistribution,
+    pub trigger_level: f32,
 }
 
 pub struct Distributions {
@@ -94,6 +103,7 @@ pub fn read(s: &[u8]) -> Settings
         carrier: carrier,
         phase: phase,
         clock: clock,
+        trigger_level: le_read_floats::f32_at(s, 119),
     }
 }
 
@@ -200,8 +210,8 @@ fn check_rates(n: u64, s: Settings) -> Checked
 }
 
 // Refusals 1 to 4, in that order, or the run's samples and its distributions.
-pub fn check(s: Settings) -> Checked
-    ensures { λ r. ⌜ r ≡ acceptedOf four s ⌝ }
+fn check_values(s: Settings) -> Checked
+    ensures { λ r. ⌜ r ≡ valuesOf four s ⌝ }
 {
     let InSamples::Samples(n) = settings_duration::duration_as_samples(
         SamplesPerPulse::Four,
@@ -211,4 +221,37 @@ pub fn check(s: Settings) -> Checked
         return Checked::Refused(Refusal::Duration);
     };
     check_rates(n, s)
+}
+
+fn level_in_range(level: f32) -> bool
+    ensures { λ r. ⌜ r ≡ levelInRange level ⌝ }
+{
+    if LEAST_LEVEL <= level {
+        return level <= GREATEST_LEVEL;
+    }
+    false
+}
+
+// Refusal 14, where none of 1 to 4 was found.
+fn check_level(level: f32, values: Checked) -> Checked
+    ensures { λ r. ⌜ r ≡ levelThen level values ⌝ }
+{
+    match values {
+        Checked::Accepted(n, all) => {
+            if level_in_range(level) {
+                return Checked::Accepted(n, all);
+            }
+            Checked::Refused(Refusal::TriggerLevel)
+        }
+        Checked::Refused(refusal) => Checked::Refused(refusal),
+    }
+}
+
+// Refusals 1 to 4 and 14, in that order, or the run's samples and its distributions.
+pub fn check(s: Settings) -> Checked
+    ensures { λ r. ⌜ r ≡ acceptedOf four s ⌝ }
+{
+    let level = s.trigger_level;
+    let values = check_values(s);
+    check_level(level, values)
 }

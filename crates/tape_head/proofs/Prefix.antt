@@ -1,4 +1,4 @@
--- A tape's beginning depends on the bytes before its noise alone (`head-of-prefix`), and the first 12,135 say how many those are (`length-of-prefix`): reading a tape as it comes is the same as having it whole.
+-- A tape's beginning depends on the bytes before its noise alone (`head-of-prefix`), and the first 12,139 say how many those are (`length-of-prefix`): reading a tape as it comes is the same as having it whole.
 use Prim.Native.Nat.{ℕ, zero, suc, _+_, _-_, _*_, _≤_, min}
 use mathlib.Core.Path.{_≡_, refl, sym, ap, _∙_, subst}
 use mathlib.Core.Bool.{Bool, true, false, cond, _&&_}
@@ -18,7 +18,7 @@ use Rattle.settings.specs.declared.Checked as Checked
 use Rattle.draw.specs.Fault.{firstFault}
 use Rattle.draw.specs.declared.DrawFault as DrawFault
 use Rattle.run_call.specs.declared.State.{State}
-use Rattle.run_open_checks.specs.Opening.{half, OpenBuffers, openedOf, leftBy}
+use Rattle.run_open_checks.specs.Opening.{OpenBuffers, openedOf, leftBy}
 use Rattle.run_open_checks.specs.declared.Opened as Opened
 use Rattle.tape_floats.specs.Floats.{floatsOf}
 use Rattle.tape_sections.specs.declared.Counted as Counted
@@ -99,47 +99,47 @@ module _ (tape : List ℕ) (at : ℕ) where
       subst IsCount e (either-count (inside 4 tape at) (leb least (leAt 4 tape at) && leb (leAt 4 tape at) most && leb (at + 4 + size * leAt 4 tape at) (length tape)))
 
 -- ---- the first m bytes, with all that stands before the noise
-module _ (tape : List ℕ) (m : ℕ) (low : 12135 ≤ m) (high : leAt 4 tape 12131 ≤ 400 → 12139 + 65 * leAt 4 tape 12131 ≤ m) where
-  module _ (s : State) (n : ℕ) (h : 12139 + 65 * n ≤ m) where
+module _ (tape : List ℕ) (m : ℕ) (low : 12139 ≤ m) (high : leAt 4 tape 12135 ≤ 400 → 12143 + 65 * leAt 4 tape 12135 ≤ m) where
+  module _ (s : State) (n : ℕ) (h : 12143 + 65 * n ≤ m) where
     noise-same : noiseThen four (take m tape) s n ≡ noiseThen four tape s n
     unfolding noiseThen
-    noise-same = read-first tape m (Beginning.the-variants.Run s n) tapeFault (12135 + 65 * n) (omega arith)
+    noise-same = read-first tape m (Beginning.the-variants.Run s n) tapeFault (12139 + 65 * n) (omega arith)
 
     fault-same : (f : DrawFault.DrawFault) → faultThen four (take m tape) s n f ≡ faultThen four tape s n f
     unfolding faultThen
     fault-same DrawFault.the-variants.None = noise-same
     fault-same (DrawFault.the-variants.At k field) = refl
 
-  draws-same : (s : State) (q : Counted.Counted) → q ≡ sectionAt tape 12131 0 400 65 → drawsThen four (take m tape) s q ≡ drawsThen four tape s q
+  draws-same : (s : State) (q : Counted.Counted) → q ≡ sectionAt tape 12135 0 400 65 → drawsThen four (take m tape) s q ≡ drawsThen four tape s q
   unfolding drawsThen
   draws-same s (Counted.the-variants.Of n) e =
-      let c : n ≡ leAt 4 tape 12131 = count-is tape 12131 0 400 65 n (sym e) in
-      let t = counted tape 12131 0 400 65 n e refl in
-      let u : 12139 + 65 * leAt 4 tape 12131 ≤ m = high (omega (arith, t .1)) in
-      let h : 12139 + 65 * n ≤ m = omega arith in
-      ap (λ (l : List ℕ). faultThen four (take m tape) s n (firstFault (s .rates) (s .distributions) l)) (part-take 12135 (65 * n) m tape (omega arith))
-      ∙ fault-same s n h (firstFault (s .rates) (s .distributions) (take (65 * n) (drop 12135 tape)))
+      let c : n ≡ leAt 4 tape 12135 = count-is tape 12135 0 400 65 n (sym e) in
+      let t = counted tape 12135 0 400 65 n e refl in
+      let u : 12143 + 65 * leAt 4 tape 12135 ≤ m = high (omega (arith, t .1)) in
+      let h : 12143 + 65 * n ≤ m = omega arith in
+      ap (λ (l : List ℕ). faultThen four (take m tape) s n (firstFault (s .rates) (s .distributions) l)) (part-take 12139 (65 * n) m tape (omega arith))
+      ∙ fault-same s n h (firstFault (s .rates) (s .distributions) (take (65 * n) (drop 12139 tape)))
   draws-same s Counted.the-variants.Wrong e = refl
 
   opened-same : (o : Opened.Opened) → openedThen four (take m tape) o ≡ openedThen four tape o
   unfolding openedThen
   opened-same (Opened.the-variants.Run s) =
-      ap (drawsThen four (take m tape) s) (section-first tape m 12131 0 400 65 (omega arith) (λ g. omega (arith, high g)))
-      ∙ draws-same s (sectionAt tape 12131 0 400 65) refl
+      ap (drawsThen four (take m tape) s) (section-first tape m 12135 0 400 65 (omega arith) (λ g. omega (arith, high g)))
+      ∙ draws-same s (sectionAt tape 12135 0 400 65) refl
   opened-same (Opened.the-variants.Refused refusal) = refl
 
   settings-same : settingsBytes four (take m tape) ≡ settingsBytes four tape
   unfolding settingsBytes
-  settings-same = part-take 4 119 m tape (omega arith)
+  settings-same = part-take 4 123 m tape (omega arith)
 
   taps-same : taps four (take m tape) ≡ taps four tape
   unfolding taps
-  taps-same = floats-first tape m 3001 127 (omega arith)
+  taps-same = floats-first tape m 3001 131 (omega arith)
 
   checked-same : (x : Checked.Checked) → checkedThen four (take m tape) x ≡ checkedThen four tape x
   unfolding checkedThen
   checked-same (Checked.the-variants.Accepted samples all) =
-      ap tapsThen (section-first tape m 123 3001 3001 4 (omega arith) (λ g. omega arith))
+      ap tapsThen (section-first tape m 127 3001 3001 4 (omega arith) (λ g. omega arith))
   checked-same (Checked.the-variants.Refused refusal) = refl
 
   first-same : (q : Counted.Counted) → settingsThen four (take m tape) q ≡ settingsThen four tape q
@@ -150,12 +150,12 @@ module _ (tape : List ℕ) (m : ℕ) (low : 12135 ≤ m) (high : leAt 4 tape 121
 
   early-same : earlyOf four (take m tape) ≡ earlyOf four tape
   unfolding earlyOf
-  early-same = ap (settingsThen four (take m tape)) (section-first tape m 0 1 1 119 (omega arith) (λ g. omega arith)) ∙ first-same (sectionAt tape 0 1 1 119)
+  early-same = ap (settingsThen four (take m tape)) (section-first tape m 0 1 1 123 (omega arith) (λ g. omega arith)) ∙ first-same (sectionAt tape 0 1 1 123)
 
   module _ (lent : OpenBuffers) where
     from-same : openedFrom four (take m tape) lent ≡ openedFrom four tape lent
     unfolding openedFrom tapsS tapsAC
-    from-same = λ i. openedOf four half (take 1486 (taps-same i)) (drop 1486 (taps-same i)) (settings-same i) lent
+    from-same = λ i. openedOf four (take 1486 (taps-same i)) (drop 1486 (taps-same i)) (settings-same i) lent
 
     then-same : (e : Early.Early) → earlyThen four (take m tape) lent e ≡ earlyThen four tape lent e
     unfolding earlyThen
@@ -178,33 +178,33 @@ module _ (tape : List ℕ) (m : ℕ) (low : 12135 ≤ m) (high : leAt 4 tape 121
         ∙ (λ i. record { head = beginningOf four tape lent; left = left-same (beginningOf four tape lent) i })
 
 -- ---- the length that the first bytes say
-length-low : (q : Counted.Counted) → 12135 ≤ lengthThen four q
+length-low : (q : Counted.Counted) → 12139 ≤ lengthThen four q
 unfolding lengthThen
 length-low (Counted.the-variants.Of n) = omega arith
 length-low Counted.the-variants.Wrong = omega arith
 
-length-of : (tape : List ℕ) → 12135 ≤ length tape → leAt 4 tape 12131 ≤ 400 → headLength four tape ≡ 12139 + 65 * leAt 4 tape 12131
+length-of : (tape : List ℕ) → 12139 ≤ length tape → leAt 4 tape 12135 ≤ 400 → headLength four tape ≡ 12143 + 65 * leAt 4 tape 12135
 unfolding headLength lengthThen
 length-of tape h g =
-    let n = leAt 4 tape 12131 in
+    let n = leAt 4 tape 12135 in
     ap (lengthThen four)
-    (sym (section-of tape 12131 0 400 0 n {b = true} h (sym (number-there 4 tape 12131 h)) (sym (between n 0 400 0 (length tape - 12135) (omega arith) g ∙ le-leb (0 * n) (length tape - 12135) (omega arith))) refl))
+    (sym (section-of tape 12135 0 400 0 n {b = true} h (sym (number-there 4 tape 12135 h)) (sym (between n 0 400 0 (length tape - 12139) (omega arith) g ∙ le-leb (0 * n) (length tape - 12139) (omega arith))) refl))
 
 -- what a tape begins with is what its bytes before the noise begin with
 pub head-of-prefix : (tape : List ℕ) (lent : OpenBuffers) → headOf four (take (headLength four tape) tape) lent ≡ headOf four tape lent
 unfolding headLength
-head-of-prefix tape lent = go (leb 12135 (length tape)) refl
+head-of-prefix tape lent = go (leb 12139 (length tape)) refl
   where
-    go : (b : Bool) → leb 12135 (length tape) ≡ b → headOf four (take (headLength four tape) tape) lent ≡ headOf four tape lent
+    go : (b : Bool) → leb 12139 (length tape) ≡ b → headOf four (take (headLength four tape) tape) lent ≡ headOf four tape lent
     go true e =
-        head-same tape (headLength four tape) (length-low (sectionAt tape 12131 0 400 0))
-        (λ g. let l = length-of tape (leb-true 12135 (length tape) e) g in omega arith)
+        head-same tape (headLength four tape) (length-low (sectionAt tape 12135 0 400 0))
+        (λ g. let l = length-of tape (leb-true 12139 (length tape) e) g in omega arith)
         lent
     go false e =
-        let h = leb-false 12135 (length tape) e in
-        ap (λ (l : List ℕ). headOf four l lent) (take-all (headLength four tape) tape (omega (arith, length-low (sectionAt tape 12131 0 400 0))))
+        let h = leb-false 12139 (length tape) e in
+        ap (λ (l : List ℕ). headOf four l lent) (take-all (headLength four tape) tape (omega (arith, length-low (sectionAt tape 12135 0 400 0))))
 
--- and the first 12,135 bytes say how many those are
-pub length-of-prefix : (tape : List ℕ) (k : ℕ) → 12135 ≤ k → headLength four (take k tape) ≡ headLength four tape
+-- and the first 12,139 bytes say how many those are
+pub length-of-prefix : (tape : List ℕ) (k : ℕ) → 12139 ≤ k → headLength four (take k tape) ≡ headLength four tape
 unfolding headLength
-length-of-prefix tape k h = ap (lengthThen four) (section-first tape k 12131 0 400 0 h (λ g. omega arith))
+length-of-prefix tape k h = ap (lengthThen four) (section-first tape k 12135 0 400 0 h (λ g. omega arith))

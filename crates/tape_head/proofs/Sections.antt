@@ -23,7 +23,7 @@ use Rattle.run_call.specs.declared.State.{State}
 use Rattle.pulse_shape.specs.Prototype.{modeSPrototype, modeACPrototype}
 use Rattle.run_theory.specs.Zeros.{zeros}
 use Rattle.run_open.specs.FillModel.{over}
-use Rattle.run_open_checks.specs.Opening.{half, OpenBuffers, openedOf, preparedOf, isRun, leftBy}
+use Rattle.run_open_checks.specs.Opening.{OpenBuffers, openedOf, preparedOf, isRun, leftBy}
 use Rattle.run_open_checks.specs.declared.Prepared.{Prepared}
 use Rattle.run_open.proofs.Filled.{filled}
 use Rattle.run_open_checks.specs.declared.Opened as Opened
@@ -37,7 +37,7 @@ use Rattle.tape_head.specs.declared.Beginning as Beginning
 use Rattle.tape_head.specs.Head.{tapeFault, noiseThen, faultThen, drawsThen, openedThen, taps, tapsS, tapsAC, settingsBytes, openedFrom, tapsThen, checkedThen, settingsThen, earlyOf, begins, Begun, earlyThen, leftThen, beginningOf, headOf}
 
 -- ---- the settings, as the code takes them
-pub settings-part : (tape : List ℕ) → take (123 - 4) (drop 4 tape) ≡ settingsBytes four tape
+pub settings-part : (tape : List ℕ) → take (127 - 4) (drop 4 tape) ≡ settingsBytes four tape
 unfolding settingsBytes
 settings-part tape = refl
 
@@ -47,31 +47,31 @@ module _ (tape : List ℕ) (s : State) (n : ℕ) where
   noise (U32.the-variants.Value m) = Beginning.the-variants.Run s n m
   noise U32.the-variants.OutOfBounds = tapeFault
 
-  pub noise-read : {q : U32.ReadU32} {at : ℕ} → q ≡ readU32 tape at → at ≡ 12135 + 65 * n → noise q ≡ noiseThen four tape s n
+  pub noise-read : {q : U32.ReadU32} {at : ℕ} → q ≡ readU32 tape at → at ≡ 12139 + 65 * n → noise q ≡ noiseThen four tape s n
   unfolding noiseThen
-  noise-read e h = ap noise (e ∙ ap (readU32 tape) h) ∙ read-then noise 4 U32.the-variants.Value U32.the-variants.OutOfBounds tape (12135 + 65 * n)
+  noise-read e h = ap noise (e ∙ ap (readU32 tape) h) ∙ read-then noise 4 U32.the-variants.Value U32.the-variants.OutOfBounds tape (12139 + 65 * n)
 
-  pub draws-faulty : {f : DrawFault.DrawFault} {r : Beginning.Beginning} (m : ℕ) → f ≡ firstFault (s .rates) (s .distributions) (take m (drop 12135 tape)) → m ≡ 65 * n → r ≡ faultThen four tape s n f
+  pub draws-faulty : {f : DrawFault.DrawFault} {r : Beginning.Beginning} (m : ℕ) → f ≡ firstFault (s .rates) (s .distributions) (take m (drop 12139 tape)) → m ≡ 65 * n → r ≡ faultThen four tape s n f
       → r ≡ drawsThen four tape s (Counted.the-variants.Of n)
   unfolding drawsThen
-  draws-faulty m e h p = p ∙ ap (faultThen four tape s n) (e ∙ ap (λ (k : ℕ). firstFault (s .rates) (s .distributions) (take k (drop 12135 tape))) h)
+  draws-faulty m e h p = p ∙ ap (faultThen four tape s n) (e ∙ ap (λ (k : ℕ). firstFault (s .rates) (s .distributions) (take k (drop 12139 tape))) h)
 
 -- ---- the taps
-pub taps-read : (tape : List ℕ) (z : List Float) {t : List Float} {r : ℕ} → 12131 ≤ length tape → length z ≡ 3001 → r ≡ min (length (take (length tape - 127) (drop 127 tape)) / 4) (length z)
-    → t ≡ floatsOf r (take (length tape - 127) (drop 127 tape)) ++ drop r z → t ≡ taps four tape
+pub taps-read : (tape : List ℕ) (z : List Float) {t : List Float} {r : ℕ} → 12135 ≤ length tape → length z ≡ 3001 → r ≡ min (length (take (length tape - 131) (drop 131 tape)) / 4) (length z)
+    → t ≡ floatsOf r (take (length tape - 131) (drop 131 tape)) ++ drop r z → t ≡ taps four tape
 unfolding taps
 taps-read tape z {t} {r} h l e p =
-    let q : take (length tape - 127) (drop 127 tape) ≡ drop 127 tape = take-all (length tape - 127) (drop 127 tape) (simp length-drop (omega arith)) in
-    let m : length (take (length tape - 127) (drop 127 tape)) ≡ length tape - 127 = ap length q ∙ length-drop 127 tape in
+    let q : take (length tape - 131) (drop 131 tape) ≡ drop 131 tape = take-all (length tape - 131) (drop 131 tape) (simp length-drop (omega arith)) in
+    let m : length (take (length tape - 131) (drop 131 tape)) ≡ length tape - 131 = ap length q ∙ length-drop 131 tape in
     let k : r ≡ 3001 = omega arith in
     p
     ∙ (λ i. floatsOf (k i) (q i) ++ drop (k i) z)
-    ∙ ap (λ (x : List Float). floatsOf 3001 (drop 127 tape) ++ x) (ap (λ (x : ℕ). drop x z) (sym l) ∙ drop-length z)
-    ∙ append-nil (floatsOf 3001 (drop 127 tape))
+    ∙ ap (λ (x : List Float). floatsOf 3001 (drop 131 tape) ++ x) (ap (λ (x : ℕ). drop x z) (sym l) ∙ drop-length z)
+    ∙ append-nil (floatsOf 3001 (drop 131 tape))
 
 pub taps-length : (tape : List ℕ) → length (taps four tape) ≡ 3001
 unfolding taps
-taps-length tape = length-floats 3001 (drop 127 tape)
+taps-length tape = length-floats 3001 (drop 131 tape)
 
 -- the second lowpass, as the code takes it
 pub taps-behind : (tape : List ℕ) {t : List Float} → t ≡ taps four tape → take (length t - 1486) (drop 1486 t) ≡ tapsAC four tape
@@ -83,25 +83,25 @@ unfolding tapsS
 taps-before tape e = ap (take 1486) e
 
 -- opening as the code calls it is opening from the tape
-pub prepared-from : (tape : List ℕ) (x y z : ℕ) {a b : List Float} {bytes : List ℕ} {P : Prepared} → a ≡ tapsS four tape → b ≡ tapsAC four tape → bytes ≡ settingsBytes four tape → P ≡ preparedOf four half a b bytes x y z
-    → P ≡ preparedOf four half (tapsS four tape) (tapsAC four tape) (settingsBytes four tape) x y z
-prepared-from tape x y z p q s e = e ∙ (λ i. preparedOf four half (p i) (q i) (s i) x y z)
+pub prepared-from : (tape : List ℕ) (x y z : ℕ) {a b : List Float} {bytes : List ℕ} {P : Prepared} → a ≡ tapsS four tape → b ≡ tapsAC four tape → bytes ≡ settingsBytes four tape → P ≡ preparedOf four a b bytes x y z
+    → P ≡ preparedOf four (tapsS four tape) (tapsAC four tape) (settingsBytes four tape) x y z
+prepared-from tape x y z p q s e = e ∙ (λ i. preparedOf four (p i) (q i) (s i) x y z)
 
 -- ---- what stands before the taps' values
 module _ (tape : List ℕ) where
-  pub taps-passed : {q : Counted.Counted} {n : ℕ} → q ≡ sectionAt tape 123 3001 3001 4 → q ≡ Counted.the-variants.Of n → Early.the-variants.Accepted ≡ tapsThen (sectionAt tape 123 3001 3001 4)
+  pub taps-passed : {q : Counted.Counted} {n : ℕ} → q ≡ sectionAt tape 127 3001 3001 4 → q ≡ Counted.the-variants.Of n → Early.the-variants.Accepted ≡ tapsThen (sectionAt tape 127 3001 3001 4)
   unfolding tapsThen
   taps-passed e f = sym (ap tapsThen (sym e ∙ f))
 
-  pub taps-wrong : {q : Counted.Counted} → q ≡ sectionAt tape 123 3001 3001 4 → q ≡ Counted.the-variants.Wrong → Early.the-variants.Refused 11 ≡ tapsThen (sectionAt tape 123 3001 3001 4)
+  pub taps-wrong : {q : Counted.Counted} → q ≡ sectionAt tape 127 3001 3001 4 → q ≡ Counted.the-variants.Wrong → Early.the-variants.Refused 11 ≡ tapsThen (sectionAt tape 127 3001 3001 4)
   unfolding tapsThen
   taps-wrong e f = sym (ap tapsThen (sym e ∙ f))
 
-  pub early-wrong : {q : Counted.Counted} → q ≡ sectionAt tape 0 1 1 119 → q ≡ Counted.the-variants.Wrong → Early.the-variants.Refused 11 ≡ earlyOf four tape
+  pub early-wrong : {q : Counted.Counted} → q ≡ sectionAt tape 0 1 1 123 → q ≡ Counted.the-variants.Wrong → Early.the-variants.Refused 11 ≡ earlyOf four tape
   unfolding earlyOf settingsThen
   early-wrong e f = sym (ap (settingsThen four tape) (sym e ∙ f))
 
-  pub early-checked : {q : Counted.Counted} {n : ℕ} {bytes : List ℕ} {x : Checked.Checked} {r : Early.Early} → q ≡ sectionAt tape 0 1 1 119 → q ≡ Counted.the-variants.Of n → bytes ≡ settingsBytes four tape
+  pub early-checked : {q : Counted.Counted} {n : ℕ} {bytes : List ℕ} {x : Checked.Checked} {r : Early.Early} → q ≡ sectionAt tape 0 1 1 123 → q ≡ Counted.the-variants.Of n → bytes ≡ settingsBytes four tape
       → x ≡ acceptedOf four (settingsOf bytes) → r ≡ checkedThen four tape x → r ≡ earlyOf four tape
   unfolding earlyOf settingsThen
   early-checked {q} {n} {bytes} {x} {r} e f g h p =
@@ -111,23 +111,23 @@ module _ (tape : List ℕ) where
   unfolding checkedThen
   checked-refused q e f = ap Early.the-variants.Refused f ∙ sym (ap (checkedThen four tape) e)
 
-  pub checked-accepted : {x : Checked.Checked} {r : Early.Early} {m : ℕ} {all : Distributions} → x ≡ Checked.the-variants.Accepted m all → r ≡ tapsThen (sectionAt tape 123 3001 3001 4) → r ≡ checkedThen four tape x
+  pub checked-accepted : {x : Checked.Checked} {r : Early.Early} {m : ℕ} {all : Distributions} → x ≡ Checked.the-variants.Accepted m all → r ≡ tapsThen (sectionAt tape 127 3001 3001 4) → r ≡ checkedThen four tape x
   unfolding checkedThen
   checked-accepted e p = p ∙ sym (ap (checkedThen four tape) e)
 
   -- where nothing is refused, the taps lie on the tape
   Long : Early.Early → Type 0
-  Long Early.the-variants.Accepted = 12131 ≤ length tape
+  Long Early.the-variants.Accepted = 12135 ≤ length tape
   Long (Early.the-variants.Refused number) = Unit {0}
 
-  taps-long : (q : Counted.Counted) → q ≡ sectionAt tape 123 3001 3001 4 → Long (tapsThen q)
+  taps-long : (q : Counted.Counted) → q ≡ sectionAt tape 127 3001 3001 4 → Long (tapsThen q)
   unfolding tapsThen Long
-  taps-long (Counted.the-variants.Of n) e = let t = counted tape 123 3001 3001 4 n e refl in omega (arith, t .0, t .2)
+  taps-long (Counted.the-variants.Of n) e = let t = counted tape 127 3001 3001 4 n e refl in omega (arith, t .0, t .2)
   taps-long Counted.the-variants.Wrong e = tt
 
   checked-long : (x : Checked.Checked) → Long (checkedThen four tape x)
   unfolding checkedThen Long
-  checked-long (Checked.the-variants.Accepted samples all) = taps-long (sectionAt tape 123 3001 3001 4) refl
+  checked-long (Checked.the-variants.Accepted samples all) = taps-long (sectionAt tape 127 3001 3001 4) refl
   checked-long (Checked.the-variants.Refused refusal) = tt
 
   settings-long : (q : Counted.Counted) → Long (settingsThen four tape q)
@@ -135,9 +135,9 @@ module _ (tape : List ℕ) where
   settings-long (Counted.the-variants.Of n) = checked-long (acceptedOf four (settingsOf (settingsBytes four tape)))
   settings-long Counted.the-variants.Wrong = tt
 
-  pub passed-long : {e : Early.Early} → e ≡ earlyOf four tape → e ≡ Early.the-variants.Accepted → 12131 ≤ length tape
+  pub passed-long : {e : Early.Early} → e ≡ earlyOf four tape → e ≡ Early.the-variants.Accepted → 12135 ≤ length tape
   unfolding earlyOf Long
-  passed-long e f = subst Long (sym e ∙ f) (settings-long (sectionAt tape 0 1 1 119))
+  passed-long e f = subst Long (sym e ∙ f) (settings-long (sectionAt tape 0 1 1 123))
 
 -- ---- the whole
 pub a-run : {b : Beginning.Beginning} {s : State} {n count : ℕ} → b ≡ Beginning.the-variants.Run s n count → true ≡ begins b
@@ -166,7 +166,7 @@ module _ (tape : List ℕ) (lent : OpenBuffers) where
         → modeS ≡ cond w (over p (lent .modeS)) (lent .modeS) → modeAC ≡ cond w (over q (lent .modeAC)) (lent .modeAC) → memory ≡ cond w (zeros (length (lent .memory))) (lent .memory)
         → record { modeS = modeS; modeAC = modeAC; memory = memory } ≡ leftThen four tape lent b
     unfolding leftThen begins openedThen openedFrom isRun leftBy
-    left-given w (Opened.the-variants.Run state) (Beginning.the-variants.Run s n count) e h t x y z = filled half (tapsS four tape) (tapsAC four tape) (settingsBytes four tape) lent modeS modeAC memory p q f g w (Opened.the-variants.Run state) e t x y z
+    left-given w (Opened.the-variants.Run state) (Beginning.the-variants.Run s n count) e h t x y z = filled (tapsS four tape) (tapsAC four tape) (settingsBytes four tape) lent modeS modeAC memory p q f g w (Opened.the-variants.Run state) e t x y z
     left-given w (Opened.the-variants.Refused r) (Beginning.the-variants.Run s n count) e h t x y z = absurd (false≢true (sym (ap begins h)))
     left-given w o (Beginning.the-variants.Refused k) e h t x y z =
         λ i. record {
@@ -176,7 +176,7 @@ module _ (tape : List ℕ) (lent : OpenBuffers) where
         }
 
   pub head-given : {e : Early.Early} {P : Prepared} {b : Beginning.Beginning} {w : Bool} {modeS modeAC memory : List Float} → e ≡ earlyOf four tape → e ≡ Early.the-variants.Accepted
-      → P ≡ preparedOf four half (tapsS four tape) (tapsAC four tape) (settingsBytes four tape) (length (lent .modeS)) (length (lent .modeAC)) (length (lent .memory)) → b ≡ openedThen four tape (P .opened) → w ≡ begins b
+      → P ≡ preparedOf four (tapsS four tape) (tapsAC four tape) (settingsBytes four tape) (length (lent .modeS)) (length (lent .modeAC)) (length (lent .memory)) → b ≡ openedThen four tape (P .opened) → w ≡ begins b
       → modeS ≡ cond w (over (P .«mode_s») (lent .modeS)) (lent .modeS) → modeAC ≡ cond w (over (P .«mode_ac») (lent .modeAC)) (lent .modeAC) → memory ≡ cond w (zeros (length (lent .memory))) (lent .memory)
       → record { head = b; left = record { modeS = modeS; modeAC = modeAC; memory = memory } } ≡ headOf four tape lent
   unfolding preparedOf openedOf openedFrom earlyThen begun

@@ -13,7 +13,7 @@ use Rattle.settings.specs.declared.Checked as Checked
 use Rattle.draw.specs.Fault.{firstFault}
 use Rattle.draw.specs.declared.DrawFault as DrawFault
 use Rattle.run_call.specs.declared.State.{State}
-use Rattle.run_open_checks.specs.Opening.{half, OpenBuffers, openedOf, leftBy}
+use Rattle.run_open_checks.specs.Opening.{OpenBuffers, openedOf, leftBy}
 use Rattle.run_open_checks.specs.declared.Opened as Opened
 use Rattle.tape_floats.specs.Floats.{floatsOf}
 use Rattle.tape_sections.specs.declared.Counted as Counted
@@ -60,14 +60,14 @@ module _ (sps : ℕ) (tape : List ℕ) where
 
   -- opening, given the taps of a tape
   unfoldable pub openedFrom : OpenBuffers → Opened.Opened
-  openedFrom lent = openedOf sps half tapsS tapsAC settingsBytes lent
+  openedFrom lent = openedOf sps tapsS tapsAC settingsBytes lent
 
 -- the taps' count and length
 unfoldable pub tapsThen : Counted.Counted → Early.Early
 tapsThen (Counted.the-variants.Of n) = Early.the-variants.Accepted
 tapsThen Counted.the-variants.Wrong = Early.the-variants.Refused 11
 
--- what stands before the taps' values: refusals 1 to 4, then the taps' count and length
+-- what stands before the taps' values: refusals 1 to 4 and 14, then the taps' count and length
 module _ (sps : ℕ) (tape : List ℕ) where
   unfoldable pub checkedThen : Checked.Checked → Early.Early
   checkedThen (Checked.the-variants.Accepted samples all) = tapsThen (sectionAt tape tapsOffset (tapsCount sps) (tapsCount sps) 4)

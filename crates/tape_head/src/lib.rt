@@ -3,7 +3,7 @@ ghost use mathlib.Core.Path.{_≡_};
 ghost use Prim.Native.Nat.{_+_, _*_, _≤_};
 ghost use lib.ListN.{length};
 ghost use Rattle.constants.specs.Rate.{four};
-ghost use Rattle.run_open_checks.specs.Opening.{half, preparedOf};
+ghost use Rattle.run_open_checks.specs.Opening.{preparedOf};
 ghost use Rattle.tape_sections.specs.Sections.{sectionAt};
 ghost use Rattle.tape_head.specs.Head.{noiseThen, drawsThen, openedThen, taps, tapsS, tapsAC, settingsBytes, tapsThen, earlyOf, begins, headOf};
 use constants::DRAW_LEN;
@@ -52,7 +52,7 @@ fn noise_count(state: State, n: u64, tape: &[u8]) -> Beginning
 
 // Refusal 7 of n draws, then the noise's count.
 fn check_draws(state: State, n: u64, tape: &[u8]) -> Beginning
-    requires { ⌜ (n ≤ 400) × (12135 + 65 * n ≤ length (now tape)) ⌝ }
+    requires { ⌜ (n ≤ 400) × (12139 + 65 * n ≤ length (now tape)) ⌝ }
     ensures { λ r. ⌜ r ≡ drawsThen four (now (tape .entry)) state (Counted.Of n) ⌝ }
 {
     let rates = state.rates;
@@ -75,7 +75,7 @@ fn draws_section(state: State, tape: &[u8]) -> Beginning
 }
 
 fn read_taps(tape: &[u8]) -> [f32; TAPS_LEN]
-    requires { ⌜ 12131 ≤ length (now tape) ⌝ }
+    requires { ⌜ 12135 ≤ length (now tape) ⌝ }
     ensures { λ r. ⌜ r ≡ taps four (now (tape .entry)) ⌝ }
 {
     let mut taps = [0.0f32; TAPS_LEN];
@@ -85,13 +85,13 @@ fn read_taps(tape: &[u8]) -> [f32; TAPS_LEN]
 
 // What opening answers, given the taps of a tape and buffers of these lengths, and its prototypes.
 fn prepared(tape: &[u8], mode_s: usize, mode_ac: usize, memory: usize) -> Prepared
-    requires { ⌜ 12131 ≤ length (now tape) ⌝ }
-    ensures { λ r. ⌜ r ≡ preparedOf four half (tapsS four (now (tape .entry))) (tapsAC four (now (tape .entry))) (settingsBytes four (now (tape .entry))) «mode_s» «mode_ac» memory ⌝ }
+    requires { ⌜ 12135 ≤ length (now tape) ⌝ }
+    ensures { λ r. ⌜ r ≡ preparedOf four (tapsS four (now (tape .entry))) (tapsAC four (now (tape .entry))) (settingsBytes four (now (tape .entry))) «mode_s» «mode_ac» memory ⌝ }
 {
     let taps = read_taps(tape);
     let all: &[f32] = &taps;
     run_open_checks::prepare(
-        &tape[4..123],
+        &tape[4..TAPS_COUNT_OFFSET],
         &all[..MODE_S_TAPS_LEN],
         &all[MODE_S_TAPS_LEN..],
         mode_s,
@@ -112,7 +112,7 @@ fn opened_then(opened: Opened, tape: &[u8]) -> Beginning
 
 // The taps' count and length.
 fn taps_section(tape: &[u8]) -> Early
-    ensures { λ r. ⌜ r ≡ tapsThen (sectionAt (now (tape .entry)) 123 3001 3001 4) ⌝ }
+    ensures { λ r. ⌜ r ≡ tapsThen (sectionAt (now (tape .entry)) 127 3001 3001 4) ⌝ }
 {
     match tape_sections::section(tape, TAPS_COUNT_OFFSET, TAPS_COUNT, TAPS_COUNT, TAP_SIZE) {
         Counted::Of(_) => Early::Accepted,
@@ -127,7 +127,7 @@ fn before_taps(tape: &[u8]) -> Early
     if let Counted::Wrong = tape_sections::section(tape, 0, 1, 1, SETTINGS_SIZE) {
         return Early::Refused(11);
     }
-    let s = settings::read(&tape[4..123]);
+    let s = settings::read(&tape[4..TAPS_COUNT_OFFSET]);
     match settings::check(s) {
         Checked::Refused(q) => Early::Refused(refusals::number(q)),
         Checked::Accepted(_, _) => taps_section(tape),

@@ -42,7 +42,7 @@ pub fn read_values(want: usize, row: &mut [f32]) -> usize
     tape_floats::floats(&bytes[..size], row)
 }
 
-// The bytes of a tape up to its noise, 38,139 at most; how many there are. None are read where there is no room for 38,139.
+// The bytes of a tape up to its noise, 38,143 at most; how many there are. None are read where there is no room for 38,143.
 pub fn read_head(bytes: &mut [u8]) -> usize
     ensures { λ r. ⌜ Counts r (now (bytes .exit)) ⌝ }
 {

@@ -78,11 +78,11 @@ unfolding InSection
 counted tape at least most size n e f = subst (InSection tape at least most size) (sym e ∙ f) (section-in tape at least most size)
 
 -- ---- the bytes before the noise
-module _ (tape : List ℕ) {q : Counted.Counted} (e : q ≡ sectionAt tape 12131 0 400 0) where
-  pub length-counted : {r n : ℕ} → q ≡ Counted.the-variants.Of n → r ≡ 12139 + 65 * n → r ≡ headLength four tape
+module _ (tape : List ℕ) {q : Counted.Counted} (e : q ≡ sectionAt tape 12135 0 400 0) where
+  pub length-counted : {r n : ℕ} → q ≡ Counted.the-variants.Of n → r ≡ 12143 + 65 * n → r ≡ headLength four tape
   unfolding headLength lengthThen
   length-counted f h = h ∙ ap (lengthThen four) (sym f ∙ e)
 
-  pub length-wrong : {r : ℕ} → q ≡ Counted.the-variants.Wrong → r ≡ 12135 → r ≡ headLength four tape
+  pub length-wrong : {r : ℕ} → q ≡ Counted.the-variants.Wrong → r ≡ 12139 → r ≡ headLength four tape
   unfolding headLength lengthThen
   length-wrong f h = h ∙ ap (lengthThen four) (sym f ∙ e)

@@ -6,15 +6,16 @@ use lib.Dec.{leb}
 use lib.ListN.{length}
 use Rattle.constants.specs.Rate.{modeSTaps, modeACTaps}
 use Rattle.le_read.specs.LeBytes.{readAt}
+use Rattle.settings.specs.Settings.{settingsLength}
 use Rattle.tape_sections.specs.declared.Counted as Counted
 
 -- the most draws of a tape (SPECIFICATION 4.6)
 abbrev pub mostDraws : ℕ
 mostDraws = 400
 
--- where the counts stand: that of the settings at 0, 119 bytes behind it that of the taps, and so on
+-- where the counts stand: that of the settings at 0, behind the settings' 123 bytes that of the taps, and so on
 abbrev pub tapsOffset : ℕ
-tapsOffset = 4 + 119
+tapsOffset = 4 + settingsLength
 
 abbrev pub tapsCount : ℕ → ℕ
 tapsCount sps = modeSTaps sps + modeACTaps sps
@@ -33,7 +34,7 @@ countThen tape at least most size n = cond (leb least n && leb n most && leb (at
 unfoldable pub sectionAt : List ℕ → ℕ → ℕ → ℕ → ℕ → Counted.Counted
 sectionAt tape at least most size = readAt 4 (countThen tape at least most size) Counted.the-variants.Wrong tape at
 
--- how many bytes of a tape stand before its noise, as the first 12,135 say
+-- how many bytes of a tape stand before its noise, as the first 12,139 say
 unfoldable pub lengthThen : ℕ → Counted.Counted → ℕ
 lengthThen sps (Counted.the-variants.Of n) = drawsOffset sps + 8 + 65 * n
 lengthThen sps Counted.the-variants.Wrong = drawsOffset sps + 4

@@ -6,20 +6,21 @@ ghost use lib.Dec.{leb};
 ghost use Rattle.constants.specs.Rate.{four};
 ghost use Rattle.tape_sections.specs.Sections.{sectionAt, headLength};
 use constants::DRAW_LEN;
+use settings::SETTINGS_LEN;
 
 // Offsets in a tape: the taps' count, the taps, the draws' count, the draws.
-pub const TAPS_COUNT_OFFSET: usize = 123;
+pub const TAPS_COUNT_OFFSET: usize = 127;
 
-pub const TAPS_OFFSET: usize = 127;
+pub const TAPS_OFFSET: usize = 131;
 
-pub const DRAWS_COUNT_OFFSET: usize = 12131;
+pub const DRAWS_COUNT_OFFSET: usize = 12135;
 
-pub const DRAWS_OFFSET: usize = 12135;
+pub const DRAWS_OFFSET: usize = 12139;
 
 // Bytes before the noise: with no draws, and with the most.
-pub const SHORTEST_HEAD_LEN: usize = 12139;
+pub const SHORTEST_HEAD_LEN: usize = 12143;
 
-pub const LONGEST_HEAD_LEN: usize = 38139;
+pub const LONGEST_HEAD_LEN: usize = 38143;
 
 // Taps of both lowpasses, as a count and as a length.
 pub const TAPS_COUNT: u64 = 3001;
@@ -30,7 +31,7 @@ pub const TAPS_LEN: usize = 3001;
 pub const MAX_DRAWS: u64 = 400;
 
 // Bytes of an entry of each section.
-pub const SETTINGS_SIZE: u32 = 119;
+pub const SETTINGS_SIZE: u32 = SETTINGS_LEN as u32;
 
 pub const TAP_SIZE: u32 = 4;
 
@@ -86,10 +87,10 @@ pub fn section(tape: &[u8], at: usize, least: u64, most: u64, size: u32) -> Coun
     Counted::Wrong
 }
 
-// How many bytes of a tape stand before its noise, as its first 12,135 say.
+// How many bytes of a tape stand before its noise, as its first 12,139 say.
 pub fn head_length(tape: &[u8]) -> usize
     ensures { λ r. ⌜ r ≡ headLength four (now (tape .entry)) ⌝ }
-    ensures { λ r. ⌜ (12135 ≤ r) × (r ≤ 38139) ⌝ }
+    ensures { λ r. ⌜ (12139 ≤ r) × (r ≤ 38143) ⌝ }
 {
     match section(tape, DRAWS_COUNT_OFFSET, 0, MAX_DRAWS, 0) {
         Counted::Of(n) => SHORTEST_HEAD_LEN + DRAW_LEN * n as usize,

@@ -47,7 +47,7 @@ use Rattle.tape_theory.proofs.FedSamples.{fed-samples}
 module _ (tape : List ℕ) (lent : Opening.OpenBuffers) where
   -- the bytes of n draws
   abbrev drawBytes : ℕ → List ℕ
-  drawBytes n = take (65 * n) (drop 12135 tape)
+  drawBytes n = take (65 * n) (drop 12139 tape)
 
   -- ---- what a head that begins a run has shown: opening answers that run, and no draw is at fault
   Begins : Beginning.Beginning → Type 0
@@ -57,9 +57,9 @@ module _ (tape : List ℕ) (lent : Opening.OpenBuffers) where
   module _ (s : State) (opens : openedFrom four tape lent ≡ Opened.the-variants.Run s) where
     fault-begins : (n : ℕ) (f : DrawFault.DrawFault) → firstFault (s .rates) (s .distributions) (drawBytes n) ≡ f → Begins (faultThen four tape s n f)
     unfolding faultThen noiseThen readAt Begins
-    fault-begins n DrawFault.the-variants.None e = go (inside 4 tape (12135 + 65 * n))
+    fault-begins n DrawFault.the-variants.None e = go (inside 4 tape (12139 + 65 * n))
       where
-        go : (b : Bool) → Begins (cond b (Beginning.the-variants.Run s n (leAt 4 tape (12135 + 65 * n))) tapeFault)
+        go : (b : Bool) → Begins (cond b (Beginning.the-variants.Run s n (leAt 4 tape (12139 + 65 * n))) tapeFault)
         go true = (opens, e)
         go false = tt
     fault-begins n (DrawFault.the-variants.At k field) e = tt
@@ -71,7 +71,7 @@ module _ (tape : List ℕ) (lent : Opening.OpenBuffers) where
 
   opened-begins : (o : Opened.Opened) → openedFrom four tape lent ≡ o → Begins (openedThen four tape o)
   unfolding openedThen Begins
-  opened-begins (Opened.the-variants.Run s) e = draws-begins s e (sectionAt tape 12131 0 400 65)
+  opened-begins (Opened.the-variants.Run s) e = draws-begins s e (sectionAt tape 12135 0 400 65)
   opened-begins (Opened.the-variants.Refused refusal) e = tt
 
   early-begins : (e : Early.Early) → Begins (earlyThen four tape lent e)
@@ -93,7 +93,7 @@ module _ (tape : List ℕ) (lent : Opening.OpenBuffers) where
     unfolding headOf beginningOf Begins
     shown = subst Begins run (early-begins (earlyOf four tape))
 
-    opens : Opening.openedOf four Opening.half (tapsS four tape) (tapsAC four tape) (settingsBytes four tape) lent ≡ Opened.the-variants.Run s
+    opens : Opening.openedOf four (tapsS four tape) (tapsAC four tape) (settingsBytes four tape) lent ≡ Opened.the-variants.Run s
     unfolding openedFrom
     opens = shown .0
 
@@ -102,7 +102,7 @@ module _ (tape : List ℕ) (lent : Opening.OpenBuffers) where
     clean = sym (fault-same (s .rates) (s .distributions) (length (drawBytes n) / 65) 0 (drawBytes n)) ∙ ap faultRead (shown .1)
 
     draws-length : length (drawBytes n) ≡ 65 * n
-    draws-length = length-take-le (65 * n) (drop 12135 tape) (omega (arith, head-within tape lent s n count run .1, length-drop 12135 tape))
+    draws-length = length-take-le (65 * n) (drop 12139 tape) (omega (arith, head-within tape lent s n count run .1, length-drop 12139 tape))
 
     laws : Laws G
     laws =
@@ -136,7 +136,7 @@ module _ (tape : List ℕ) (lent : Opening.OpenBuffers) where
     start records room =
         ap (λ (m : List Float). record { feed = startOf s; memory = m; records = records }) memory-is
         ∙ ap (λ (z : Machine.State G nan). standing (lentTape records room) z (Bench.bench0 G) Bench.wantsNoise)
-        (opened-first Opening.half (tapsS four tape) (tapsAC four tape) (settingsBytes four tape) lent s opens)
+        (opened-first (tapsS four tape) (tapsAC four tape) (settingsBytes four tape) lent s opens)
 
     pub plain-tape : PlainTape s modeS modeAC (headOf four tape lent .left .memory) (drawBytes n)
     plain-tape = record {

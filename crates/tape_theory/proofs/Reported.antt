@@ -59,10 +59,10 @@ pub reported-refused : (tape : List ℕ) (b : Begun) → b ≡ headOf four tape 
 reported-refused tape b e number h before = head-refused tape number (sym (ap (λ (x : Begun). x .head) e) ∙ h) refl refl
 
 -- the draws of a head that stands at the start of more bytes
-same-draws : (n got : ℕ) (bytes : List ℕ) → 12135 + 65 * n ≤ length (take got bytes) → take (65 * n) (drop 12135 (take got bytes)) ≡ take (65 * n) (drop 12135 bytes)
+same-draws : (n got : ℕ) (bytes : List ℕ) → 12139 + 65 * n ≤ length (take got bytes) → take (65 * n) (drop 12139 (take got bytes)) ≡ take (65 * n) (drop 12139 bytes)
 same-draws n got bytes h =
-    sym (take-append-le (65 * n) (drop 12135 (take got bytes)) (drop got bytes) (omega (arith, length-drop 12135 (take got bytes))))
-    ∙ ap (take (65 * n)) (sym (drop-append-le 12135 (take got bytes) (drop got bytes) (omega arith)) ∙ ap (drop 12135) (take-append-drop got bytes))
+    sym (take-append-le (65 * n) (drop 12139 (take got bytes)) (drop got bytes) (omega (arith, length-drop 12139 (take got bytes))))
+    ∙ ap (take (65 * n)) (sym (drop-append-le 12139 (take got bytes) (drop got bytes) (omega arith)) ∙ ap (drop 12139) (take-append-drop got bytes))
 
 -- a head is the first got of some bytes
 module _ (tape : List ℕ) (s : State) (n count : ℕ) (modeS modeAC memory : List Float) (head : Beginning.Beginning)
@@ -77,7 +77,7 @@ module _ (tape : List ℕ) (s : State) (n count : ℕ) (modeS modeAC memory : Li
 
   module _ (size : ℕ) (sized : size ≡ 65 * n) (first f : Feed) (starts : first ≡ startOf s) (before written records′ : List ℕ) (memory′ : List Float) (untaken short left : Bool) (r : Outcome.Outcome)
       (own : written ≡ before) (room : recordsLent ≡ length written)
-      (fed : FedCut modeS modeAC (take size (drop 12135 bytes)) count (record { feed = first; memory = memory; records = written }) short (record { feed = f; memory = memory′; records = records′ })) where
+      (fed : FedCut modeS modeAC (take size (drop 12139 bytes)) count (record { feed = first; memory = memory; records = written }) short (record { feed = f; memory = memory′; records = records′ })) where
     pub reported-run : (after : List ℕ) (wanted : Bool) → r ≡ outcomeOf untaken short left f → wanted ≡ outcomeDone r → after ≡ cond wanted records′ before → Reported r before after
     unfolding begun leftBy drawsSection recordsLeft
     reported-run after wanted er ew ea =
@@ -87,8 +87,8 @@ module _ (tape : List ℕ) (s : State) (n count : ℕ) (modeS modeAC memory : Li
         fed)
         er (ea ∙ ap (λ (b : Bool). cond b records′ before) ew)
       where
-        draws : take size (drop 12135 bytes) ≡ take (65 * n) (drop 12135 tape)
-        draws = ap (λ (k : ℕ). take k (drop 12135 bytes)) sized ∙ sym (ap (λ (l : List ℕ). take (65 * n) (drop 12135 l)) first-part ∙ same-draws n got bytes (omega (arith, head-within tape lentByProgram s n count head-begins .1, ap length first-part)))
+        draws : take size (drop 12139 bytes) ≡ take (65 * n) (drop 12139 tape)
+        draws = ap (λ (k : ℕ). take k (drop 12139 bytes)) sized ∙ sym (ap (λ (l : List ℕ). take (65 * n) (drop 12139 l)) first-part ∙ same-draws n got bytes (omega (arith, head-within tape lentByProgram s n count head-begins .1, ap length first-part)))
 
 -- ---- only a run that is done writes records
 pub others-leave : (r : Outcome.Outcome) (before after : List ℕ) → outcomeDone r ≡ false → Reported r before after → after ≡ before
@@ -114,7 +114,7 @@ module _ (r : Outcome.Outcome) (f : Held) (before after : List ℕ) (ea : after 
 -- room for a record of each draw
 rooms : (tape : List ℕ) (s : State) (n count : ℕ) → headRead tape ≡ Beginning.the-variants.Run s n count → (before : List ℕ) → length before ≡ recordsLent → 66 * (length (drawsSection tape n) / 65) ≤ length before
 unfolding drawsSection
-rooms tape s n count begins before room = omega (arith, room, length-take (65 * n) (drop 12135 tape), head-within tape lentByProgram s n count begins .0)
+rooms tape s n count begins before room = omega (arith, room, length-take (65 * n) (drop 12139 tape), head-within tape lentByProgram s n count begins .0)
 
 pub reported-plainly : (r : Outcome.Outcome) (before after : List ℕ) → Reported r before after → PlainlyReported r before after
 unfolding outcomeOf verdictOf fedEnding fedText outcomeDone recordsLeft endingBy drawsSection
@@ -152,4 +152,4 @@ few-reported r before after h = go (reported-plainly r before after h)
     go (plain tape s n count e noise all left q text) =
         let G = genOf s (modeSOf tape) (modeACOf tape) in
         few-said _ _ (length (plainRecords G (drawsOf G (drawsSection tape n)))) (s .total) r before after
-        (omega (arith, few-records G (drawsOf G (drawsSection tape n)), length-draws G (drawsSection tape n), length-take (65 * n) (drop 12135 tape), head-within tape lentByProgram s n count e .0)) q
+        (omega (arith, few-records G (drawsOf G (drawsSection tape n)), length-draws G (drawsSection tape n), length-take (65 * n) (drop 12139 tape), head-within tape lentByProgram s n count e .0)) q

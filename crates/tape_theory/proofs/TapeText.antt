@@ -41,7 +41,7 @@ module _ (tape : List ℕ) where
     -- room for a record of each draw
     rooms : (records : List ℕ) → 26400 ≤ length records → 66 * (length (drawsSection tape n) / 65) ≤ length records
     unfolding drawsSection
-    rooms records room = omega (arith, room, length-take (65 * n) (drop 12135 tape), head-within tape lentByProgram s n count head .0)
+    rooms records room = omega (arith, room, length-take (65 * n) (drop 12139 tape), head-within tape lentByProgram s n count head .0)
 
     pub tape-text : 4 * count ≤ length (behindCount tape n) → (records : List ℕ) → 26400 ≤ length records → (c : Chunk) (cs : List Chunk) → Cut (c ∷ cs)
         → (bs : List (List ℕ)) → Parts bs (c ∷ cs) → join bs ≡ take (4 * count) (behindCount tape n)

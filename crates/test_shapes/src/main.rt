@@ -147,6 +147,7 @@ fn both(prototype: &[f32]) {
     delay(0.25, prototype);
     delay(0.9, prototype);
     delay(15.0, prototype);
+    delay(0.1, prototype);
     replies(prototype, 5, 240);
     replies(prototype, 6, 128);
     replies(prototype, 7, 43);

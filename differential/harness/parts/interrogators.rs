@@ -94,7 +94,7 @@ fn any_bytes(t: &mut Tally, r: &mut Random) {
 
 /// Made messages: an all-call as its overlay, an acquisition squitter II 0, and nothing else.
 fn made(t: &mut Tally, r: &mut Random, count: u64) {
-    lent::lend_taps(&make::worked().taps);
+    lent::lend_taps(&make::worked().taps, 0.5);
     let mut done = 0;
     while done < count {
         let s = replies::plain_settings(r);

@@ -196,7 +196,7 @@ pub fn plain_settings(r: &mut Random) -> Settings {
 /// Draws that the settings accept, and draws with one field changed, against the functions `random_..` fed with the same
 /// draw. Where a field is out of range the Rust panics, so the field is held to the rules.
 fn made(t: &mut Tally, r: &mut Random, count: u64) {
-    lent::lend_taps(&make::worked().taps);
+    lent::lend_taps(&make::worked().taps, 0.5);
     let mut done = 0;
     while done < count {
         let s = plain_settings(r);

@@ -26,15 +26,16 @@ unsafe extern "C" {
 
 pub fn compare(t: &mut Tally, r: &mut Random, count: u64) {
     for _ in 0..(count / 1000).max(1) {
-        let taps = make::taps(r);
-        let all = prototypes(t, &taps);
+        let level = make::trigger_level(r);
+        let taps = make::taps(r, level);
+        let all = prototypes(t, &taps, level);
         for p in &all {
             for _ in 0..100 {
                 taps_at(t, r, p);
             }
-            delay(t, r, p);
+            delay(t, r, p, level);
         }
-        messages(t, r, &all, &taps);
+        messages(t, r, &all, &taps, level);
     }
 }
 
@@ -55,8 +56,8 @@ pub fn prototypes_of(taps: &[f32]) -> [[f32; 1792]; 2] {
     [out_s, out_ac]
 }
 
-fn prototypes(t: &mut Tally, taps: &[f32]) -> [Vec<f32>; 2] {
-    let expected = judge::prototypes(taps);
+fn prototypes(t: &mut Tally, taps: &[f32], level: f32) -> [Vec<f32>; 2] {
+    let expected = judge::prototypes(taps, level);
     let ours = prototypes_of(taps);
     for ((name, a), b) in ["mode_s_prototype", "mode_ac_prototype"]
         .into_iter()
@@ -68,50 +69,51 @@ fn prototypes(t: &mut Tally, taps: &[f32]) -> [Vec<f32>; 2] {
     expected
 }
 
-/// The port's delays of a prototype, as one of Mode S and as one of Mode A/C.
-fn both_delays(prototype: &[f32]) -> [f64; 2] {
+/// The port's delays of a prototype at a trigger level, as one of Mode S and as one of Mode A/C.
+fn both_delays(prototype: &[f32], level: f32) -> [f64; 2] {
     let mut out = [f64::NAN; 2];
-    unsafe { port_group_delays(0.5, prototype.as_ptr(), prototype.len(), &mut out) };
+    unsafe { port_group_delays(level, prototype.as_ptr(), prototype.len(), &mut out) };
     out
 }
 
-/// The port's delays of a Mode S and a Mode A/C prototype.
-pub fn delays_of(mode_s: &[f32], mode_ac: &[f32]) -> [f64; 2] {
-    [both_delays(mode_s)[0], both_delays(mode_ac)[1]]
+/// The port's delays of a Mode S and a Mode A/C prototype at one trigger level.
+pub fn delays_of(mode_s: &[f32], mode_ac: &[f32], level: f32) -> [f64; 2] {
+    [both_delays(mode_s, level)[0], both_delays(mode_ac, level)[1]]
 }
 
-/// A prototype as it is, and one with any values in some places. Where nothing crosses the Rust panics.
-fn delay(t: &mut Tally, r: &mut Random, p: &[f32]) {
+/// A prototype as it is, and one with any values in some places, at the level that was lent. Where nothing crosses the Rust
+/// panics.
+fn delay(t: &mut Tally, r: &mut Random, p: &[f32], level: f32) {
     let mut other = p.to_vec();
     for _ in 0..r.below(6) {
         let k = r.below(other.len());
         other[k] = r.pick(&[
-            0.5,
+            level,
             0.0,
             -0.0,
             16.0,
-            0.49999997,
-            0.50000006,
+            level.next_down(),
+            level.next_up(),
             f32::NAN,
             f32::INFINITY,
             f32::NEG_INFINITY,
         ]);
     }
-    let low: Vec<f32> = p.iter().map(|x| x.clamp(-16.0, 0.5)).collect();
+    let low: Vec<f32> = p.iter().map(|x| x.clamp(-16.0, level)).collect();
     for q in [p, &other, &low, &p[..r.below(3)]] {
-        let crosses = q.windows(2).any(|w| (w[0]..w[1]).contains(&0.5));
+        let crosses = q.windows(2).any(|w| (w[0]..w[1]).contains(&level));
         let (plain, mode_ac) = match crosses {
             true => (open::group_delay(q), open::group_delay(q) / (1500.0 / 1450.0)),
             false => (-1.0, -1.0),
         };
         t.see(if crosses {
-            "prototype that crosses 0.5"
+            "prototype that crosses the level"
         } else {
-            "prototype that does not cross 0.5"
+            "prototype that does not cross the level"
         });
-        let [ours, ours_ac] = both_delays(q);
-        t.alike("group_delay", q, pattern64(plain), pattern64(ours));
-        t.alike("mode_ac_group_delay", q, pattern64(mode_ac), pattern64(ours_ac));
+        let [ours, ours_ac] = both_delays(q, level);
+        t.alike("group_delay", (level, q), pattern64(plain), pattern64(ours));
+        t.alike("mode_ac_group_delay", (level, q), pattern64(mode_ac), pattern64(ours_ac));
     }
 }
 
@@ -163,8 +165,8 @@ pub fn values_of(prototype: &[f32], message: &SSRReply, phase: f64, error: f64) 
 }
 
 /// Messages at any phase from 0 to below 4 and any clock error within 0.1.
-fn messages(t: &mut Tally, r: &mut Random, all: &[Vec<f32>; 2], taps: &[f32]) {
-    lent::lend_taps(taps);
+fn messages(t: &mut Tally, r: &mut Random, all: &[Vec<f32>; 2], taps: &[f32], level: f32) {
+    lent::lend_taps(taps, level);
     let s = make::settings(r, 6000);
     let d = judge::distributions(&s).expect("accepted settings");
     for draw in make::draws(r, &s, 6000).iter().take(5) {

@@ -63,11 +63,11 @@ pub fn compare(t: &mut Tally, r: &mut Random, count: u64) {
         carrier(t, r);
     }
     for _ in 0..(count / 1000).max(1) {
-        let taps = make::taps(r);
-        lent::lend_taps(&taps);
-        let all = prototypes_of(&taps);
-        let delays = delays_of(&all[0], &all[1]);
         let s = make::settings(r, 6000);
+        let taps = make::taps(r, s.trigger_level);
+        lent::lend_taps(&taps, s.trigger_level);
+        let all = prototypes_of(&taps);
+        let delays = delays_of(&all[0], &all[1], s.trigger_level);
         let d = judge::distributions(&s).expect("accepted settings");
         let mut time = 0.0;
         for draw in make::draws(r, &s, 6000).iter().take(5) {

@@ -2,16 +2,18 @@
 //! stored one. Then `tapes/run --report >tapes/expected`, and `tapes/judge` holds what is expected against the rules and the
 //! reference.
 
-const TAPS: usize = 127;
-const DRAWS: usize = 12_131;
-const NOISE: usize = 12_135 + 2 * 65;
+const LEVEL: usize = 123;
+const TAPS_COUNT: usize = 127;
+const TAPS: usize = 131;
+const DRAWS: usize = 12_135;
+const NOISE: usize = 12_139 + 2 * 65;
 
 /// The worked tape (crates/tape/stdin) and the tape of crates/cf32/stdin, which is longer than a chunk of noise: its bytes, and where its noise begins.
-const WORKED: usize = 76_334;
-const LONG: usize = 89_739;
-const LONG_NOISE: usize = 14_735;
+const WORKED: usize = 76_338;
+const LONG: usize = 89_743;
+const LONG_NOISE: usize = 14_739;
 
-/// 1,200 samples; rates 1.0; all distributions uniform or normal; tap 0 of each lowpass 1.0; a Mode A/C reply and a draw that ends the run; noise of 2,400 values.
+/// 1,200 samples; rates 1.0; all distributions uniform or normal; a trigger level of 0.5; tap 0 of each lowpass 1.0; a Mode A/C reply and a draw that ends the run; noise of 2,400 values.
 pub fn small() -> Vec<u8> {
     let mut b = Vec::new();
     b.extend(1u32.to_le_bytes());
@@ -25,6 +27,7 @@ pub fn small() -> Vec<u8> {
         b.extend(first.to_le_bytes());
         b.extend(second.to_le_bytes());
     }
+    b.extend(0.5f32.to_le_bytes());
     b.extend(3001u32.to_le_bytes());
     for k in 0..3001 {
         b.extend(if k == 0 || k == 1486 { 1.0f32 } else { 0.0 }.to_le_bytes());
@@ -115,6 +118,27 @@ fn heads(c: &mut Cases) {
         &[16.0f32.to_le_bytes(), 16.0f32.to_le_bytes()].concat(),
     );
     c.at("6: no crossing of 0.5", TAPS + 4 * 1486, &0.25f32.to_le_bytes());
+    for (name, level) in [("0.1", 0.1f32), ("0.25", 0.25), ("0.9", 0.9)] {
+        c.at(&format!("a trigger level of {name}"), LEVEL, &level.to_le_bytes());
+    }
+    for (name, level) in [
+        ("just below 0.1", 0.1f32.next_down()),
+        ("just above 0.9", 0.9f32.next_up()),
+        ("of 0", 0.0),
+        ("that is a NaN", f32::NAN),
+    ] {
+        c.at(&format!("14: a trigger level {name}"), LEVEL, &level.to_le_bytes());
+    }
+    c.at(
+        "14: the count of the taps behind settings of 119 bytes",
+        LEVEL,
+        &3001u32.to_le_bytes(),
+    );
+    c.small(
+        "a trigger level of 0.2 and a Mode A/C tap of 0.25",
+        &[put(LEVEL, &0.2f32.to_le_bytes()), put(TAPS + 4 * 1486, &0.25f32.to_le_bytes())],
+        c.whole,
+    );
     let fields = [
         ("gap", 0usize, (-1.0f64).to_le_bytes()),
         ("CN0", 9, nan),
@@ -149,7 +173,7 @@ fn noise(c: &mut Cases) {
     );
     c.at("11: no settings", 0, &[0]);
     c.at("11: two settings", 0, &[2]);
-    c.at("11: 3,000 taps", 123, &3000u32.to_le_bytes());
+    c.at("11: 3,000 taps", TAPS_COUNT, &3000u32.to_le_bytes());
     c.at("11: 401 draws", DRAWS, &401u32.to_le_bytes());
     c.at(
         "11: not done, no draw ends the run",
@@ -169,8 +193,28 @@ fn noise(c: &mut Cases) {
     c.at("11: 4,294,967,295 noise values", NOISE, &u32::MAX.to_le_bytes());
     c.small(
         "order: a rate before the count of the taps",
-        &[put(16, &f64::NAN.to_le_bytes()), put(123, &[0])],
+        &[put(16, &f64::NAN.to_le_bytes()), put(TAPS_COUNT, &[0])],
         whole,
+    );
+    c.small(
+        "order: a trigger level before the count of the taps",
+        &[put(LEVEL, &[0; 4])],
+        TAPS_COUNT,
+    );
+    c.small(
+        "order: a distribution before a trigger level",
+        &[put(72, &[2]), put(LEVEL, &[0; 4])],
+        whole,
+    );
+    c.small(
+        "order: a trigger level before a tap",
+        &[put(LEVEL, &[0; 4]), put(TAPS, &nan)],
+        whole,
+    );
+    c.small(
+        "order: short settings before their trigger level",
+        &[put(LEVEL, &[0; 4])],
+        TAPS_COUNT - 1,
     );
     c.small(
         "order: a tap before the count of the draws",
@@ -229,12 +273,13 @@ fn noise(c: &mut Cases) {
         0,
         3,
         4,
-        122,
         123,
         126,
         127,
+        130,
+        131,
         6000,
-        12_130,
+        DRAWS - 1,
         DRAWS,
         DRAWS + 3,
         DRAWS + 4,
@@ -255,7 +300,7 @@ fn others(c: &mut Cases) {
     c.of(
         "worked",
         "8: the worked tape with a first gap of 10.0 and its last noise value a NaN",
-        &[put(12_135, &10.0f64.to_le_bytes()), put(WORKED - 4, &nan)],
+        &[put(DRAWS + 4, &10.0f64.to_le_bytes()), put(WORKED - 4, &nan)],
         WORKED,
     );
     c.of("long", "two chunks", &[], LONG);

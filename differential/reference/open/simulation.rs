@@ -26,3 +26,8 @@ pub fn samples(m: &MessageConfig) -> Vec<Complex32> {
 pub fn pulses(m: &SSRReply) -> Vec<bool> {
     message_to_pulses(m).as_slice().to_vec()
 }
+
+/// The amplitude that C/N0 gives, which samples do not use here.
+pub fn amplitude(m: &MessageConfig) -> f32 {
+    m.amplitude()
+}

@@ -1,5 +1,5 @@
-//! What is lent to the reference in place of chance: the taps, the draws and the noise of one tape, and the specification's
-//! sine. The other stand-ins ask here. One run at a time in each thread.
+//! What is lent to the reference in place of chance: the trigger level, the taps, the draws and the noise of one tape, and the
+//! specification's sine. The other stand-ins ask here. One run at a time in each thread.
 
 use std::cell::{Cell, RefCell};
 
@@ -30,6 +30,7 @@ pub enum RanOut {
 
 thread_local! {
     static TAPS: RefCell<Vec<f32>> = const { RefCell::new(Vec::new()) };
+    static LEVEL: Cell<f32> = const { Cell::new(0.5) };
     static TAPS_NUMBER: Cell<u64> = const { Cell::new(0) };
     static DRAWS: RefCell<Vec<Draw>> = const { RefCell::new(Vec::new()) };
     static TAKEN: Cell<usize> = const { Cell::new(0) };
@@ -39,15 +40,21 @@ thread_local! {
     static LARGEST_DISTANCE: Cell<f64> = const { Cell::new(0.0) };
 }
 
-/// Lends the 3,001 taps: Mode S, then Mode A/C.
-pub fn lend_taps(taps: &[f32]) {
+/// Lends the 3,001 taps, Mode S, then Mode A/C, and the trigger level of their delays.
+pub fn lend_taps(taps: &[f32], level: f32) {
     TAPS.with_borrow_mut(|t| {
         let same = t.len() == taps.len() && t.iter().zip(taps).all(|(a, b)| a.to_bits() == b.to_bits());
-        if !same {
+        if !same || LEVEL.get().to_bits() != level.to_bits() {
             *t = taps.to_vec();
+            LEVEL.set(level);
             TAPS_NUMBER.set(TAPS_NUMBER.get() + 1);
         }
     });
+}
+
+/// The trigger level that was lent with the taps.
+pub fn trigger_level() -> f32 {
+    LEVEL.get()
 }
 
 /// Lends draws and noise, from their first on.
@@ -183,8 +190,8 @@ fn horner(z: f64, coefficients: &[f64]) -> f64 {
     rest.iter().rev().fold(*top, |sum, c| sum * z + c)
 }
 
-/// Stands in for the `OnceLock` of the filter banks: its value is made again once other taps are lent in the thread.
-/// A value that was made stays for ever, as with `OnceLock`.
+/// Stands in for the `OnceLock` of the filter banks: its value is made again once other taps or another trigger level
+/// are lent in the thread. A value that was made stays for ever, as with `OnceLock`.
 pub struct OnceLock<T: 'static> {
     made: std::sync::Mutex<Vec<(std::thread::ThreadId, u64, &'static T)>>,
 }

@@ -1,8 +1,11 @@
 -- `mode_s_num_samples` meets its contract.
 use borrow.Author.Needs.{needs}
-use mathlib.Core.Path.{sym, ap, _∙_}
+use mathlib.Core.Path.{refl, sym, ap, _∙_}
+use mathlib.Core.Bool.{true, false}
+use Prim.Native.Nat.{ℕ}
+use Rattle.constants.proofs.Settings.{either-is}
+use Rattle.pulse_map.specs.ModeS.{modeSBits, modeSLength}
 use Rattle.pulse_length.specs.Length.{modeSNumSamples}
-use Rattle.pulse_length.proofs.AtSettings.{long-is, short-is}
 use Rattle.pulse_length.proofs.mode_s_num_samples.Statement.{statement}
 use Rattle.pulse_length.proofs.mode_s_num_samples.Tie as tie
 
@@ -10,13 +13,15 @@ either-requires : tie.Need-either-requires
 either-requires c κs = search needs
 
 returns : tie.Need-returns
-returns c = c .either .ensures ∙ long-is _ ∙ ap (modeSNumSamples _) (sym (c .before .if1 .taken))
+unfolding modeSNumSamples modeSLength modeSBits
+returns c = either-is (λ (n : ℕ). modeSNumSamples n true) _ _ _ _ (c .either .ensures) refl refl ∙ ap (modeSNumSamples _) (sym (c .before .if1 .taken))
 
 either-requires-2 : tie.Need-either-requires-2
 either-requires-2 c κs = search needs
 
 returns-2 : tie.Need-returns-2
-returns-2 c = c .either2 .ensures ∙ short-is _ ∙ ap (modeSNumSamples _) (sym (c .before .if1 .left))
+unfolding modeSNumSamples modeSLength modeSBits
+returns-2 c = either-is (λ (n : ℕ). modeSNumSamples n false) _ _ _ _ (c .either2 .ensures) refl refl ∙ ap (modeSNumSamples _) (sym (c .before .if1 .left))
 
 pub mode-s-num-samples-spec : {M : Type 1} → statement M
 mode-s-num-samples-spec = tie.close (tie.spec either-requires returns either-requires-2 returns-2)

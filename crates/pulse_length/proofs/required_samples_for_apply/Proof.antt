@@ -1,7 +1,7 @@
 -- `required_samples_for_apply` meets its contract.
 use borrow.Author.Needs.{needs}
 use native.Mathlib.Omega.{arith}
-use Rattle.pulse_length.proofs.AtSettings.{none, some, product-room}
+use Rattle.pulse_length.proofs.Required.{none, some, product-room}
 use Rattle.pulse_length.proofs.required_samples_for_apply.Statement.{statement}
 use Rattle.pulse_length.proofs.required_samples_for_apply.Tie as tie
 

@@ -1,5 +1,4 @@
 -- `prepare` meets its contract.
-use Rattle.run_open_checks.specs.Opening.{half}
 use Rattle.run_open_checks.proofs.Decided.{prepared}
 use borrow.Author.Needs.{needs}
 use Rattle.run_open_checks.proofs.prepare.Statement.{statement}
@@ -23,7 +22,7 @@ check-open-requires c κs = (c .before .before .before .mode-s-prototype .ensure
 returns : tie.Need-returns
 returns c =
     let a = c .before .before .before .before .before .before .before .before .args in
-    prepared half (a .taps-s .now) (a .taps-ac .now) (a .settings .now) (a .mode-s) (a .mode-ac) (a .memory) (c .check-open .ensures) (c .before .before .before .before .mode-s-prototype .ensures) (c .before .before .before .mode-ac-prototype .ensures)
+    prepared (a .taps-s .now) (a .taps-ac .now) (a .settings .now) (a .mode-s) (a .mode-ac) (a .memory) (c .check-open .ensures) (c .before .before .before .before .mode-s-prototype .ensures) (c .before .before .before .mode-ac-prototype .ensures)
 
 pub prepare-spec : {M : Type 1} → statement M
 prepare-spec = tie.close (tie.spec mode-s-prototype-requires mode-ac-prototype-requires slice-aggregate-check-open slice-aggregate-check-open-2 check-open-requires returns)

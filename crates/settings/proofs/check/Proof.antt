@@ -1,40 +1,22 @@
--- `settings::check` meets its contract.
+-- `settings::check` meets its contract: the level is checked behind the values.
 use borrow.Author.Needs.{needs}
-use mathlib.Core.Path.{sym, ap, _∙_}
-use Rattle.settings_duration.specs.Duration.{answerOf}
-use Rattle.settings.proofs.Decided.{duration-refused, duration-passes}
+use mathlib.Core.Path.{_≡_, ap, _∙_}
+use Rattle.settings.specs.Accepted.{levelThen, acceptedOf}
 use Rattle.settings.proofs.check.Statement.{statement}
 use Rattle.settings.proofs.check.Tie as tie
 
-duration-as-samples-requires : tie.Need-duration-as-samples-requires
-duration-as-samples-requires c κs = search needs
+check-values-requires : tie.Need-check-values-requires
+check-values-requires c κs = search needs
 
-enum-known-n : tie.Need-enum-known-n
-enum-known-n c = search needs
-
-enum-told : tie.Need-enum-told
-enum-told c = search needs
+check-level-requires : tie.Need-check-level-requires
+check-level-requires c κs = search needs
 
 returns : tie.Need-returns
-unfolding answerOf
-returns c = let a = c .before .before .before .args in sym (duration-refused 4 (a .s) 1 (sym (c .before .before .duration-as-samples .ensures) ∙ ap answerOf (c .enum-told .given .1)))
-
-check-rates-requires : tie.Need-check-rates-requires
-check-rates-requires c κs = search needs
-
-returns-2 : tie.Need-returns-2
-unfolding answerOf
-returns-2 c =
-    let a = c .before .before .before .before .before .args in
-    c .check-rates .ensures ∙ sym (duration-passes 4 (a .s) _ (sym (c .before .before .before .before .duration-as-samples .ensures) ∙ ap answerOf (c .before .before .n .given .1)))
+unfolding acceptedOf
+returns c =
+    let s = c .before .before .args .s in
+    let known : c .check-level .result ≡ levelThen (s .«trigger_level») (c .before .check-values .result) = c .check-level .ensures in
+    known ∙ ap (levelThen (s .«trigger_level»)) (c .before .check-values .ensures)
 
 pub check-spec : {M : Type 1} → statement M
-check-spec =
-    tie.close
-    (tie.spec
-    duration-as-samples-requires
-    enum-known-n
-    enum-told
-    returns
-    check-rates-requires
-    returns-2)
+check-spec = tie.close (tie.spec check-values-requires check-level-requires returns)

@@ -23,10 +23,13 @@ u64-at-requires c κs = search needs
 u32-at-requires : tie.Need-u32-at-requires
 u32-at-requires c κs = search needs
 
+f32-at-requires : tie.Need-f32-at-requires
+f32-at-requires c κs = search needs
+
 returns : tie.Need-returns
 unfolding settingsOf
 returns c =
-    rw (c .u32-at .ensures, c .before .u64-at .ensures, c .before .before .raw-distribution-at3 .ensures, c .before .before .before .raw-distribution-at2 .ensures, c .before .before .before .before .raw-distribution-at .ensures, c .before .before .before .before .before .rates-at .ensures) refl
+    rw (c .f32-at .ensures, c .before .u32-at .ensures, c .before .before .u64-at .ensures, c .before .before .before .raw-distribution-at3 .ensures, c .before .before .before .before .raw-distribution-at2 .ensures, c .before .before .before .before .before .raw-distribution-at .ensures, c .before .before .before .before .before .before .rates-at .ensures) refl
 
 pub read-spec : {M : Type 1} → statement M
 read-spec =
@@ -38,4 +41,5 @@ read-spec =
     raw-distribution-at-requires-3
     u64-at-requires
     u32-at-requires
+    f32-at-requires
     returns)

@@ -37,11 +37,11 @@ enum-told-2 c = search needs
 
 returns : tie.Need-returns
 unfolding faultThen
-returns c = let a = c .before .before .before .before .before .before .before .before .args in draws-faulty (a .tape .now) (a .state) (a .n) (12135 + 65 * a .n - 12135) (c .before .before .before .first-fault .ensures) (search needs) (c .noise-count .ensures ∙ sym (ap (faultThen four (a .tape .now) (a .state) (a .n)) (c .before .enum-told .given .1)))
+returns c = let a = c .before .before .before .before .before .before .before .before .args in draws-faulty (a .tape .now) (a .state) (a .n) (12139 + 65 * a .n - 12139) (c .before .before .before .first-fault .ensures) (search needs) (c .noise-count .ensures ∙ sym (ap (faultThen four (a .tape .now) (a .state) (a .n)) (c .before .enum-told .given .1)))
 
 returns-2 : tie.Need-returns-2
 unfolding faultThen
-returns-2 c = let a = c .before .before .before .before .before .before .before .args in draws-faulty (a .tape .now) (a .state) (a .n) (12135 + 65 * a .n - 12135) (c .before .before .first-fault .ensures) (search needs) (sym (ap (faultThen four (a .tape .now) (a .state) (a .n)) (c .enum-told2 .given .1)))
+returns-2 c = let a = c .before .before .before .before .before .before .before .args in draws-faulty (a .tape .now) (a .state) (a .n) (12139 + 65 * a .n - 12139) (c .before .before .first-fault .ensures) (search needs) (sym (ap (faultThen four (a .tape .now) (a .state) (a .n)) (c .enum-told2 .given .1)))
 
 pub check-draws-spec : {M : Type 1} → statement M
 check-draws-spec =

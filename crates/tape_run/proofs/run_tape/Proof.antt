@@ -8,7 +8,7 @@ use Rattle.tape_theory.proofs.Reported.{opened-with, reported-refused, reported
 use Rattle.tape_run.proofs.run_tape.Statement.{statement}
 use Rattle.tape_run.proofs.run_tape.Tie as tie
 
-behind-start : (n : ℕ) → 12135 + 65 * n - 12135 ≡ 65 * n
+behind-start : (n : ℕ) → 12139 + 65 * n - 12139 ≡ 65 * n
 behind-start n = omega arith
 
 slice-aggregate-read-head : tie.Need-slice-aggregate-read-head

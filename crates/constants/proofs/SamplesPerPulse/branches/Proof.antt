@@ -1,8 +1,9 @@
 -- `SamplesPerPulse::branches` meets its contract.
 use borrow.Author.Needs.{needs}
-use mathlib.Core.Path.{_∙_}
+use mathlib.Core.Path.{refl}
 use lib.Dec.{lit≤}
-use Rattle.constants.proofs.Settings.{branches-is, between}
+use Rattle.constants.specs.Rate.{branches}
+use Rattle.constants.proofs.Settings.{either-is, between}
 use Rattle.constants.proofs.SamplesPerPulse.branches.Statement.{statement}
 use Rattle.constants.proofs.SamplesPerPulse.branches.Tie as tie
 
@@ -10,7 +11,7 @@ either-requires : tie.Need-either-requires
 either-requires c κs = search needs
 
 returns : tie.Need-returns
-returns c = let e = c .either .ensures in (e ∙ branches-is _, between _ 256 512 _ (lit≤ tt) e .0, between _ 256 512 _ (lit≤ tt) e .1)
+returns c = let e = c .either .ensures in (either-is branches _ _ _ _ e refl refl, between _ _ _ _ (lit≤ tt) e .0, between _ _ _ _ (lit≤ tt) e .1)
 
 pub branches-spec : {M : Type 1} → statement M
 branches-spec = tie.close (tie.spec either-requires returns)

@@ -1,8 +1,9 @@
 -- `SamplesPerPulse::prototype_len` meets its contract.
 use borrow.Author.Needs.{needs}
-use mathlib.Core.Path.{_∙_}
+use mathlib.Core.Path.{refl}
 use lib.Dec.{lit≤}
-use Rattle.constants.proofs.Settings.{prototype-is, between}
+use Rattle.constants.specs.Rate.{prototypeLength}
+use Rattle.constants.proofs.Settings.{either-is, between}
 use Rattle.constants.proofs.SamplesPerPulse.prototype_len.Statement.{statement}
 use Rattle.constants.proofs.SamplesPerPulse.prototype_len.Tie as tie
 
@@ -10,7 +11,7 @@ either-requires : tie.Need-either-requires
 either-requires c κs = search needs
 
 returns : tie.Need-returns
-returns c = let e = c .either .ensures in (e ∙ prototype-is _, between _ 1792 3584 _ (lit≤ tt) e .1)
+returns c = let e = c .either .ensures in (either-is prototypeLength _ _ _ _ e refl refl, between _ _ _ _ (lit≤ tt) e .1)
 
 pub prototype-len-spec : {M : Type 1} → statement M
 prototype-len-spec = tie.close (tie.spec either-requires returns)

@@ -1,0 +1,5 @@
+mod Table
+pub mod Rule
+pub mod Powers
+mod Rounded
+mod Significand

@@ -1,0 +1,3 @@
+mod Within
+mod Nearest
+pub mod LevelLaws

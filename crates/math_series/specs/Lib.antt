@@ -1,0 +1,3 @@
+pub mod Fraction
+pub mod Series
+pub mod CarrierTruth
