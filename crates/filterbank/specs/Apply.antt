@@ -27,7 +27,7 @@ limitOf zero = 0
 limitOf (suc n) = suc n + reach
 
 abbrev pub fuelOf : ℕ → ℕ → ℕ
-fuelOf sps limit = 2 * sps * limit
+fuelOf sps limit = (sps + 1) * limit
 
 -- the samples of n pulses, from a first phase in samples and a clock error
 unfoldable pub sampleCount : ℕ → ℕ → Float → Float → ℕ

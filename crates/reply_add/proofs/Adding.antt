@@ -34,7 +34,7 @@ pulses-most r p e = subst (λ (x : Pulses). x .len ≤ 240) (sym e) (len-most r)
 abbrev waveAt : Clock → Float → Float → Float → Float → ℕ → Wave
 waveAt k s p r a n = record { clock = k; step = s; phase = p; rate = r; amplitude = a; limit = n }
 
-pub few : (r n : ℕ) (vs : List Float) → r ≤ length (take n vs) → n ≤ 3936 → length vs ≡ 3936 → r < 2 ^ 16
+pub few : (r n : ℕ) (vs : List Float) → r ≤ length (take n vs) → n ≤ 2214 → length vs ≡ 2214 → r < 2 ^ 16
 few r n vs h k l = omega (arith, length-take-le n vs (omega arith))
 
 module _ (sps : ℕ) where

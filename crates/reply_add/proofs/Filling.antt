@@ -20,11 +20,11 @@ limit-some zero h = absurd (h refl)
 limit-some (suc n) h = refl
 
 -- ---- the fuel of the loop, by the number of samples per pulse
-pub fuel-room : (k limit : ℕ) → k ≤ 8 → limit ≤ 246 → 2 * k * limit ≤ 3936
-fuel-room k limit h g = let a : 2 * k ≤ 16 = omega arith in mul-le-mul a g
+pub fuel-room : (k limit : ℕ) → k ≤ 8 → limit ≤ 246 → (k + 1) * limit ≤ 2214
+fuel-room k limit h g = let a : k + 1 ≤ 9 = omega arith in mul-le-mul a g
 
-pub fuel-is : (sps k limit : ℕ) → k ≡ sps → 2 * k * limit ≡ fuelOf sps limit
-fuel-is sps k limit e = ap (λ (n : ℕ). 2 * n * limit) e
+pub fuel-is : (sps k limit : ℕ) → k ≡ sps → (k + 1) * limit ≡ fuelOf sps limit
+fuel-is sps k limit e = ap (λ (n : ℕ). (n + 1) * limit) e
 
 -- an index below the indices of a reply does not wrap
 abbrev clockAt : Float → ℕ → Clock

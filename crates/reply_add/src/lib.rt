@@ -74,10 +74,10 @@ fn fill_values(
     limit: usize,
     values: &mut [f32],
 ) -> usize
-    requires { ⌜ (length (now values) ≡ 3936) × (limit ≤ 246) ⌝ }
-    ensures { λ r. ⌜ (take r (now (values .exit)) ≡ paddedValues (perPulse setting) (now (prototype .entry)) (now (padded .entry)) limit step first) × (r ≤ 3936) × (length (now (values .exit)) ≡ 3936) ⌝ }
+    requires { ⌜ (length (now values) ≡ 2214) × (limit ≤ 246) ⌝ }
+    ensures { λ r. ⌜ (take r (now (values .exit)) ≡ paddedValues (perPulse setting) (now (prototype .entry)) (now (padded .entry)) limit step first) × (r ≤ 2214) × (length (now (values .exit)) ≡ 2214) ⌝ }
 {
-    let fuel = 2 * setting.number() as usize * limit;
+    let fuel = (setting.number() as usize + 1) * limit;
     let mut clock = first;
     let mut n: usize = 0;
     while n < fuel {
@@ -103,7 +103,7 @@ fn add_wave(
     requires { ⌜ w .limit ≤ 246 ⌝ }
     ensures { λ r. ⌜ Adds (perPulse setting) (now (memory .entry)) slot (waveSamples (perPulse setting) (now (prototype .entry)) (now (padded .entry)) w) (now (memory .exit)) r ⌝ }
 {
-    let mut values = [0.0; 3936];
+    let mut values = [0.0; 2214];
     let count = fill_values(
         setting,
         prototype,

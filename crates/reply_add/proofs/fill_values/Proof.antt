@@ -1,7 +1,7 @@
 -- `fill_values` meets its contract. The invariant: what is written and what is left to write make all values.
 use borrow.Author.Needs.{needs}
 use native.Mathlib.Omega.{arith}
-use Prim.Native.Nat.{ℕ, _≤_, _-_, _*_}
+use Prim.Native.Nat.{ℕ, _+_, _≤_, _-_, _*_}
 use mathlib.Core.Path.{_≡_, ap, _∙_}
 use mathlib.Core.List.{_++_}
 use lib.ListN.{length, take, length-set}
@@ -15,8 +15,8 @@ use Rattle.reply_add.proofs.fill_values.Tie as tie
 abbrev Inv-loop : tie.InvT-loop
 Inv-loop setting prototype padded step limit values₀ fuel clock₀ n₀ values clock n =
     (n ≤ fuel)
-    × (fuel ≤ 3936)
-    × (length values ≡ 3936)
+    × (fuel ≤ 2214)
+    × (length values ≡ 2214)
     × (take n values ++ clockValues (fuel - n) limit step (paddedValue (perPulse setting) prototype padded) clock ≡ paddedValues (perPulse setting) prototype padded limit step clock₀)
 
 abbrev μ-loop : tie.MeasureT-loop
@@ -25,11 +25,11 @@ abbrev μ-loop : tie.MeasureT-loop
 number-requires : tie.Need-number-requires Inv-loop μ-loop
 number-requires c κs = search needs
 
-mul-fuel : tie.Need-mul-fuel Inv-loop μ-loop
-mul-fuel c = search needs
+add-fuel : tie.Need-add-fuel Inv-loop μ-loop
+add-fuel c = search needs
 
-mul-fuel-2 : tie.Need-mul-fuel-2 Inv-loop μ-loop
-mul-fuel-2 c =
+mul-fuel : tie.Need-mul-fuel Inv-loop μ-loop
+mul-fuel c =
     let room = fuel-room (c .number .result) (c .before .before .before .args .limit) (c .number .ensures .2) (c .before .before .before .pre .1) in
     omega (arith, room)
 
@@ -41,7 +41,7 @@ loop-holds c =
       search needs,
       fuel-room k (a .limit) (c .number .ensures .2) (c .before .before .before .pre .1),
       search needs,
-      fill-first value (a .limit) (a .step) (2 * k * a .limit) (a .values .now) (a .first) ∙ ap (λ (fuel : ℕ). clockValues fuel (a .limit) (a .step) value (a .first)) (fuel-is (perPulse (a .setting)) k (a .limit) (c .number .ensures .0)),
+      fill-first value (a .limit) (a .step) ((k + 1) * a .limit) (a .values .now) (a .first) ∙ ap (λ (fuel : ℕ). clockValues fuel (a .limit) (a .step) value (a .first)) (fuel-is (perPulse (a .setting)) k (a .limit) (c .number .ensures .0)),
     )
 
 same-length : tie.Need-same-length Inv-loop μ-loop
@@ -94,4 +94,4 @@ returns-2 c =
     (fill-full (paddedValue (perPulse (a .setting)) (a .prototype .now) (a .padded .now)) (a .limit) (a .step) _ (l .n) (l .values) (l .clock) _ (c .loop-test .left) (l .inv .3), search needs, l .inv .2)
 
 pub fill-values-spec : {M : Type 1} → statement M
-fill-values-spec = tie.close (tie.spec Inv-loop μ-loop number-requires mul-fuel mul-fuel-2 loop-holds same-length returns value-at-requires mul-values slice-write-values advance-requires add-n loop-less loop-again same-length-2 returns-2)
+fill-values-spec = tie.close (tie.spec Inv-loop μ-loop number-requires add-fuel mul-fuel loop-holds same-length returns value-at-requires mul-values slice-write-values advance-requires add-n loop-less loop-again same-length-2 returns-2)
