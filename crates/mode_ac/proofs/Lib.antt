@@ -2,3 +2,4 @@ pub mod DataOfDigits
 pub mod RisingPositions
 pub mod PlaceRule
 pub mod BasePlaces
+mod Shifts

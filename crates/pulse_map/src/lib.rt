@@ -52,8 +52,8 @@ pub fn mode_ac_pulses(data: u16, spi: bool) -> Pulses
     on[0] = true;
     let mut n: usize = 0;
     while n < 12 {
-        if mode_ac_bits::bit_of(data, n) {
-            on[mode_ac_bits::position_of(n)] = true;
+        if mode_ac::bit_of(data, n) {
+            on[mode_ac::position_of(n)] = true;
         }
         n += 1;
     }

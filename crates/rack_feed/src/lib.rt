@@ -5,8 +5,13 @@ ghost use Rattle.rack.specs.Memory.{feed_of};
 ghost use Rattle.rack.specs.WrittenModel.{overwritten};
 ghost use Rattle.rack_feed.specs.FeedModel.{feed_fits};
 
-use constants::least;
 use rack::{LONGEST_DELAY, MEMORY_LEN};
+
+fn least(a: usize, b: usize) -> usize
+    ensures { result ≡ min a b }
+{
+    if a < b { a } else { b }
+}
 
 // What is left of a beyond b.
 fn beyond(a: usize, b: usize) -> usize

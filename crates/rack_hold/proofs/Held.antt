@@ -38,11 +38,10 @@ moved_and_filled m m₁ m₂ xs hm h e₁ e₂ =
         ))
 
 -- as many samples as the memory holds, or more
-pub filled : (m m₁ xs : List Float) (start : ℕ) → length m ≡ 8190 → 8190 ≤ length xs → start ≡ length xs - 8190 → m₁ ≡ overwritten 0 (take 8190 (drop start xs)) m → m₁ ≡ held_after m xs
+pub filled : (m m₁ xs : List Float) → length m ≡ 8190 → 8190 ≤ length xs → m₁ ≡ overwritten 0 (take 8190 (drop (length xs - 8190) xs)) m → m₁ ≡ held_after m xs
 unfolding held_after
-filled m m₁ xs start hm h from e =
+filled m m₁ xs hm h e =
     e
-    ∙ ap (λ (k : ℕ). overwritten 0 (take 8190 (drop k xs)) m) from
     ∙ ap (λ (l : List Float). l ++ drop (0 + length l) m) (take_all 8190 (drop (length xs - 8190) xs) (omega (arith, length-drop (length xs - 8190) xs)))
     ∙ ap (λ (l : List Float). drop (length xs - 8190) xs ++ l) (drop_of_length-le m {i = 0 + length (drop (length xs - 8190) xs)} (omega (arith, length-drop (length xs - 8190) xs)))
     ∙ append-nil (drop (length xs - 8190) xs)

@@ -30,14 +30,6 @@ fn copy_stretch(samples: &[f32], memory: &mut [f32], start: usize, at: usize, le
     }
 }
 
-// Where the last samples of a long call begin, as many as the memory holds.
-fn first_held(n: usize) -> usize
-    requires { 8190 ≤ n }
-    ensures { result ≡ n - 8190 }
-{
-    n - MEMORY_LEN
-}
-
 // Moves the memory on by the samples of a call.
 fn hold(memory: &mut [f32], samples: &[f32])
     requires { length memory.old ≡ 8190 }
@@ -49,7 +41,7 @@ fn hold(memory: &mut [f32], samples: &[f32])
         copy_stretch(samples, memory, 0, MEMORY_LEN - n, n);
         return;
     }
-    copy_stretch(samples, memory, first_held(n), 0, MEMORY_LEN);
+    copy_stretch(samples, memory, n - MEMORY_LEN, 0, MEMORY_LEN);
 }
 
 // Moves a memory on. One of another length stays as it is.

@@ -1,11 +1,9 @@
 -- What a duration answers, from the tests of the code, at both settings.
 use mathlib.Core.Path.{◌≡◌, sym, ap, ◌∙◌, subst}
 use Prim.Native.Nat.{ℕ, ◌+◌, ◌*◌, ◌/◌, ◌^◌, ◌≤◌, ◌<◌}
-use native.Mathlib.Nat.{le_trans, le_of_eq, mul-le-mul_left}
+use native.Mathlib.Nat.{le_trans, le_of_eq, lt_of_lt_of_le}
 use native.Mathlib.Omega.{arith}
 use borrow.Author.Tests.{lt-ltb, le-ltb, le-leb, lt-leb}
-use mir.Val.{Fits}
-use mir.Syntax.{w64}
 use Rattle.constants.specs.declared.SamplesPerPulse.{SamplesPerPulse}
 use Rattle.constants.specs.declared.SamplesPerPulse.TheVariants.{Four, Eight}
 use Rattle.constants.specs.Setting.{per_pulse}
@@ -44,10 +42,6 @@ nanoseconds_room s nanoseconds n e h = le_trans (le_of_eq (ap (λ (k : ℕ). nan
     at Four = omega arith
     at Eight = omega arith
 
--- the product of a part of a second fits
-pub product_room : (a n : ℕ) → a < 2 ^ 32 → n ≤ 8 → Fits w64 (a * n)
-product_room a n h g = let l : a * n ≤ a * 8 = mul-le-mul_left a g in omega arith
-
 -- the code's sum
-pub sum_is : (sps seconds nanoseconds n part : ℕ) → n ≡ sps → part ≡ nanoseconds * n / 500 → seconds * (2000000 * n) + part ≡ samples_of sps seconds nanoseconds
-sum_is sps seconds nanoseconds n part e f = (λ i. seconds * (2000000 * n) + f i) ∙ (λ i. seconds * (2000000 * e i) + nanoseconds * e i / 500)
+pub sum_is : (sps seconds nanoseconds n wide : ℕ) → n ≡ sps → wide ≡ nanoseconds → seconds * (2000000 * n) + wide * n / 500 ≡ samples_of sps seconds nanoseconds
+sum_is sps seconds nanoseconds n wide e f = λ i. seconds * (2000000 * e i) + f i * e i / 500

@@ -1,5 +1,5 @@
 // The samples of a duration, or refusal 1.
-ghost use Rattle.std.specs.Prelude.{◌≡◌, ◌*◌, ◌/◌, ◌≤◌};
+ghost use Rattle.std.specs.Prelude.{◌≡◌};
 ghost use Rattle.constants.specs.Setting.{per_pulse};
 ghost use Rattle.settings_duration.specs.Duration.{answer_of, duration_of};
 
@@ -18,15 +18,7 @@ fn wide(x: u32) -> u64
     x as u64
 }
 
-// The samples of a part of a second, n in a pulse of 500 ns, rounded down once.
-fn in_part(nanoseconds: u32, n: u64) -> u64
-    requires { n ≤ 8 }
-    ensures { result ≡ nanoseconds * n / 500 }
-{
-    wide(nanoseconds) * n / 500
-}
-
-// There are 2,000,000 pulses in a second.
+// A pulse lasts 500 ns, and there are 2,000,000 in a second.
 pub fn duration_as_samples(setting: SamplesPerPulse, seconds: u64, nanoseconds: u32) -> InSamples
     ensures { answer_of result ≡ duration_of (per_pulse setting) seconds nanoseconds }
 {
@@ -38,7 +30,7 @@ pub fn duration_as_samples(setting: SamplesPerPulse, seconds: u64, nanoseconds: 
         return InSamples::Refused;
     }
     let n = setting.number();
-    let samples = seconds * (2_000_000 * n) + in_part(nanoseconds, n);
+    let samples = seconds * (2_000_000 * n) + wide(nanoseconds) * n / 500;
     if samples > 0x10_0000_0000_0000 {
         return InSamples::Refused;
     }

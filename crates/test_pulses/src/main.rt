@@ -4,7 +4,7 @@ ghost use Rattle.std.specs.Prelude.{◌<◌};
 
 use constants::SamplesPerPulse;
 use libc::STDOUT_FILENO;
-use mode_ac::Built;
+use mode_ac::{Built, ModeACReply};
 use pulse_map::Pulses;
 use settings_duration::InSamples;
 
@@ -210,11 +210,11 @@ fn lengths() {
 }
 
 fn replies() {
-    say_built(mode_ac_build::from_abcd(7, 0, 0, 0, false));
-    say_built(mode_ac_build::from_abcd(7, 0, 0, 8, false));
-    say_built(mode_ac_build::from_abcd(1, 2, 3, 4, true));
-    say_built(mode_ac_build::new(4095, false));
-    say_built(mode_ac_build::new(4096, false));
+    say_built(ModeACReply::from_abcd(7, 0, 0, 0, false));
+    say_built(ModeACReply::from_abcd(7, 0, 0, 8, false));
+    say_built(ModeACReply::from_abcd(1, 2, 3, 4, true));
+    say_built(ModeACReply::new(4095, false));
+    say_built(ModeACReply::new(4096, false));
 }
 
 fn mode_ac_maps(spi: bool) {

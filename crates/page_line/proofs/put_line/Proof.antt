@@ -1,25 +1,11 @@
 -- `page_line::put_line` meets its contract.
 use mathlib.Core.Path.{refl, ◌∙◌}
-use Prim.Native.Nat.{◌+◌, ◌≤◌}
 use Rattle.record_check.proofs.Accepting.{in_range}
 use Rattle.page_line.proofs.Fields.{fields_below, message_short, ends, line_put}
 use borrow.Author.Rules.{rules}
 use native.Mathlib.Omega.{arith}
 use Rattle.page_line.proofs.put_line.Statement.{statement}
 use Rattle.page_line.proofs.put_line.Tie as tie
-
--- where the message ends, from the place behind its call
-ended : (z : tie.After-message-at) → (z.message-at.result ≤ z.before.before.before.before.before.before.before.before.before.before.before.before.args.at + 53) × (z.before.before.before.before.before.before.before.before.before.before.before.before.args.at + 25 ≤ z.message-at.result)
-ended z =
-    let s = z.before.before.before.before.before.before.before.before.before.before.before.before in
-    let r = s.args.rec.now in
-    let i = in_range r s.requires.0 in
-    let u = z.before.before.before.before.before.before.before.before.before.u64-at.ensures in
-    let b = z.before.before.before.before.before.before.wide.ensures.0 ∙ z.before.before.before.before.before.before.before.before.byte_at.ensures in
-    let v = z.before.before.before.before.before.before.before.u16-at.ensures in
-    let e = ends r i s.args.out.now s.args.at s.requires.1 u b v z.before.before.before.before.put-numbers.ensures z.message-at.ensures.0 in
-    let m = message_short r in
-    (omega arith, omega arith)
 
 u64_at_requires : tie.Need-u64-at-requires
 u64_at_requires c κs = search rules
@@ -53,27 +39,57 @@ add_message_at c = search rules
 message_at_requires : tie.Need-message-at-requires
 message_at_requires c κs = search rules
 
-blanks_behind_requires : tie.Need-blanks-behind-requires
-blanks_behind_requires c κs = ((ended c.before.before).0, omega (arith, c.before.before.before.before.before.before.before.before.before.before.before.before.before.before.requires.1))
+add_put_blanks : tie.Need-overflow-add-put-blanks
+add_put_blanks c = search rules
 
 sub_put_blanks : tie.Need-overflow-sub-put-blanks
-sub_put_blanks c = omega (arith, (ended c.before.before.before.before).1)
+sub_put_blanks c =
+    let s = c.before.before.before.before.before.before.before.before.before.before.before.before.before.before in
+    let r = s.args.rec.now in
+    let i = in_range r s.requires.0 in
+    let u = c.before.before.before.before.before.before.before.before.before.before.before.u64-at.ensures in
+    let b = c.before.before.before.before.before.before.before.before.wide.ensures.0 ∙ c.before.before.before.before.before.before.before.before.before.before.byte_at.ensures in
+    let v = c.before.before.before.before.before.before.before.before.before.u16-at.ensures in
+    let e = ends r i s.args.out.now s.args.at s.requires.1 u b v c.before.before.before.before.before.before.put-numbers.ensures c.before.before.message-at.ensures.0 in
+    let m = message_short r in
+    omega arith
+
+sub_put_blanks_2 : tie.Need-overflow-sub-put-blanks-2
+sub_put_blanks_2 c =
+    let s = c.before.before.before.before.before.before.before.before.before.before.before.before.before.before.before in
+    let r = s.args.rec.now in
+    let i = in_range r s.requires.0 in
+    let u = c.before.before.before.before.before.before.before.before.before.before.before.before.u64-at.ensures in
+    let b = c.before.before.before.before.before.before.before.before.before.wide.ensures.0 ∙ c.before.before.before.before.before.before.before.before.before.before.before.byte_at.ensures in
+    let v = c.before.before.before.before.before.before.before.before.before.before.u16-at.ensures in
+    let e = ends r i s.args.out.now s.args.at s.requires.1 u b v c.before.before.before.before.before.before.before.put-numbers.ensures c.before.before.before.message-at.ensures.0 in
+    let m = message_short r in
+    omega arith
 
 put_blanks_requires : tie.Need-put-blanks-requires
-put_blanks_requires c κs = omega (arith, (ended c.before.before.before.before).0, (ended c.before.before.before.before).1, c.before.blanks-behind.ensures, c.before.before.before.before.before.before.before.before.before.before.before.before.before.before.before.before.requires.1)
+put_blanks_requires c κs =
+    let s = c.before.before.before.before.before.before.before.before.before.before.before.before.before.before.before in
+    let r = s.args.rec.now in
+    let i = in_range r s.requires.0 in
+    let u = c.before.before.before.before.before.before.before.before.before.before.before.before.u64-at.ensures in
+    let b = c.before.before.before.before.before.before.before.before.before.wide.ensures.0 ∙ c.before.before.before.before.before.before.before.before.before.before.before.byte_at.ensures in
+    let v = c.before.before.before.before.before.before.before.before.before.before.u16-at.ensures in
+    let e = ends r i s.args.out.now s.args.at s.requires.1 u b v c.before.before.before.before.before.before.before.put-numbers.ensures c.before.before.before.message-at.ensures.0 in
+    let m = message_short r in
+    omega (arith, s.requires.1)
 
 same_length : tie.Need-same-length
 same_length c = search rules
 
 returns : tie.Need-returns
 returns c =
-    let s = c.before.before.before.before.before.before.before.before.before.before.before.before.before.before.before.before.before.before.before in
+    let s = c.before.before.before.before.before.before.before.before.before.before.before.before.before.before.before.before.before.before in
     let r = s.args.rec.now in
     let i = in_range r s.requires.0 in
-    let u = c.before.before.before.before.before.before.before.before.before.before.before.before.before.before.before.before.u64-at.ensures in
-    let b = c.before.before.before.before.before.before.before.before.before.before.before.before.before.wide.ensures.0 ∙ c.before.before.before.before.before.before.before.before.before.before.before.before.before.before.before.byte_at.ensures in
-    let v = c.before.before.before.before.before.before.before.before.before.before.before.before.before.before.u16-at.ensures in
-    line_put r i s.args.out.now s.args.at s.requires.1 u b v c.before.before.before.before.before.before.before.before.before.before.before.put-numbers.ensures c.before.before.before.before.before.before.before.message-at.ensures.0 c.before.before.before.before.before.before.before.message-at.ensures.1 c.before.before.put-blanks.ensures c.before.before.before.before.blanks-behind.ensures refl
+    let u = c.before.before.before.before.before.before.before.before.before.before.before.before.before.before.before.u64-at.ensures in
+    let b = c.before.before.before.before.before.before.before.before.before.before.before.before.wide.ensures.0 ∙ c.before.before.before.before.before.before.before.before.before.before.before.before.before.before.byte_at.ensures in
+    let v = c.before.before.before.before.before.before.before.before.before.before.before.before.before.u16-at.ensures in
+    line_put r i s.args.out.now s.args.at s.requires.1 u b v c.before.before.before.before.before.before.before.before.before.before.put-numbers.ensures c.before.before.before.before.before.before.message-at.ensures.0 c.before.before.before.before.before.before.message-at.ensures.1 c.before.before.put-blanks.ensures refl refl
 
 pub put_line_spec : {M : Type 1} → statement M
 put_line_spec =
@@ -87,8 +103,9 @@ put_line_spec =
     put_numbers_requires
     add_message_at
     message_at_requires
-    blanks_behind_requires
+    add_put_blanks
     sub_put_blanks
+    sub_put_blanks_2
     put_blanks_requires
     same_length
     returns)

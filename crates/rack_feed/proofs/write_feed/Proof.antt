@@ -42,7 +42,7 @@ scale_stretch_requires : tie.Need-scale-stretch-requires
 scale_stretch_requires c κs =
     let z = c.before.before.before.before.before.before.before.before.before.before.before.before.before in
     let a = z.args in
-    let first : ◌≡◌ {A = ℕ} c.before.before.before.before.before.before.least.result (min (length a.samples.now) c.before.before.before.before.before.before.before.beyond.result) = omega (arith, c.before.before.before.before.before.before.least.ensures) in
+    let first : ◌≡◌ {A = ℕ} c.before.before.before.before.before.before.least.result (min (length a.samples.now) c.before.before.before.before.before.before.before.beyond.result) = c.before.before.before.before.before.before.least.ensures in
     let unseen = first ∙ ap (min (length a.samples.now)) c.before.before.before.before.before.before.before.beyond.ensures in
     let held : ◌≡◌ {A = ℕ} c.before.before.before.before.before.least2.result (min (length a.samples.now) c.before.before.before.before.before.before.before.before.before.numbers.result) = c.before.before.before.before.before.least2.ensures in
     let back : ◌≡◌ {A = ℕ} c.before.before.before.before.before.before.before.before.before.numbers.result (2 * min a.delay 4095) = c.before.before.before.before.before.before.before.before.before.numbers.ensures in (

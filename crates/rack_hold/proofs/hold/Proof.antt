@@ -22,9 +22,6 @@ returns c =
     let a = c.before.before.before.before.before.before.before.before.before.before.before.args in
     moved_and_filled a.memory.now _ _ a.samples.now c.before.before.before.before.before.before.before.before.before.before.before.requires c.before.before.before.before.before.before.before.before.if1.true c.before.before.before.before.before.before.move_down.ensures c.before.before.copy-stretch.ensures
 
-first_held_requires : tie.Need-first-held-requires
-first_held_requires c κs = omega arith
-
 copy_stretch_requires_2 : tie.Need-copy-stretch-requires-2
 copy_stretch_requires_2 c κs = (omega arith, omega arith)
 
@@ -33,8 +30,8 @@ same_length_2 c = search rules
 
 returns_2 : tie.Need-returns-2
 returns_2 c =
-    let s = c.before.before.before.before.before.before.before.before in
-    filled s.args.memory.now _ s.args.samples.now _ s.requires c.before.before.before.before.before.if1.false c.before.before.before.first-held.ensures c.before.before.copy-stretch2.ensures
+    let a = c.before.before.before.before.before.before.before.args in
+    filled a.memory.now _ a.samples.now c.before.before.before.before.before.before.before.requires c.before.before.before.before.if1.false c.before.before.copy-stretch2.ensures
 
 pub hold_spec : {M : Type 1} → statement M
 hold_spec =
@@ -45,7 +42,6 @@ hold_spec =
     copy_stretch_requires
     same_length
     returns
-    first_held_requires
     copy_stretch_requires_2
     same_length_2
     returns_2)

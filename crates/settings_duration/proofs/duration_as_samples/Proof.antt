@@ -27,16 +27,23 @@ mul_samples_2 c =
     let h = seconds_room a.setting a.seconds c.number.result c.number.ensures.0 (search rules) in
     omega (arith, h)
 
-in_part_requires : tie.Need-in-part-requires
-in_part_requires c κs = c.number.ensures.2
+wide_requires : tie.Need-wide-requires
+wide_requires c κs = search rules
+
+mul_samples_3 : tie.Need-overflow-mul-samples-3
+mul_samples_3 c =
+    let n = c.before in
+    let a = n.before.before.before.args in
+    let h = nanoseconds_room a.setting c.wide.result n.number.result n.number.ensures.0 (search rules) in
+    omega (arith, h)
 
 add_samples : tie.Need-overflow-add-samples
 add_samples c =
     let n = c.before in
     let a = n.before.before.before.args in
     let h = seconds_room a.setting a.seconds n.number.result n.number.ensures.0 (search rules) in
-    let k = nanoseconds_room a.setting a.nanoseconds n.number.result n.number.ensures.0 (search rules) in
-    omega (arith, h, k, c.in-part.ensures)
+    let k = nanoseconds_room a.setting c.wide.result n.number.result n.number.ensures.0 (search rules) in
+    omega (arith, h, k)
 
 returns_3 : tie.Need-returns-3
 unfolding answer_of
@@ -44,7 +51,7 @@ returns_3 c =
     let w = c.before in
     let n = w.before in
     let a = n.before.before.before.args in
-    too_long _ a.seconds a.nanoseconds (search rules) (lt_of_lt_of_le c.if3.true (le_of_eq (sum_is _ a.seconds a.nanoseconds _ _ n.number.ensures.0 w.in-part.ensures)))
+    too_long _ a.seconds a.nanoseconds (search rules) (lt_of_lt_of_le c.if3.true (le_of_eq (sum_is _ a.seconds a.nanoseconds _ _ n.number.ensures.0 w.wide.ensures)))
 
 returns_4 : tie.Need-returns-4
 unfolding answer_of
@@ -52,9 +59,9 @@ returns_4 c =
     let w = c.before in
     let n = w.before in
     let a = n.before.before.before.args in
-    given _ a.seconds a.nanoseconds _ (sum_is _ a.seconds a.nanoseconds _ _ n.number.ensures.0 w.in-part.ensures) (search rules) c.if3.false
+    given _ a.seconds a.nanoseconds _ (sum_is _ a.seconds a.nanoseconds _ _ n.number.ensures.0 w.wide.ensures) (search rules) c.if3.false
 
 pub duration_as_samples_spec : {M : Type 1} → statement M
 duration_as_samples_spec =
     tie.close
-    (tie.spec returns returns_2 number_requires mul_samples mul_samples_2 in_part_requires add_samples returns_3 returns_4)
+    (tie.spec returns returns_2 number_requires mul_samples mul_samples_2 wide_requires mul_samples_3 add_samples returns_3 returns_4)

@@ -2,8 +2,8 @@
 use borrow.Author.Rules.{rules}
 use native.Mathlib.Omega.{arith}
 use Rattle.mode_ac.proofs.PlaceRule.{first_six, last_six, no_bit}
-use Rattle.mode_ac_bits.proofs.position_of.Statement.{statement}
-use Rattle.mode_ac_bits.proofs.position_of.Tie as tie
+use Rattle.mode_ac.proofs.position_of.Statement.{statement}
+use Rattle.mode_ac.proofs.position_of.Tie as tie
 
 add_result : tie.Need-overflow-add-result
 add_result c = search rules

@@ -4,9 +4,9 @@ use mathlib.Core.Path.{sym}
 use mathlib.Core.Bool.{false}
 use lib.ListN.{get_or-eq_default}
 use Rattle.mode_ac.specs.Data.{bits_of, bit_of}
-use Rattle.mode_ac_bits.proofs.Shifts.{bit_by_shift}
-use Rattle.mode_ac_bits.proofs.bit_of.Statement.{statement}
-use Rattle.mode_ac_bits.proofs.bit_of.Tie as tie
+use Rattle.mode_ac.proofs.Shifts.{bit_by_shift}
+use Rattle.mode_ac.proofs.bit_of.Statement.{statement}
+use Rattle.mode_ac.proofs.bit_of.Tie as tie
 
 mul_result : tie.Need-overflow-mul-result
 mul_result c = search rules

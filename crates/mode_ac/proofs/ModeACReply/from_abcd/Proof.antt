@@ -1,11 +1,11 @@
--- `from_abcd` meets its contract.
+-- `ModeACReply::from_abcd` meets its contract.
 use mathlib.Core.Path.{◌∙◌}
 use borrow.Author.Rules.{rules}
 use native.Mathlib.Omega.{arith}
 use Rattle.mode_ac.specs.Building.{answer_of}
 use Rattle.mode_ac.proofs.DataOfDigits.{accepted, wrong_a, wrong_b, wrong_c, wrong_d}
-use Rattle.mode_ac_build.proofs.from_abcd.Statement.{statement}
-use Rattle.mode_ac_build.proofs.from_abcd.Tie as tie
+use Rattle.mode_ac.proofs.ModeACReply.from_abcd.Statement.{statement}
+use Rattle.mode_ac.proofs.ModeACReply.from_abcd.Tie as tie
 
 returns : tie.Need-returns
 unfolding answer_of

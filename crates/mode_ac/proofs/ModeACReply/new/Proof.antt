@@ -1,9 +1,9 @@
--- `new` meets its contract.
+-- `ModeACReply::new` meets its contract.
 use native.Mathlib.Omega.{arith}
 use borrow.Author.Tests.{lt-ltb, le-ltb}
 use Rattle.mode_ac.specs.Building.{answer_of, from_data}
-use Rattle.mode_ac_build.proofs.new.Statement.{statement}
-use Rattle.mode_ac_build.proofs.new.Tie as tie
+use Rattle.mode_ac.proofs.ModeACReply.new.Statement.{statement}
+use Rattle.mode_ac.proofs.ModeACReply.new.Tie as tie
 
 returns : tie.Need-returns
 unfolding answer_of from_data
