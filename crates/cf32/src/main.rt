@@ -1,5 +1,7 @@
 // Samples for other tools: a tape on standard input, its samples on standard output as interleaved little-endian f32 (cf32), its records, 66 bytes each, in the file that the first argument names.
 // Samples are written as they come, records once the run is done. Each second of signal, how it ended, and a write that fails are reported on standard error.
+#![tactic(auto)]
+
 ghost use Rattle.std.specs.Prelude.{◌≤◌};
 
 use constants::RECORD_LEN;

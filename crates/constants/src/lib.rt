@@ -1,10 +1,12 @@
 // The numbers that follow from the samples per pulse, and the bytes of draws and records. specs/Rate has the former.
+#![tactic(auto)]
+
 ghost use Rattle.std.specs.Prelude.{◌≡◌, min, ◌≤◌, ◌+◌};
 ghost use Rattle.constants.specs.Setting.{per_pulse, either};
 ghost use Rattle.constants.specs.Rate.{branches, prototype_length, mode_s_taps, mode_ac_taps, reply_limit, hold_back, working_memory};
 
 // Samples per pulse, the setting of a run.
-#[derive(Drop)]
+#[derive(Clone, Copy)]
 pub enum SamplesPerPulse {
     Four,
     Eight,

@@ -1,47 +1,49 @@
 // Distributions of a message's parameters, after distributions.rs: carrier offset, carrier phase and symbol clock error, and what each asks of its numbers.
+#![tactic(auto)]
+
 ghost use Rattle.std.specs.Prelude.{◌≡◌};
 ghost use Rattle.constants.specs.Rate.{four};
 ghost use Rattle.distributions.specs.Accepted.{up_to, finite_not_negative, carrier_offset, clamped_normal, carrier_phase, clock_error};
 
-#[derive(Drop)]
+#[derive(Clone, Copy)]
 pub enum CarrierOffset {
     Constant(f64),
     ClampedNormal(f64, f64),
 }
 
-#[derive(Drop)]
+#[derive(Clone, Copy)]
 pub enum CarrierPhase {
     Constant(f64),
     Uniform,
 }
 
-#[derive(Drop)]
+#[derive(Clone, Copy)]
 pub enum ClockError {
     Constant(f64),
     Uniform(f64),
 }
 
 // A distribution as the settings ask for it: its kind and two numbers.
-#[derive(Drop)]
+#[derive(Clone, Copy)]
 pub struct RawDistribution {
     pub kind: u8,
     pub first: f64,
     pub second: f64,
 }
 
-#[derive(Drop)]
+#[derive(Clone, Copy)]
 pub enum OffsetAnswer {
     Accepted(CarrierOffset),
     Refused,
 }
 
-#[derive(Drop)]
+#[derive(Clone, Copy)]
 pub enum PhaseAnswer {
     Accepted(CarrierPhase),
     Refused,
 }
 
-#[derive(Drop)]
+#[derive(Clone, Copy)]
 pub enum ClockAnswer {
     Accepted(ClockError),
     Refused,

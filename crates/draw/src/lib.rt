@@ -1,4 +1,6 @@
 // Draws: their type, a byte of one, and its time; `draw_fields` reads a whole one. Each function is equal to a definition of specs/ on every input.
+#![tactic(auto)]
+
 ghost use Rattle.std.specs.Prelude.{◌≡◌};
 ghost use Rattle.draw.specs.Draw.{draw_at};
 ghost use Rattle.draw.specs.Config.{time_after};
@@ -6,7 +8,7 @@ ghost use Rattle.draw.specs.Config.{time_after};
 pub use le_read_or_zero::byte_at;
 use message::Picks;
 
-#[derive(Drop)]
+#[derive(Clone, Copy)]
 pub struct Draw {
     pub gap: f64,
     pub kind: u8,
@@ -19,7 +21,7 @@ pub struct Draw {
 }
 
 // The first draw and its first field at fault, or none.
-#[derive(Drop)]
+#[derive(Clone, Copy)]
 pub enum DrawFault {
     None,
     At(u64, u64),

@@ -1,4 +1,6 @@
 // What a draw becomes at its time: its message, without its reply's bytes and then with them. Each function is equal to a definition on every input.
+#![tactic(auto)]
+
 ghost use Rattle.std.specs.Prelude.{◌≡◌};
 ghost use Rattle.message.specs.Types.{type_numbered};
 ghost use Rattle.message.specs.Making.{kind_of};

@@ -1,4 +1,6 @@
 // The fields of a draw, read from its 65 bytes, 0 standing for each byte that is missing; and the first fault of several draws. Each function is equal to a definition of `draw` on every input.
+#![tactic(auto)]
+
 ghost use Rattle.std.specs.Prelude.{◌≡◌};
 ghost use Rattle.draw.specs.Draw.{picks_at, draw_at, bytes_at};
 ghost use Rattle.draw.specs.Fault.{first_fault};

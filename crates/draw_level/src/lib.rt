@@ -1,4 +1,6 @@
 // Levels in tenths of a decibel, and the f32 amplitude of each (SPECIFICATION 6.15).
+#![tactic(auto)]
+
 ghost use Rattle.std.specs.Prelude.{◌≡◌, ◌<◌, ◌≤◌, ◌*◌, ◌^◌};
 ghost use Rattle.std.specs.Float.Ieee.Nearest.{closest};
 ghost use Rattle.draw_level.specs.Levels.{entry_of, amplitude_of, answer_of, level_of};
@@ -228,7 +230,7 @@ const POWERS_OF_FIVE: [u64; 11] = [
 ];
 
 // What the level function answers.
-#[derive(Drop)]
+#[derive(Clone, Copy)]
 pub enum LevelAnswer {
     // The amplitude.
     Accepted(f32),

@@ -1,4 +1,6 @@
 // Whether a draw is in the range of an accepted distribution: equal to the definitions, in specs/ of `distributions`, on every input.
+#![tactic(auto)]
+
 ghost use Rattle.std.specs.Prelude.{◌≡◌};
 ghost use Rattle.distributions.specs.Drawn.{offset_draw_fits, phase_draw_fits, clock_draw_fits};
 

@@ -1,4 +1,6 @@
 // What a draw of an accepted distribution becomes: equal to the definitions, in specs/ of `distributions`, on every input.
+#![tactic(auto)]
+
 ghost use Rattle.std.specs.Prelude.{◌≡◌};
 ghost use Rattle.distributions.specs.Drawn.{clamped, offset_of, phase_of, error_of};
 

@@ -1,4 +1,6 @@
 // The first field of a draw that is out of range. Each function is equal to a definition of `draw` on every input.
+#![tactic(auto)]
+
 ghost use Rattle.std.specs.Prelude.{◌≡◌};
 ghost use Rattle.message.specs.Types.{type_numbered};
 ghost use Rattle.message.specs.Making.{checked};

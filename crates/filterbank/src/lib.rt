@@ -1,5 +1,7 @@
 // The filterbank, after pulse_shape.rs: the taps at a clock phase. The clock and the sums of taps are in crates above.
 // Each function is equal to a definition of specs/ on every input.
+#![tactic(auto)]
+
 ghost use Rattle.std.specs.Prelude.{◌≡◌, ◌+◌, ◌-◌, ◌<◌, length, drop, slice_index_or};
 ghost use Rattle.std.specs.Float.{binary32, nan};
 ghost use Rattle.std.specs.Float.Ieee.{add, mul, sub};
@@ -94,7 +96,7 @@ pub fn filter_taps(setting: SamplesPerPulse, prototype: &[f32], phase: f64) -> [
     at_bank_end(setting, prototype, tau)
 }
 
-#[derive(Drop)]
+#[derive(Clone, Copy)]
 pub struct Clock {
     pub phase: f64,
     pub index: usize,

@@ -1,4 +1,6 @@
 // The sum of the taps at pulses, which the filterbank gives for each sample. Equal to its definition, in specs/ of `filterbank`, on every input.
+#![tactic(auto)]
+
 ghost use Rattle.std.specs.Prelude.{◌≡◌, cond, take};
 ghost use Rattle.std.specs.Float.{binary32};
 ghost use Rattle.std.specs.Float.Ieee.{add};

@@ -1,4 +1,6 @@
 // The clock of the filterbank: its step, its start, and one sample more. Equal to their definitions, in specs/ of `filterbank`, on every input.
+#![tactic(auto)]
+
 ghost use Rattle.std.specs.Prelude.{◌≡◌};
 ghost use Rattle.constants.specs.Setting.{per_pulse};
 ghost use Rattle.filterbank.specs.Clocked.{step_of, start_clock, advance as advanced, in64};

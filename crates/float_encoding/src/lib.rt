@@ -1,4 +1,6 @@
 // Floats from their bit patterns, and bit patterns of floats: equal to `of_bits` and `to_bits` of the kit's floats on every input.
+#![tactic(auto)]
+
 ghost use Rattle.std.specs.Prelude.{◌≡◌};
 ghost use Rattle.std.specs.Float.{binary32, binary64};
 ghost use Rattle.std.specs.Float.Ieee.{of_bits, to_bits};

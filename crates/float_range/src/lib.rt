@@ -1,4 +1,6 @@
 // Tests of a float's range: equal to their definitions, in specs/ of `float_narrow`, on every input.
+#![tactic(auto)]
+
 ghost use Rattle.std.specs.Prelude.{◌≡◌};
 ghost use Rattle.std.specs.Float.Ieee.Scale.{finite as is_finite};
 ghost use Rattle.float_narrow.specs.Range.{within as isWithin};

@@ -1,4 +1,6 @@
 // What the language lacks: `as u64`, `as usize` and the ceiling of an `f64` as Rust has them.
+#![tactic(auto)]
+
 ghost use Rattle.std.specs.Prelude.{◌≡◌, false, T, pos};
 ghost use Rattle.std.specs.Float.Ieee.{lt, to_unsigned};
 ghost use Rattle.std.specs.Float.{fin};

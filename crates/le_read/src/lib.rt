@@ -1,22 +1,24 @@
 // Little-endian numbers at an offset in a byte slice, and whether they lie within it.
+#![tactic(auto)]
+
 ghost use Rattle.std.specs.Prelude.{◌≡◌, ◌+◌, ◌≤◌, ◌<◌, leb, length};
 ghost use Rattle.le_read.specs.LeBytes.{le_at};
 ghost use Rattle.le_read.specs.Reads.{read_u16, read_u32, read_u64};
 
 // What a read at an offset finds: the number, or that its bytes run past the end.
-#[derive(Drop)]
+#[derive(Clone, Copy)]
 pub enum ReadU16 {
     Value(u16),
     OutOfBounds,
 }
 
-#[derive(Drop)]
+#[derive(Clone, Copy)]
 pub enum ReadU32 {
     Value(u32),
     OutOfBounds,
 }
 
-#[derive(Drop)]
+#[derive(Clone, Copy)]
 pub enum ReadU64 {
     Value(u64),
     OutOfBounds,

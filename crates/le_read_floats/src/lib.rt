@@ -1,4 +1,6 @@
 // Little-endian floats at an offset in a byte slice, read by their IEEE 754 patterns.
+#![tactic(auto)]
+
 ghost use Rattle.std.specs.Prelude.{◌≡◌};
 ghost use Rattle.std.specs.Float.{binary32, binary64};
 ghost use Rattle.std.specs.Float.Ieee.{of_bits};
@@ -8,14 +10,14 @@ ghost use Rattle.le_read_floats.specs.FloatReads.{float_of, read_f32, read_f64};
 use le_read::{ReadU32, ReadU64};
 
 // What a read at an offset finds: the value, or that its bytes are a NaN's, or that they run past the end.
-#[derive(Drop)]
+#[derive(Clone, Copy)]
 pub enum ReadF32 {
     Value(f32),
     Nan,
     OutOfBounds,
 }
 
-#[derive(Drop)]
+#[derive(Clone, Copy)]
 pub enum ReadF64 {
     Value(f64),
     Nan,

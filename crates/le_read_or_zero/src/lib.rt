@@ -1,4 +1,6 @@
 // A byte, and little-endian numbers, at an offset in a byte slice, 0 past its end: equal to their definitions, in specs/ of `le_read`, on every input.
+#![tactic(auto)]
+
 ghost use Rattle.std.specs.Prelude.{◌≡◌, get_or};
 ghost use Rattle.le_read.specs.LeBytes.{number_at};
 

@@ -1,4 +1,6 @@
 // Little-endian numbers and floats written at an offset in a byte slice: equal to their definitions, in specs/ of `le_read`, on every input.
+#![tactic(auto)]
+
 ghost use Rattle.std.specs.Prelude.{◌≡◌, ◌+◌, ◌≤◌, length};
 ghost use Rattle.le_read.specs.LeBytes.{inside, overwritten, bytes_of, put};
 ghost use Rattle.std.specs.Float.{binary32, binary64};

@@ -1,4 +1,6 @@
 // What is refused before a log is held against records: lengths, a record at fault, a log out of order (SPECIFICATION 13.4).
+#![tactic(auto)]
+
 ghost use Rattle.std.specs.Prelude.{◌≡◌, ◌/◌, ◌<◌, length};
 ghost use Rattle.log_check.specs.LogChecks.{known_length, entry_accepted, log_accepted, lengths_fit, checked_of, contents_refusal, compare_refusal};
 
@@ -15,7 +17,7 @@ const SHORT_LEN: u64 = 7;
 const LONG_LEN: u64 = 14;
 
 // Accepted, or the first cause to refuse.
-#[derive(Drop)]
+#[derive(Clone, Copy)]
 pub enum Checked {
     Accepted,
     Refused(Refusal),

@@ -1,4 +1,6 @@
 // A log held against records: the counts and the two lists, or the refusal (SPECIFICATION 13).
+#![tactic(auto)]
+
 ghost use Rattle.std.specs.Prelude.{◌≡◌};
 ghost use Rattle.log_compare.specs.Comparison.{compared_of, answer_of};
 
@@ -8,7 +10,7 @@ use log_entry::ENTRY_LEN;
 use refusals::Refusal;
 
 // Pairs, records unheard and entries unsent; or the first cause to refuse.
-#[derive(Drop)]
+#[derive(Clone, Copy)]
 pub enum Compared {
     Counts(usize, usize, usize),
     Refused(Refusal),

@@ -1,4 +1,6 @@
 // Entries of a log and records, by their indices: their samples, and whether an entry may be paired with a record.
+#![tactic(auto)]
+
 ghost use Rattle.std.specs.Prelude.{◌≡◌, ◌+◌, ◌/◌, ◌<◌, length};
 ghost use Rattle.log_theory.specs.Pairing.{allowed as allowedOf};
 ghost use Rattle.log_entry.specs.Entries.{sample_of, first_of, same_from, message_alike, logs};

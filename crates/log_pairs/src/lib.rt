@@ -1,4 +1,6 @@
 // The pairing of a log's entries with records (SPECIFICATION 13.2), written as two lists of indices. Two marks only move on while samples rise.
+#![tactic(auto)]
+
 ghost use Rattle.std.specs.Prelude.{◌≡◌, Bool, true, cond, ◌+◌, ◌/◌, ◌<◌, ◌≤◌, leb, ltb, length, replicate};
 ghost use Rattle.log_theory.specs.Pairing.{cand, better as betterOf, earliest as earliestOf};
 ghost use Rattle.log_theory.specs.Report.{nobody, Lists, report_of};

@@ -1,4 +1,6 @@
 // Sums and distances of samples, for any u64 and without overflow.
+#![tactic(auto)]
+
 ghost use Rattle.std.specs.Prelude.{◌≡◌, ◌+◌};
 ghost use Rattle.log_theory.specs.Pairing.{near as nearOf};
 ghost use Rattle.log_tolerance.specs.Capped.{capped};

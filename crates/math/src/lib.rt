@@ -1,4 +1,6 @@
 // Mathematical routines, after math.rs: the two phase wraps, and sine and cosine by fixed steps. Equal to their definitions on every input.
+#![tactic(auto)]
+
 ghost use Rattle.std.specs.Prelude.{◌≡◌};
 ghost use Rattle.math.specs.Phase.{rem_euclid, two_pi, phase_wrap, phase_wrap_once};
 ghost use Rattle.math.specs.Carrier.{reduced, sine_sum, cosine_sum, quadrant, sin_cos};
@@ -36,13 +38,13 @@ pub fn phase_wrap_once_f64(phase: f64) -> f64
 }
 
 // A phase as r and q of SPECIFICATION 6.11: r plus q times PI / 2, but for whole turns.
-#[derive(Drop)]
+#[derive(Clone, Copy)]
 pub struct Reduced {
     pub r: f64,
     pub q: u8,
 }
 
-#[derive(Drop)]
+#[derive(Clone, Copy)]
 pub struct SinCos {
     pub sin: f64,
     pub cos: f64,

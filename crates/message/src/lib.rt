@@ -1,9 +1,11 @@
 // Replies: their kinds and their types, by number.
+#![tactic(auto)]
+
 ghost use Rattle.std.specs.Prelude.{◌≡◌};
 ghost use Rattle.message.specs.Types.{type_numbered, type_number};
 
 // How a reply is sent, and how many of its 14 bytes are used: 7, 14 or 2.
-#[derive(Drop)]
+#[derive(Clone, Copy)]
 pub enum ReplyKind {
     Short,
     Long,
@@ -11,14 +13,14 @@ pub enum ReplyKind {
 }
 
 // A reply's bytes, zero filled, beside its kind. Mode A/C is its data, low byte first, with SPI as bit 12.
-#[derive(Drop)]
+#[derive(Clone, Copy)]
 pub struct Reply {
     pub kind: ReplyKind,
     pub bytes: [u8; 14],
 }
 
 // The message types, in the order of their numbers 0 to 6.
-#[derive(Drop)]
+#[derive(Clone, Copy)]
 pub enum MessageType {
     ExtendedSquitter,
     AcquisitionSquitter,
@@ -30,14 +32,14 @@ pub enum MessageType {
 }
 
 // A type, or none.
-#[derive(Drop)]
+#[derive(Clone, Copy)]
 pub enum TypeFound {
     Of(MessageType),
     Unknown,
 }
 
 // The fields of a draw that a reply is made of.
-#[derive(Drop)]
+#[derive(Clone, Copy)]
 pub struct Picks {
     pub format: u8,
     pub capability: u8,
@@ -48,14 +50,14 @@ pub struct Picks {
 }
 
 // Whether a draw's fields are in range, or the first that is not, counted from 0 in the order of the tape.
-#[derive(Drop)]
+#[derive(Clone, Copy)]
 pub enum FieldFault {
     NoFault,
     Field(u64),
 }
 
 // What making answers: a reply, or the field at fault beside a reply of zeros.
-#[derive(Drop)]
+#[derive(Clone, Copy)]
 pub struct Made {
     pub fault: FieldFault,
     pub reply: Reply,

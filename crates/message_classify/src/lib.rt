@@ -1,11 +1,13 @@
 // Classing: TIS-B, or the message type of a reply by its length and format.
+#![tactic(auto)]
+
 ghost use Rattle.std.specs.Prelude.{◌≡◌, ◌/◌, get_or, take};
 ghost use Rattle.message_classify.specs.Classing.{eleven_class, short_class, long_class, is_tis_b, relay_class, type_class, first_of, class_of, class_of_bytes};
 
 use message::{MessageType, Reply, ReplyKind, TypeFound};
 
 // What classing answers. TIS-B is no type: no draw is of it, no rate is its, and no record holds it.
-#[derive(Drop)]
+#[derive(Clone, Copy)]
 pub enum Class {
     OfType(MessageType),
     TisB,

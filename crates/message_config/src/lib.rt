@@ -1,5 +1,7 @@
 // The configuration of a message, after `MessageConfig` of simulation.rs: when it starts, how its filter's clock runs, and how its carrier rotates.
 // Each function is equal to a definition of specs/ on every input.
+#![tactic(auto)]
+
 ghost use Rattle.std.specs.Prelude.{◌≡◌};
 ghost use Rattle.constants.specs.Setting.{per_pulse};
 ghost use Rattle.message_config.specs.Timing.{delay_of, unrounded_start, filter_clock_error};
@@ -9,7 +11,7 @@ use constants::SamplesPerPulse;
 use message::{Reply, ReplyKind};
 
 // A message's five floats with its reply.
-#[derive(Drop)]
+#[derive(Clone, Copy)]
 pub struct MessageConfig {
     pub time: f64,
     pub cn0: f64,
@@ -20,14 +22,14 @@ pub struct MessageConfig {
 }
 
 // The group delays of the two filters, in samples.
-#[derive(Drop)]
+#[derive(Clone, Copy)]
 pub struct Delays {
     pub mode_s: f64,
     pub mode_ac: f64,
 }
 
 // How a message's samples begin: the clock error of its filter, the clock's phase at the first sample, in samples, what the carrier rotates by in a sample, and its phase at the first sample.
-#[derive(Drop)]
+#[derive(Clone, Copy)]
 pub struct Onset {
     pub clock_error: f64,
     pub clock_phase: f64,

@@ -1,4 +1,6 @@
 // The first field at fault of what a reply is made of, by type: equal to its definition, in specs/ of `message`, on every input.
+#![tactic(auto)]
+
 ghost use Rattle.std.specs.Prelude.{◌≡◌, ltb};
 ghost use Rattle.message.specs.Making.{field_fault, checked};
 

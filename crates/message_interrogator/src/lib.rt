@@ -1,9 +1,11 @@
 // Which interrogator a message answers, read from the overlay on its parity.
+#![tactic(auto)]
+
 ghost use Rattle.std.specs.Prelude.{◌≡◌, ◌<◌, length};
 ghost use Rattle.message_interrogator.specs.Interrogators.{within, code_of, overlay_of, interrogator_of};
 
 // An II code, an SI code, an overlay that is neither, or a message that answers no interrogator.
-#[derive(Drop)]
+#[derive(Clone, Copy)]
 pub enum Interrogator {
     Ii(u32),
     Si(u32),

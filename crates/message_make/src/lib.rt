@@ -1,4 +1,6 @@
 // Making a reply by type: equal to its definition, in specs/ of `message`, on every input.
+#![tactic(auto)]
+
 ghost use Rattle.std.specs.Prelude.{◌≡◌, [], ◌∷◌, ◌+◌, ◌*◌, ◌/◌, ◌%◌, ◌<◌, get_or, take, drop};
 ghost use Rattle.message.specs.Making.{field_fault, filled, reply_of, made};
 ghost use Rattle.mode_s.specs.Parity.{with_parity};

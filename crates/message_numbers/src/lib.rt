@@ -1,4 +1,6 @@
 // The numbers of classes and of interrogators, as they cross to C.
+#![tactic(auto)]
+
 ghost use Rattle.std.specs.Prelude.{◌≡◌};
 ghost use Rattle.message_classify.specs.Classing.{class_number};
 ghost use Rattle.message_interrogator.specs.Interrogators.{kind_number, code_number};

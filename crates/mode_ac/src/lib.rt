@@ -1,16 +1,18 @@
 // Mode A/C replies: their data, its four digits and refusal 10; and the twelve bits of the data with their positions, each by a table of twelve.
+#![tactic(auto)]
+
 ghost use Rattle.std.specs.Prelude.{◌≡◌, ◌%◌};
 ghost use Rattle.mode_ac.specs.Data.{digit_a, digit_b, digit_c, digit_d, digits_of, bit_of};
 ghost use Rattle.mode_ac.specs.Building.{answer_of, from_data, from_digits};
 ghost use Rattle.mode_ac.specs.Positions.{position_of};
 
-#[derive(Drop)]
+#[derive(Clone, Copy)]
 pub struct ModeACReply {
     pub data: u16,
     pub spi: bool,
 }
 
-#[derive(Drop)]
+#[derive(Clone, Copy)]
 pub struct Digits {
     pub a: u8,
     pub b: u8,
@@ -19,7 +21,7 @@ pub struct Digits {
 }
 
 // What building a reply answers: the reply, or refusal 10.
-#[derive(Drop)]
+#[derive(Clone, Copy)]
 pub enum Built {
     Reply(ModeACReply),
     Refused,

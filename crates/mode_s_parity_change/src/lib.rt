@@ -1,9 +1,11 @@
 // What one flipped bit does to the parity of a Mode S message, from its place alone, and back. Places are counted back from 0 at the last bit.
+#![tactic(auto)]
+
 ghost use Rattle.std.specs.Prelude.{◌≡◌, ◌<◌};
 ghost use Rattle.mode_s_parity_change.specs.Change.{change_at, place_of, found_of};
 
 // The place of a flipped bit, or none.
-#[derive(Drop)]
+#[derive(Clone, Copy)]
 pub enum FlippedBit {
     At(u64),
     Nowhere,

@@ -1,4 +1,6 @@
 // What a booking will use, under C names.
+#![tactic(auto)]
+
 ghost use Rattle.std.specs.Prelude.{◌≡◌};
 ghost use Rattle.refusals.specs.Answer.{refused};
 ghost use Rattle.run_booking.specs.Booking.{booking_of};
@@ -11,7 +13,7 @@ use run_booking_walk::End;
 
 // Refusal 0 is none. Where a draw ends the run, ended is 1 and draw its index; where draws ran out, ended is 0 and time that of the last one. Each field has 8 bytes, so that there is no padding.
 #[repr(C)]
-#[derive(Drop)]
+#[derive(Clone, Copy)]
 pub struct FlatBooking {
     pub samples: u64,
     pub noise: u64,

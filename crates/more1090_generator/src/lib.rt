@@ -1,4 +1,6 @@
 // Opening a run and run calls under C names: the state, the answers and the refusals as plain numbers.
+#![tactic(auto)]
+
 ghost use Rattle.std.specs.Prelude.{◌≡◌, cond};
 ghost use Rattle.constants.specs.Rate.{four};
 ghost use Rattle.run_open_checks.specs.Opening.{opened_of, left_by};
@@ -15,7 +17,7 @@ use settings::{Distributions, MessagesPerSecond};
 
 // A distribution: its kind as the settings have it, and two numbers.
 #[repr(C)]
-#[derive(Drop)]
+#[derive(Clone, Copy)]
 pub struct FlatDistribution {
     pub kind: u64,
     pub first: f64,
@@ -23,7 +25,7 @@ pub struct FlatDistribution {
 }
 
 #[repr(C)]
-#[derive(Drop)]
+#[derive(Clone, Copy)]
 pub struct FlatRates {
     pub extended_squitter: f64,
     pub acquisition_squitter: f64,
@@ -36,7 +38,7 @@ pub struct FlatRates {
 
 // A run between two calls. Each field has 8 bytes, so that there is no padding.
 #[repr(C)]
-#[derive(Drop)]
+#[derive(Clone, Copy)]
 pub struct FlatState {
     pub written: u64,
     pub total: u64,
@@ -53,7 +55,7 @@ pub struct FlatState {
 
 // What opening answers: refusal 0 is none.
 #[repr(C)]
-#[derive(Drop)]
+#[derive(Clone, Copy)]
 pub struct FlatOpened {
     pub state: FlatState,
     pub refusal: u64,
@@ -62,7 +64,7 @@ pub struct FlatOpened {
 
 // What a run call answers beside its state: refusal 0 is none, stop 5 is none.
 #[repr(C)]
-#[derive(Drop)]
+#[derive(Clone, Copy)]
 pub struct FlatAnswer {
     pub taken: u64,
     pub samples: u64,
@@ -77,7 +79,7 @@ pub struct FlatAnswer {
 }
 
 #[repr(C)]
-#[derive(Drop)]
+#[derive(Clone, Copy)]
 pub struct FlatRan {
     pub state: FlatState,
     pub answer: FlatAnswer,

@@ -1,4 +1,6 @@
 // The level function under its C name.
+#![tactic(auto)]
+
 ghost use Rattle.std.specs.Prelude.{◌≡◌};
 ghost use Rattle.draw_level.specs.Levels.{level_of};
 ghost use Rattle.more1090_level.specs.LevelInC.{refusal_of, amplitude_left};

@@ -1,4 +1,6 @@
 // A log held against records, under its C name.
+#![tactic(auto)]
+
 ghost use Rattle.std.specs.Prelude.{◌≡◌};
 ghost use Rattle.log_compare.specs.Comparison.{answer_of};
 ghost use Rattle.more1090_log.specs.LogInC.{value_of, flat_of, flat_comparison};
@@ -8,7 +10,7 @@ use refusals::Refusal;
 
 // The counts, or the refusal's number and value. Refusal 0 is none.
 #[repr(C)]
-#[derive(Drop)]
+#[derive(Clone, Copy)]
 pub struct FlatCompared {
     pub pairs: u64,
     pub unheard: u64,

@@ -1,4 +1,6 @@
 // Records on paper under C names: pages, and a line read back.
+#![tactic(auto)]
+
 ghost use Rattle.std.specs.Prelude.{◌≡◌, cond, length};
 ghost use Rattle.page_fill.specs.Pages.{pages_answer, pages_left};
 ghost use Rattle.page_read.specs.Fields.{fields_of};
@@ -8,7 +10,7 @@ use page_fill::Pages;
 
 // What putting records on paper answers: refusal 0 is none; the value beside a refusal is the record at fault.
 #[repr(C)]
-#[derive(Drop)]
+#[derive(Clone, Copy)]
 pub struct FlatPages {
     pub refusal: u64,
     pub value: u64,
@@ -17,7 +19,7 @@ pub struct FlatPages {
 
 // The fields of a line but its message; found is 0 where the bytes are no record's line.
 #[repr(C)]
-#[derive(Drop)]
+#[derive(Clone, Copy)]
 pub struct FlatLine {
     pub found: u64,
     pub first: u64,

@@ -1,4 +1,6 @@
 // Parity, flipped bits, classing and interrogators under C names.
+#![tactic(auto)]
+
 ghost use Rattle.std.specs.Prelude.{◌≡◌};
 ghost use Rattle.mode_s.specs.Parity.{parity_of};
 ghost use Rattle.mode_s_parity_change.specs.Change.{change_at, place_of};

@@ -1,4 +1,6 @@
 // A rack of delayed feeds under C names.
+#![tactic(auto)]
+
 ghost use Rattle.std.specs.Prelude.{◌≡◌};
 ghost use Rattle.rack.specs.Opening.{open_left};
 ghost use Rattle.rack_run.specs.Calls.{run_left};

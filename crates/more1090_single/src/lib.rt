@@ -1,4 +1,6 @@
 // One reply alone, under its C name.
+#![tactic(auto)]
+
 ghost use Rattle.std.specs.Prelude.{◌≡◌, length};
 ghost use Rattle.single_theory.specs.Single.{single_run, single_output};
 ghost use Rattle.single_run.specs.Answer.{answer_of};
@@ -9,7 +11,7 @@ use single_run::Outcome;
 
 // Refusal 0 is none.
 #[repr(C)]
-#[derive(Drop)]
+#[derive(Clone, Copy)]
 pub struct FlatSingle {
     pub refusal: u64,
     pub value: u64,

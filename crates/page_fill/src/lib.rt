@@ -1,4 +1,6 @@
 // Records on paper: pages of 60 lines (SPECIFICATION 11.5). `fill` is equal to its definition of specs/ on every input.
+#![tactic(auto)]
+
 ghost use Rattle.std.specs.Prelude.{◌≡◌, cond, ◌+◌, ◌*◌, ◌/◌, ◌≤◌, length};
 ghost use Rattle.le_read.specs.LeBytes.{overwritten};
 ghost use Rattle.record_check.specs.FirstFault.{first_fault};
@@ -16,7 +18,7 @@ const PAGE_LINES: usize = 60;
 pub const PAGE_LEN: usize = 4380;
 
 // What putting records on paper answers: the pages written, or a refusal.
-#[derive(Drop)]
+#[derive(Clone, Copy)]
 pub enum Pages {
     Written(u64),
     WrongLength,

@@ -1,4 +1,6 @@
 // A line of the record on paper, of 72 bytes and a line feed (SPECIFICATION 11.5). Each public function is equal to a definition of specs/ on every input.
+#![tactic(auto)]
+
 ghost use Rattle.std.specs.Prelude.{◌≡◌, true, [], ◌∷◌, ◌++◌, ◌+◌, ◌*◌, ◌^◌, ◌≤◌, ◌<◌, length, replicate};
 ghost use Rattle.le_read.specs.LeBytes.{inside, overwritten};
 ghost use Rattle.record_check.specs.Accepted.{accepted};

@@ -1,4 +1,6 @@
 // Reading a line of the record on paper back (SPECIFICATION 11.6). `read` is equal to its definition of specs/ on every input.
+#![tactic(auto)]
+
 ghost use Rattle.std.specs.Prelude.{◌≡◌, true, ◌+◌, ◌*◌, ◌^◌, ◌≤◌, ◌<◌, length, take, drop, get_or};
 ghost use Rattle.page_read.specs.Fields.{digit_value, hex_value, read_number, place, shown_byte, shown_message, is_type, shown_fields, no_fields, fields_of};
 
@@ -20,7 +22,7 @@ const COUNT_WIDTH: usize = 4;
 const MODE_AC: u8 = 6;
 
 // What a line shows: whether it is a record's, and the record's fields; all 0 where it is not.
-#[derive(Drop)]
+#[derive(Clone, Copy)]
 pub struct LineFields {
     pub found: bool,
     pub first: u64,

@@ -1,1 +1,2 @@
 // Theory alone: every record that a run writes is accepted.
+#![tactic(auto)]

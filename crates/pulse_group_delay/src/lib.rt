@@ -1,4 +1,6 @@
 // Group delays of prototypes: equal to their definitions, in specs/ of `pulse_shape`, on every input.
+#![tactic(auto)]
+
 ghost use Rattle.std.specs.Prelude.{◌≡◌};
 ghost use Rattle.constants.specs.Rate.{four};
 ghost use Rattle.pulse_shape.specs.GroupDelay.{crosses, delay_at, group_delay, mode_ac_group_delay};

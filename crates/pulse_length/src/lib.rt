@@ -1,4 +1,6 @@
 // How many samples a message lasts at the nominal clock rate, and the most that one can have.
+#![tactic(auto)]
+
 ghost use Rattle.std.specs.Prelude.{◌≡◌, ◌≤◌};
 ghost use Rattle.constants.specs.Rate.{required_samples, longest_pulses, reply_limit};
 ghost use Rattle.constants.specs.Setting.{per_pulse};

@@ -1,4 +1,6 @@
 // The pulse maps of Mode S and Mode A/C replies.
+#![tactic(auto)]
+
 ghost use Rattle.std.specs.Prelude.{◌≡◌, ◌<◌, ◌≤◌};
 ghost use Rattle.pulse_map.specs.ModeS.{byte_bit, mode_s_bits, mode_s_pulses};
 ghost use Rattle.pulse_map.specs.ModeAC.{mode_ac_pulses};
@@ -6,7 +8,7 @@ ghost use Rattle.pulse_map.specs.ModeAC.{mode_ac_pulses};
 use constants::MAX_POSITIONS;
 
 // Where pulses stand, one entry for each position of half a microsecond, and how many positions there are; none stands beyond them.
-#[derive(Drop)]
+#[derive(Clone, Copy)]
 pub struct Pulses {
     pub on: [bool; MAX_POSITIONS],
     pub len: usize,

@@ -1,5 +1,7 @@
 // The shape of a pulse, after pulse_shape.rs: trapezoids and prototypes.
 // Each function is equal to a definition of specs/ on every input.
+#![tactic(auto)]
+
 ghost use Rattle.std.specs.Prelude.{◌≡◌, ◌+◌, ◌-◌, ◌<◌, ◌≤◌, length, from_bits};
 ghost use Rattle.std.specs.Float.{binary32};
 ghost use Rattle.constants.specs.Rate.{four};
@@ -119,7 +121,7 @@ pub fn mode_ac_prototype(lowpass: &[f32]) -> [f32; PROTOTYPE_LEN]
 }
 
 // A crossing of the level, at its delay in samples, or none.
-#[derive(Drop)]
+#[derive(Clone, Copy)]
 pub enum Crossing {
     At(f64),
     None,

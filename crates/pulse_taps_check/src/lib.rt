@@ -1,4 +1,6 @@
 // Checks of taps: equal to their definitions, in specs/ of `pulse_shape`, on every input.
+#![tactic(auto)]
+
 ghost use Rattle.std.specs.Prelude.{◌≡◌};
 ghost use Rattle.constants.specs.Setting.{per_pulse};
 ghost use Rattle.pulse_shape.specs.Accepted.{within16, all_within16, mode_s_taps_accepted, mode_ac_taps_accepted};

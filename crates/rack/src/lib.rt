@@ -1,4 +1,6 @@
 // A rack of delayed feeds: its state, and opening it (SPECIFICATION 15.1).
+#![tactic(auto)]
+
 ghost use Rattle.std.specs.Prelude.{◌≡◌, ◌≤◌, length};
 ghost use Rattle.rack.specs.Feeds.{silent};
 ghost use Rattle.rack.specs.Opening.{gain_fits, each_fits, refusal_of, delay_row, gain_row, open_left};
@@ -16,7 +18,7 @@ pub const MEMORY_LEN: usize = 8190;
 
 // A rack between two calls: the number of feeds, the samples seen so far, counted up to 4,095, and each feed's delay and gain.
 #[repr(C)]
-#[derive(Drop)]
+#[derive(Clone, Copy)]
 pub struct Rack {
     pub feeds: u64,
     pub seen: u64,
@@ -26,7 +28,7 @@ pub struct Rack {
 
 // What opening and a call answer: the rack for the next call, and a refusal's number, 0 for none.
 #[repr(C)]
-#[derive(Drop)]
+#[derive(Clone, Copy)]
 pub struct Answered {
     pub rack: Rack,
     pub refusal: u64,

@@ -1,4 +1,6 @@
 // A feed of a rack in a call (SPECIFICATION 15.2), written from the memory and the call's samples.
+#![tactic(auto)]
+
 ghost use Rattle.std.specs.Prelude.{cond, ◌≡◌, ◌+◌, ◌-◌, ◌*◌, ◌≤◌, min, length, take, drop};
 ghost use Rattle.rack.specs.Feeds.{silent, scaled};
 ghost use Rattle.rack.specs.Memory.{feed_of};

@@ -1,4 +1,6 @@
 // The memory of a rack moved on by the samples of a call (SPECIFICATION 15.2).
+#![tactic(auto)]
+
 ghost use Rattle.std.specs.Prelude.{cond, ◌++◌, ◌≡◌, ◌+◌, ◌-◌, ◌≤◌, eqb, length, take, drop};
 ghost use Rattle.rack.specs.Memory.{held_after};
 ghost use Rattle.rack.specs.WrittenModel.{overwritten};

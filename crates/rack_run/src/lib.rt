@@ -1,4 +1,6 @@
 // Calls on a rack of delayed feeds (SPECIFICATION 15.2): the feeds written, the memory moved on, refusal 9.
+#![tactic(auto)]
+
 ghost use Rattle.std.specs.Prelude.{◌≡◌, ◌+◌, ◌*◌, ◌/◌, ◌≤◌, min, eqb, length};
 ghost use Rattle.rack_run.specs.Calls.{feed_count, lengths_fit, feeds_up_to, run_left};
 

@@ -1,4 +1,6 @@
 // Whether records that come from outside are accepted (SPECIFICATION 4.7), and the first that is not. Each function is equal to a definition of specs/ on every input.
+#![tactic(auto)]
+
 ghost use Rattle.std.specs.Prelude.{◌≡◌};
 ghost use Rattle.record_check.specs.Accepted.{type_length, accepted};
 ghost use Rattle.record_check.specs.FirstFault.{first_fault};
@@ -17,7 +19,7 @@ const TYPES: u8 = 7;
 const LENGTHS: [u8; 7] = [14, 7, 7, 7, 14, 14, 2];
 
 // What is found in records: no fault, or the index of the first one at fault.
-#[derive(Drop)]
+#[derive(Clone, Copy)]
 pub enum RecordFault {
     NoFault,
     At(u64),

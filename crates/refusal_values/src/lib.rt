@@ -1,11 +1,13 @@
 // The values beside a refusal's number as two numbers, for callers in C.
+#![tactic(auto)]
+
 ghost use Rattle.std.specs.Prelude.{◌≡◌};
 ghost use Rattle.refusal_values.specs.Flat.{values_flat};
 
 use refusals::Refusal;
 
 // 0 where a refusal has no such value.
-#[derive(Drop)]
+#[derive(Clone, Copy)]
 pub struct Values {
     pub value: u64,
     pub field: u64,

@@ -1,8 +1,10 @@
 // The refusals of the library's calls. specs/ gives the number and values of SPECIFICATION 3.1 for each.
+#![tactic(auto)]
+
 ghost use Rattle.std.specs.Prelude.{◌≡◌};
 ghost use Rattle.refusals.specs.Number.{number_of};
 
-#[derive(Drop)]
+#[derive(Clone, Copy)]
 pub enum Refusal {
     // Nanoseconds out of range, or too long a duration.
     Duration,

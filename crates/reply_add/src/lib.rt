@@ -1,5 +1,7 @@
 // The samples of a reply added into working memory, by the prototype of its kind: the pulses, the filterbank's values at each clock, and their rotation by the carrier.
 // The public function is equal to definitions of `reply_samples` on every input.
+#![tactic(auto)]
+
 ghost use Rattle.std.specs.Prelude.{◌≡◌, ◌≤◌, length, take};
 ghost use Rattle.constants.specs.Setting.{per_pulse};
 ghost use Rattle.filterbank.specs.Apply.{limit_of};
@@ -32,7 +34,7 @@ fn value_at(setting: SamplesPerPulse, prototype: &[f32], padded: &[bool; 252], c
 }
 
 // A reply's clock and carrier at its first sample, and how they go on.
-#[derive(Drop)]
+#[derive(Clone, Copy)]
 struct Wave {
     pub clock: Clock,
     pub step: f64,

@@ -1,5 +1,7 @@
 // A reply's pulses and the samples that it lasts, after `message_to_pulses` and `message_num_samples` of simulation.rs.
 // Each function is equal to a definition of specs/ on every input.
+#![tactic(auto)]
+
 ghost use Rattle.std.specs.Prelude.{◌≡◌, ◌<◌};
 ghost use Rattle.constants.specs.Setting.{per_pulse};
 ghost use Rattle.reply_pulses.specs.ReplyPulses.{data_of, spi_of, pulses_of, num_samples_of};

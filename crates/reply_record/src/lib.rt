@@ -1,4 +1,6 @@
 // A record of 66 bytes. Each function is equal to a definition of specs/ on every input.
+#![tactic(auto)]
+
 ghost use Rattle.std.specs.Prelude.{◌≡◌, [], ◌∷◌, ◌+◌, ◌≤◌, ◌<◌, length};
 ghost use Rattle.le_read.specs.LeBytes.{inside, overwritten};
 ghost use Rattle.reply_record.specs.Record.{record_length, message_length, float_bytes, other_bytes, record_bytes, record_at};

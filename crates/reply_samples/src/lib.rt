@@ -1,5 +1,7 @@
 // A reply's samples, after `MessageConfig::samples` of simulation.rs: the filterbank's values rotated by the carrier, and their addition into working memory that is used as a ring.
 // The public function is equal to definitions of specs/ on every input; what it is made of has what it asks tested before.
+#![tactic(auto)]
+
 ghost use Rattle.std.specs.Prelude.{◌≡◌, ◌≤◌, ◌<◌, ◌+◌, ◌*◌, length, get_or, set};
 ghost use Rattle.std.specs.Float.{binary32, nan};
 ghost use Rattle.std.specs.Float.Ieee.{add};
@@ -11,7 +13,7 @@ ghost use Rattle.reply_samples.specs.RingModel.{ring_slots, added_at, next_slot,
 use constants::SamplesPerPulse;
 
 // A complex sample.
-#[derive(Drop)]
+#[derive(Clone, Copy)]
 pub struct Sample {
     pub re: f32,
     pub im: f32,

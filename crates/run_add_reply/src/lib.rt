@@ -1,4 +1,6 @@
 // A reply added into working memory and recorded, from its message and the bytes of its draw.
+#![tactic(auto)]
+
 ghost use Rattle.std.specs.Prelude.{◌≡◌, ◌%◌};
 ghost use Rattle.constants.specs.Rate.{four};
 ghost use Rattle.reply_samples.specs.RingModel.{ring_slots};

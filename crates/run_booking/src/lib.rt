@@ -1,4 +1,6 @@
 // What a booking will use: opening's checks without working memory, then every draw, then the figures of the run. No sample is made.
+#![tactic(auto)]
+
 ghost use Rattle.std.specs.Prelude.{[], ◌≡◌, ◌*◌, ◌%◌, ◌≤◌, ◌^◌, length, take};
 ghost use Rattle.draw.specs.Fault.{first_fault};
 ghost use Rattle.run_booking.specs.Booking.{draws_then, booking_of};
@@ -13,7 +15,7 @@ use run_open_checks::Opened;
 use settings::{Distributions, MessagesPerSecond};
 
 // The samples, noise values and records of a run, the draws that it takes, and where they end.
-#[derive(Drop)]
+#[derive(Clone, Copy)]
 pub struct Figures {
     pub samples: u64,
     pub noise: u64,
@@ -22,7 +24,7 @@ pub struct Figures {
     pub end: End,
 }
 
-#[derive(Drop)]
+#[derive(Clone, Copy)]
 pub enum Booked {
     Booking(Figures),
     Refused(Refusal),

@@ -1,1 +1,2 @@
 // What is shown of a booking: specs/ states it, proofs/ shows it.
+#![tactic(auto)]

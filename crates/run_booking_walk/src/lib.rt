@@ -1,4 +1,6 @@
 // The walk over draws: the records of a run, and the draw that ends it. No sample is made.
+#![tactic(auto)]
+
 ghost use Rattle.std.specs.Prelude.{◌≡◌, false, ◌+◌, ◌*◌, ◌≤◌, ◌<◌, ◌^◌, pos, length};
 ghost use Rattle.run_theory.specs.Generator.{start_from};
 ghost use Rattle.run_theory.specs.PlainRun.{kind_of};
@@ -13,7 +15,7 @@ use message_config::Delays;
 use settings::Distributions;
 
 // Where a walk ends.
-#[derive(Drop)]
+#[derive(Clone, Copy)]
 pub enum End {
     // The index of the draw that ends the run.
     Draw(u64),
@@ -22,7 +24,7 @@ pub enum End {
 }
 
 // The records, the draws taken, up to and with the one that ends the run, and where the walk ends.
-#[derive(Drop)]
+#[derive(Clone, Copy)]
 pub struct Walked {
     pub records: u64,
     pub taken: u64,
@@ -30,7 +32,7 @@ pub struct Walked {
 }
 
 // What step 4 makes of a draw (SPECIFICATION 5.6, 9.4).
-#[derive(Drop)]
+#[derive(Clone, Copy)]
 pub enum Kind {
     Ignored,
     Ends,
@@ -38,7 +40,7 @@ pub enum Kind {
 }
 
 // A walk so far: the records, the time of the last draw, and whether that draw ends the run.
-#[derive(Drop)]
+#[derive(Clone, Copy)]
 pub struct Progress {
     pub records: u64,
     pub time: f64,

@@ -1,4 +1,6 @@
 // Run calls: the checks, and the steps, each a stop, samples that are due, or a draw. Each function is tied to the theory of lists of calls.
+#![tactic(auto)]
+
 ghost use Rattle.std.specs.Prelude.{◌≡◌, ◌+◌, ◌*◌, ◌≤◌, ◌<◌, ◌^◌, length};
 ghost use Rattle.std.specs.Float.{nan};
 ghost use Rattle.run_call.specs.CallModel.{initial_by, ran_by, call_left, refused_by, run_left};
@@ -15,7 +17,7 @@ use run_steps::{LastStep, Plan, Progress};
 use settings::{Distributions, MessagesPerSecond};
 
 // What a run call hands to the next one.
-#[derive(Drop)]
+#[derive(Clone, Copy)]
 pub struct State {
     pub written: u64,
     pub total: u64,
@@ -28,7 +30,7 @@ pub struct State {
 }
 
 // Of one call: draws taken, samples written, noise values used, records written, and reply samples added to working memory, in two halves.
-#[derive(Drop)]
+#[derive(Clone, Copy)]
 pub struct Counts {
     pub taken: usize,
     pub samples: usize,
@@ -38,14 +40,14 @@ pub struct Counts {
     pub added_low: u64,
 }
 
-#[derive(Drop)]
+#[derive(Clone, Copy)]
 pub enum Answer {
     Stopped(Stop),
     Refused(Refusal),
 }
 
 // What a run call answers: the state for the next call, the counts, and its stop or refusal.
-#[derive(Drop)]
+#[derive(Clone, Copy)]
 pub struct Ran {
     pub state: State,
     pub counts: Counts,

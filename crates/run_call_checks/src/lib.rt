@@ -1,4 +1,6 @@
 // The checks of a run call: refusal 9 for lengths, 7 for draws, 8 for noise.
+#![tactic(auto)]
+
 ghost use Rattle.std.specs.Prelude.{◌≡◌, ◌||◌, false, cond};
 ghost use Rattle.std.proofs.Math.Option.{some, none};
 ghost use Rattle.run_theory.specs.PlainBench.{draw_refusal, draws_of};
@@ -66,7 +68,7 @@ pub fn check_draws(
 }
 
 // The index of the first noise value at fault, or none.
-#[derive(Drop)]
+#[derive(Clone, Copy)]
 pub enum NoiseFault {
     None,
     At(u64),

@@ -1,4 +1,6 @@
 // Samples that are due, written at once from working memory: the memory's numbers with their noise go to output, and their slots are cleared.
+#![tactic(auto)]
+
 ghost use Rattle.std.specs.Prelude.{◌≡◌, ◌+◌, ◌*◌, ◌/◌, ◌%◌, ◌≤◌, ◌<◌, min, length, drop, take};
 ghost use Rattle.run_call_model.specs.Buffers.{overwritten};
 ghost use Rattle.run_theory.specs.Zeros.{zeros};

@@ -1,4 +1,6 @@
 // Opening a run: what `run_open_checks` answers and, accepted, the prototypes filled and working memory set to 0.0.
+#![tactic(auto)]
+
 ghost use Rattle.std.specs.Prelude.{cond, ◌≡◌, length};
 ghost use Rattle.run_theory.specs.Zeros.{zeros};
 ghost use Rattle.run_open.specs.FillModel.{over};

@@ -1,4 +1,6 @@
 // What opening a run answers: refusal 9 for the lengths of the buffers, refusals 1 to 4, 14, 5 and 6, or the first state; and the prototypes. It writes nothing: `run_open` does.
+#![tactic(auto)]
+
 ghost use Rattle.std.specs.Prelude.{◌≡◌};
 ghost use Rattle.constants.specs.Rate.{four};
 ghost use Rattle.pulse_shape.specs.Prototype.{mode_s_prototype, mode_ac_prototype};
@@ -11,14 +13,14 @@ use refusals::Refusal;
 use run_call::State;
 use settings::{Checked, Distributions, MessagesPerSecond, SETTINGS_LEN};
 
-#[derive(Drop)]
+#[derive(Clone, Copy)]
 pub enum Opened {
     Run(State),
     Refused(Refusal),
 }
 
 // What opening answers, and the prototypes that a run is opened with.
-#[derive(Drop)]
+#[derive(Clone, Copy)]
 pub struct Prepared {
     pub opened: Opened,
     pub mode_s: [f32; PROTOTYPE_LEN],

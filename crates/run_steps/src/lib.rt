@@ -1,4 +1,6 @@
 // The steps of a run call: what comes next, from counts and the next draw alone, and what carrying it out makes of the counts. Counts are modulo 2^64, which no call reaches.
+#![tactic(auto)]
+
 ghost use Rattle.std.specs.Prelude.{◌≡◌, ◌+◌, ◌-◌, ◌/◌, ◌^◌, ◌<◌, min, false, pos, if◌then◌else◌};
 ghost use Rattle.run_theory.specs.Generator.{start_from};
 ghost use Rattle.run_theory.specs.PlainRun.{kind_of};
@@ -10,7 +12,7 @@ ghost use Rattle.run_steps.specs.ProgressModel.{progress_after_samples, progress
 use constants::{DRAW_LEN, HOLD_BACK, RECORD_LEN, REPLY_LIMIT};
 use message_config::{Delays, MessageConfig};
 
-#[derive(Drop)]
+#[derive(Clone, Copy)]
 pub enum Stop {
     Done,
     OutputFull,
@@ -20,7 +22,7 @@ pub enum Stop {
 }
 
 // What comes next: a stop; n samples after the end draw, or by the start of the next draw, at its time; or a draw at its time, ignored, ending the run, or a reply from its start on.
-#[derive(Drop)]
+#[derive(Clone, Copy)]
 pub enum Plan {
     Halt(Stop),
     Drain(usize),
@@ -178,7 +180,7 @@ pub fn choose(
 }
 
 // A call so far: what of the state moves, the counts, and how the call came here. The reply samples added are counted in two halves.
-#[derive(Drop)]
+#[derive(Clone, Copy)]
 pub struct Progress {
     pub written: u64,
     pub time: f64,
@@ -193,7 +195,7 @@ pub struct Progress {
 }
 
 // Samples were written; a draw was taken; or the call stopped.
-#[derive(Drop)]
+#[derive(Clone, Copy)]
 pub enum LastStep {
     SamplesWritten,
     DrawTaken,

@@ -1,4 +1,6 @@
 // A run's settings: their 123 bytes, the rate of a type, and refusals 1 to 4 and 14. Each function is equal to a definition of specs/ on every input.
+#![tactic(auto)]
+
 ghost use Rattle.std.specs.Prelude.{◌≡◌, ◌≤◌};
 ghost use Rattle.settings.specs.Settings.{settings_length, rates_at, raw_distribution_at, settings_of, rate_of, rates_of};
 ghost use Rattle.constants.specs.Rate.{four};
@@ -21,7 +23,7 @@ const LEAST_LEVEL: f32 = 0.1;
 const GREATEST_LEVEL: f32 = 0.9;
 
 // Messages per second for each message type, in the order of the types.
-#[derive(Drop)]
+#[derive(Clone, Copy)]
 pub struct MessagesPerSecond {
     pub extended_squitter: f64,
     pub acquisition_squitter: f64,
@@ -32,7 +34,7 @@ pub struct MessagesPerSecond {
     pub mode_ac: f64,
 }
 
-#[derive(Drop)]
+#[derive(Clone, Copy)]
 pub struct Settings {
     pub seconds: u64,
     pub nanoseconds: u32,
@@ -43,7 +45,7 @@ pub struct Settings {
     pub trigger_level: f32,
 }
 
-#[derive(Drop)]
+#[derive(Clone, Copy)]
 pub struct Distributions {
     pub carrier: CarrierOffset,
     pub phase: CarrierPhase,
@@ -51,13 +53,13 @@ pub struct Distributions {
 }
 
 // The first rate that is negative or not finite, or that there is none.
-#[derive(Drop)]
+#[derive(Clone, Copy)]
 pub enum BadRate {
     None,
     At(u64),
 }
 
-#[derive(Drop)]
+#[derive(Clone, Copy)]
 pub enum Checked {
     // The run's samples, and its distributions.
     Accepted(u64, Distributions),

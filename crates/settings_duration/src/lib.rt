@@ -1,4 +1,6 @@
 // The samples of a duration, or refusal 1.
+#![tactic(auto)]
+
 ghost use Rattle.std.specs.Prelude.{◌≡◌};
 ghost use Rattle.constants.specs.Setting.{per_pulse};
 ghost use Rattle.settings_duration.specs.Duration.{answer_of, duration_of};
@@ -6,7 +8,7 @@ ghost use Rattle.settings_duration.specs.Duration.{answer_of, duration_of};
 use constants::SamplesPerPulse;
 
 // What a duration answers: its samples, or refusal 1.
-#[derive(Drop)]
+#[derive(Clone, Copy)]
 pub enum InSamples {
     Samples(u64),
     Refused,

@@ -1,4 +1,6 @@
 // The checks of one reply alone: refusals 9, 1 and 12, then what opening refuses, then 7 and 8.
+#![tactic(auto)]
+
 ghost use Rattle.std.specs.Prelude.{◌≡◌, not, ◌*◌, eqb};
 ghost use Rattle.constants.specs.Setting.{per_pulse};
 ghost use Rattle.settings_duration.specs.Duration.{samples_of};

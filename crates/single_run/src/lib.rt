@@ -1,4 +1,6 @@
 // One reply alone, after `SingleMessageSimulation::run` of simulation.rs: a run's settings, one draw, the two lowpasses and noise in, the whole stretch of samples out.
+#![tactic(auto)]
+
 ghost use Rattle.std.specs.Prelude.{◌≡◌, length};
 ghost use Rattle.constants.specs.Setting.{per_pulse};
 ghost use Rattle.draw.specs.Draw.{draw_at};
@@ -17,7 +19,7 @@ use run_open_checks::Opened;
 use settings::Distributions;
 
 // That the samples are made, or why not.
-#[derive(Drop)]
+#[derive(Clone, Copy)]
 pub enum Outcome {
     Made,
     Refused(Refusal),

@@ -1,5 +1,7 @@
 // The tape program: a tape on standard input; a header, a line for each record and the samples written on standard output, or `refused` and a number.
 // What it prints is worked out by tape_run and tape_text; here it is written, and a write that fails is reported on standard error.
+#![tactic(auto)]
+
 use libc::STDOUT_FILENO;
 use tape_sections::MAX_RECORDS_LEN;
 use tape_text::TEXT_LEN;

@@ -1,4 +1,6 @@
 // A run that is fed a chunk of its noise. The public function is equal to a definition of specs/ on every input.
+#![tactic(auto)]
+
 ghost use Rattle.std.specs.Prelude.{◌≡◌, ◌*◌, ◌<◌, ◌≤◌, min};
 ghost use Rattle.tape_feed.specs.FeedModel.{feed_after, called_of, fed_of};
 

@@ -1,4 +1,6 @@
 // Rows of f32 values in bytes, read and written. Each public function is equal to a definition of specs/ on every input.
+#![tactic(auto)]
+
 ghost use Rattle.std.specs.Prelude.{◌≡◌, ◌++◌, ◌/◌, min, length, take, drop};
 ghost use Rattle.le_read.specs.LeBytes.{overwritten};
 ghost use Rattle.tape_floats.specs.Floats.{floats_of, float_bytes};

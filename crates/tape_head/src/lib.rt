@@ -1,4 +1,6 @@
 // A tape up to its noise: its sections in tape order, each section's count and length before its values. Each public function is equal to a definition of specs/ on every input.
+#![tactic(auto)]
+
 ghost use Rattle.std.specs.Prelude.{◌≡◌, ◌+◌, ◌*◌, ◌≤◌, length};
 ghost use Rattle.constants.specs.Rate.{four};
 ghost use Rattle.run_open_checks.specs.Opening.{prepared_of};
@@ -18,14 +20,14 @@ use tape_sections::{
 };
 
 // That nothing before the taps' values is refused, or the refusal's number.
-#[derive(Drop)]
+#[derive(Clone, Copy)]
 pub enum Early {
     Accepted,
     Refused(u64),
 }
 
 // What a tape begins with: a refusal's number; or a run's first state, its count of draws and its count of noise values.
-#[derive(Drop)]
+#[derive(Clone, Copy)]
 pub enum Beginning {
     Refused(u64),
     Run(State, u64, u64),

@@ -1,4 +1,6 @@
 // A tape from standard input: its bytes before the noise, and values of its noise. What is read is not stated, since it is not known; how much is counted is.
+#![tactic(auto)]
+
 ghost use Rattle.std.specs.Prelude.{◌≡◌, ◌≤◌, ◌<◌, length};
 ghost use Rattle.io.specs.Counts.{IsPrefixLen};
 

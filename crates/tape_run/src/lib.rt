@@ -1,5 +1,7 @@
 // A tape on standard input, run to its end: what is reported of it, its records where its run is done, and its samples, on standard output where they are asked for.
 // What is read is not stated, since it is not known; that what is reported is right for some tape, is.
+#![tactic(auto)]
+
 ghost use Rattle.std.specs.Prelude.{◌≡◌, cond, length};
 ghost use Rattle.tape_theory.specs.Reported.{Reported, records_lent};
 

@@ -1,4 +1,6 @@
 // The counts of a tape's sections: a section's count and length, and how many bytes stand before the noise. Each public function is equal to a definition of specs/ on every input.
+#![tactic(auto)]
+
 ghost use Rattle.std.specs.Prelude.{◌≡◌, ◌+◌, ◌*◌, ◌≤◌, ◌<◌, ◌&&◌, leb};
 ghost use Rattle.constants.specs.Rate.{four};
 ghost use Rattle.tape_sections.specs.Sections.{section_at, head_length};
@@ -48,7 +50,7 @@ pub const CHUNK_BYTES: usize = 65536;
 pub const CHUNK_OUTPUT_LEN: usize = 16386;
 
 // The count of a section, or that its count or its length is wrong.
-#[derive(Drop)]
+#[derive(Clone, Copy)]
 pub enum Counted {
     Of(u64),
     Wrong,

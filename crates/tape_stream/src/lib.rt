@@ -1,5 +1,7 @@
 // The noise section of a tape on standard input, fed to its run in chunks, with the samples that come of it on standard output where they are asked for (cf32: interleaved little-endian f32).
 // What is read and written is not stated, since it is not known; that the noise is cut as tape_theory/specs/PlainTape asks, is.
+#![tactic(auto)]
+
 ghost use Rattle.std.specs.Prelude.{◌≡◌, true, cond, ◌-◌, ◌≤◌, min};
 ghost use Rattle.tape_theory.specs.PlainTape.{FedCut};
 
@@ -87,7 +89,7 @@ fn left_after(left: u64, want: u64, short: bool) -> u64
 }
 
 // A run after its noise section; whether standard output does not take its samples; whether the section was cut short, by that or since there were fewer values; and whether bytes are left over behind it.
-#[derive(Drop)]
+#[derive(Clone, Copy)]
 pub struct Section {
     pub feed: Feed,
     pub untaken: bool,

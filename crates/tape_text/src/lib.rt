@@ -1,4 +1,6 @@
 // The text that the tape program prints, put into a buffer. Each public function is equal to a definition of specs/ on every input.
+#![tactic(auto)]
+
 ghost use Rattle.std.specs.Prelude.{◌≡◌, ◌+◌, ◌*◌, ◌/◌, ◌≤◌, ◌<◌, length, get_or, take, ◌∷◌, []};
 ghost use Rattle.io.specs.Counts.{IsPrefixLen};
 ghost use Rattle.le_read.specs.LeBytes.{overwritten};

@@ -1,4 +1,6 @@
 // The run of a tape, fed its noise chunk by chunk: how it begins, the verdict on it, and what is reported of it. Each public function is equal to a definition of specs/ on every input.
+#![tactic(auto)]
+
 ghost use Rattle.std.specs.Prelude.{◌≡◌, cond};
 ghost use Rattle.tape_verdict.specs.Verdict.{start_of, stop_then, verdict_of, judged_of, outcome_of, outcome_done};
 
@@ -6,7 +8,7 @@ use run_call::{Answer, State};
 use run_steps::Stop;
 
 // A run so far: its state, the draws taken, the records written, and what its last call answered.
-#[derive(Drop)]
+#[derive(Clone, Copy)]
 pub struct Feed {
     pub state: State,
     pub taken: usize,
@@ -15,7 +17,7 @@ pub struct Feed {
 }
 
 // What is reported of a tape: that its run is done, with its records and its samples; the number of its refusal, with the samples written before it; or that standard output does not take the samples.
-#[derive(Drop)]
+#[derive(Clone, Copy)]
 pub enum Outcome {
     Done(usize, u64),
     Refused(u64, u64),

@@ -1,4 +1,6 @@
 // Functions of the crates below under C names, for the differential harness to call: each only calls, turns an answer into numbers, and promises what it calls promises.
+#![tactic(auto)]
+
 mod floats;
 mod pulse_maps;
 mod replies;

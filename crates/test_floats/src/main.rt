@@ -1,4 +1,6 @@
 // Replays answers of the Rust that are stored in the file stdin: a line is a letter for the function, its argument and its answer, both as 16 hexadecimal digits. Prints how many lines were read and how many answers differ.
+#![tactic(auto)]
+
 ghost use Rattle.std.specs.Prelude.{◌≡◌, ◌<◌, length};
 
 use libc::{STDIN_FILENO, STDOUT_FILENO};

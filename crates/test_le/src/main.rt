@@ -1,5 +1,7 @@
 // Reads and writes of le_bytes and le_floats, held to Rust's from_le_bytes and to_le_bytes.
 // `harness vectors` (differential/) makes the bytes of `stdin` and, by Rust's own functions, the lines of `stdout`.
+#![tactic(auto)]
+
 ghost use Rattle.std.specs.Prelude.{◌≤◌, length};
 
 use le_read::{ReadU16, ReadU32, ReadU64};

@@ -1,5 +1,7 @@
 // Runs the bench checks of durations, lengths, Mode A/C data and pulses, every Mode A/C map beside a second one written out position by position, and
 // Mode S maps. Its stdout is what the Rust's own functions give (`harness vectors`, differential/).
+#![tactic(auto)]
+
 ghost use Rattle.std.specs.Prelude.{◌<◌};
 
 use constants::SamplesPerPulse;

@@ -1,4 +1,6 @@
 // Replays the vectors of parity, making and classing: a line for each record of standard input. What it writes is held to the Rust's answers in the file stdout; `harness vectors` (differential/) makes both.
+#![tactic(auto)]
+
 use libc::{STDIN_FILENO, STDOUT_FILENO};
 use message::{FieldFault, Picks, Reply, ReplyKind, TypeFound};
 use message_classify::Class;

@@ -1,4 +1,6 @@
 // Prints digests of prototypes, delays, taps and pulse sums of made-up filters. The file `stdout` holds those of the Rust: `harness vectors` (differential/) makes it.
+#![tactic(auto)]
+
 ghost use Rattle.std.specs.Prelude.{◌<◌, ◌≤◌};
 
 use constants::SamplesPerPulse;

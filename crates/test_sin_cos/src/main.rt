@@ -1,5 +1,7 @@
 // Replays stored answers of the Rust: the wraps and the sine and cosine of SPECIFICATION 6.11 bit for bit, and the two values within 2^-23 of its `sin_cos`.
 // Prints how many rows of each table agree.
+#![tactic(auto)]
+
 mod tables;
 
 ghost use Rattle.std.specs.Prelude.{◌<◌, ◌≤◌};

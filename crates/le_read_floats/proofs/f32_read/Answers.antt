@@ -1,0 +1,16 @@
+-- `f32_read` meets its contract. A NaN is found by one comparison.
+use mathlib.Core.Path.{sym}
+use lib.Ieee.{binary32}
+use Rattle.le_read_floats.specs.declared.ReadF32.TheVariants.{Value, Nan}
+use Rattle.float_narrow.proofs.Nan.{no_nan_bits}
+use Rattle.le_read_floats.proofs.Patterns.{float_nan, float_value}
+use Rattle.le_read_floats.proofs.f32_read.Goals as goal
+
+pub returns-then-n-gt2139095040 : goal.returns-then-n-gt2139095040
+returns-then-n-gt2139095040 c = sym (float_nan binary32 c.args.n Value Nan c.if-n-gt2139095040.true)
+
+pub float_from_bits-result : goal.float_from_bits-result
+float_from_bits-result c = no_nan_bits binary32 c.args.n c.if-n-gt2139095040.false
+
+pub returns : goal.returns
+returns c = sym (float_value binary32 c.args.n Value Nan c.if-n-gt2139095040.false)

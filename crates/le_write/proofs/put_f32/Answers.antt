@@ -1,0 +1,11 @@
+-- `put_f32` meets its contract. The bytes of its pattern.
+use mathlib.Core.Path.{ap, ◌∙◌}
+use Rattle.le_read.specs.LeBytes.{put}
+use borrow.Author.Rules.{rules}
+use Rattle.le_write.proofs.put_f32.Goals as goal
+
+pub returns : goal.returns
+returns c =
+    let e = c.put_u32.ensures in
+    let a = c.args in
+    (e.0, e.1 ∙ ap (put 4 a.d.now a.at) c.bits_of_f32.ensures)

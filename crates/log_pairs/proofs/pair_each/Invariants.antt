@@ -1,0 +1,27 @@
+-- `log_pairs::pair_each` meets its contract.
+use mathlib.Core.Path.{◌≡◌, refl, sym, ◌∙◌, subst}
+use Prim.Native.Nat.{ℕ, ◌+◌, ◌-◌, ◌/◌, ◌≤◌, ◌<◌}
+use lib.ListN.{length}
+use Rattle.log_entry.specs.Entries.{logs, first_of}
+use Rattle.log_theory.specs.Report.{nobody, Lists}
+use Rattle.log_theory.specs.PairsModel.{free_in, Below, pair_up, Past}
+use Rattle.log_theory.proofs.Window.{past_none, past_taken}
+use Rattle.log_theory.proofs.Turns.{turn, over, start, lists, paired_partners, paired_owners, paired_pairs, paired_taken}
+use borrow.Author.Rules.{rules}
+use native.Mathlib.Omega.{arith}
+use Rattle.log_pairs.proofs.pair_each.Reads as reads
+use Rattle.log_entry.proofs.sample_at.Reads as sample-at-reads
+use Rattle.log_pairs.proofs.advance.Reads as advance-reads
+use Rattle.log_pairs.proofs.earliest.Reads as earliest-reads
+use Rattle.log_pairs.proofs.settle.Reads as settle-reads
+use Rattle.log_pairs.proofs.pair_each.Given as goal
+
+abbrev pub invariant-loop-i : goal.invariant-loop-i
+invariant-loop-i l =
+    (l.i ≤ l.n) × (l.n ≡ length l.log / 23) × (length l.partners ≡ length l.initial.partners) × (length l.owners ≡ length l.initial.owners) × (l.pairs ≤ l.i) × (l.lo ≤ length l.owners)
+    × Past (first_of l.records) l.d (free_in l.owners) l.previous l.lo
+    × (pair_up (logs l.log l.records l.d) (l.n - l.i) l.i (record { l.partners = l.partners; l.owners = l.owners; l.pairs = l.pairs }) ≡ pair_up (logs l.log l.records l.d) l.n 0 (record { l.partners = l.initial.partners; l.owners = l.initial.owners; l.pairs = 0 }))
+    × (l.n < nobody)
+
+abbrev pub decreases-loop-i : goal.decreases-loop-i
+decreases-loop-i l = l.n - l.i

@@ -1,0 +1,24 @@
+-- `log_pairs::pair_fitting` meets its contract.
+use mathlib.Core.Path.{◌∙◌}
+use Prim.Native.Nat.{◌/◌}
+use lib.ListN.{length}
+use Rattle.log_entry.specs.Entries.{logs}
+use Rattle.log_theory.proofs.Turns.{from_filled}
+use Rattle.log_theory.proofs.Link.{reported}
+use borrow.Author.Rules.{rules}
+use native.Mathlib.Omega.{arith}
+use Rattle.log_pairs.proofs.pair_fitting.Reads as reads
+use Rattle.log_pairs.proofs.fill.Reads as fill-reads
+use Rattle.log_pairs.proofs.pair_each.Reads as pair-each-reads
+use Rattle.log_pairs.proofs.step_back.Reads as step-back-reads
+use Rattle.log_pairs.proofs.pair_fitting.Goals as goal
+
+pub returns : goal.returns
+returns c =
+    let a = c.args in
+    let pre = c.requires in
+    let f = c.fill in
+    let g = c.fill-2 in
+    c.pair_each.ensures
+    ∙ from_filled (logs a.log.now a.records.now a.d) (length a.log.now / 23) (length a.log.now / 23) (length a.records.now / 66) f.new.0 g.new.0 a.partners.now a.owners.now f.ensures g.ensures pre.0 pre.1
+    ∙ reported (logs a.log.now a.records.now a.d) (omega arith)

@@ -1,0 +1,6 @@
+-- `message_classify::classed` meets its contract.
+use borrow.Author.Rules.{rules}
+use Rattle.message_classify.proofs.classed.Goals as goal
+
+pub returns : goal.returns
+returns c = rw (c.first_of.ensures, c.type_class-typed.ensures, c.relay_class-relay.ensures)

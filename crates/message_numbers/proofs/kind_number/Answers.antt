@@ -1,0 +1,21 @@
+-- `message_numbers::kind_number` meets its contract.
+use mathlib.Core.Path.{sym, ap}
+use borrow.Author.Rules.{rules}
+use Rattle.message_interrogator.specs.Interrogators.{kind_number}
+use Rattle.message_numbers.proofs.kind_number.Goals as goal
+
+pub returns-in-Ii : goal.returns-in-Ii
+unfolding kind_number
+returns-in-Ii c = sym (ap kind_number c.in-Ii.is)
+
+pub returns-in-Si : goal.returns-in-Si
+unfolding kind_number
+returns-in-Si c = sym (ap kind_number c.in-Si.is)
+
+pub returns-in-Unassigned : goal.returns-in-Unassigned
+unfolding kind_number
+returns-in-Unassigned c = sym (ap kind_number c.in-Unassigned.is)
+
+pub returns-in-NoReading : goal.returns-in-NoReading
+unfolding kind_number
+returns-in-NoReading c = sym (ap kind_number c.in-NoReading.is)

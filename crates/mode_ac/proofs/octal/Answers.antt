@@ -1,0 +1,7 @@
+-- `octal` meets its contract.
+use mathlib.Core.Path.{refl}
+use borrow.Author.Rules.{rules}
+use Rattle.mode_ac.proofs.octal.Goals as goal
+
+pub returns : goal.returns
+returns c = refl

@@ -1,0 +1,13 @@
+-- `more1090_booking_part` meets its contract.
+use mathlib.Core.Path.{◌≡◌, sym, ap, ◌∙◌}
+use Rattle.run_booking.specs.Booking.{booking_of}
+use Rattle.run_booking.specs.Booked.{booked_read}
+use Rattle.more1090_booking.specs.Flat.{zero64, booking_flat}
+use borrow.Author.Rules.{rules}
+use Rattle.more1090_booking.proofs.more1090_booking_part.Goals as goal
+
+pub returns : goal.returns
+returns c =
+    let a = c.args in
+    let e : booked_read c.booking-b.result ≡ booking_of a.taps-s.now a.taps-ac.now a.time a.settings.now a.draws.now = c.booking-b.ensures in
+    c.booked_out.ensures ∙ ap booking_flat e

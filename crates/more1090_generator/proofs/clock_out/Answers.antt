@@ -1,0 +1,13 @@
+-- `clock_out` meets its contract.
+use mathlib.Core.Path.{sym, ap}
+use borrow.Author.Rules.{rules}
+use Rattle.more1090_generator.specs.States.{distribution_of, clock_flat}
+use Rattle.more1090_generator.proofs.clock_out.Goals as goal
+
+pub returns-in-Constant : goal.returns-in-Constant
+unfolding distribution_of clock_flat
+returns-in-Constant c = sym (ap clock_flat c.in-Constant.is)
+
+pub returns-in-Uniform : goal.returns-in-Uniform
+unfolding distribution_of clock_flat
+returns-in-Uniform c = sym (ap clock_flat c.in-Uniform.is)

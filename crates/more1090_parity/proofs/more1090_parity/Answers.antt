@@ -1,0 +1,6 @@
+-- `more1090_parity` meets its contract.
+use borrow.Author.Rules.{rules}
+use Rattle.more1090_parity.proofs.more1090_parity.Goals as goal
+
+pub returns : goal.returns
+returns c = c.parity.ensures

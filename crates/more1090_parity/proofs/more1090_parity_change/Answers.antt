@@ -1,0 +1,6 @@
+-- `more1090_parity_change` meets its contract.
+use borrow.Author.Rules.{rules}
+use Rattle.more1090_parity.proofs.more1090_parity_change.Goals as goal
+
+pub returns : goal.returns
+returns c = c.parity_change.ensures

@@ -1,0 +1,26 @@
+-- `page_line::put_blank` meets its contract.
+use mathlib.Core.Path.{sym, ◌∙◌}
+use mathlib.Core.List.{[]}
+use Prim.Native.Nat.{◌+◌, ◌≤◌}
+use lib.ListN.{length}
+use borrow.Author.Tests.{leb-true}
+use Rattle.page_line.proofs.Fields.{blank_kept, blank_done}
+use borrow.Author.Rules.{rules}
+use native.Mathlib.Omega.{arith}
+use Rattle.page_line.proofs.put_blank.Goals as goal
+
+pub put_blanks-requires : goal.put_blanks-requires
+put_blanks-requires c =
+    let a = c.args in
+    let h : a.at + 73 ≤ length a.out.now = leb-true (a.at + 73) (length a.out.now) (sym c.holds.ensures ∙ c.if-holds.true) in
+    omega arith
+
+pub returns-then-holds : goal.returns-then-holds
+returns-then-holds c =
+    let a = c.args in
+    blank_done [] a.out.now a.at c.holds.ensures c.if-holds.true c.put_blanks.ensures
+
+pub returns : goal.returns
+returns c =
+    let a = c.args in
+    blank_kept [] a.out.now a.at c.holds.ensures c.if-holds.false

@@ -1,0 +1,6 @@
+-- `pulse_length::reply_limit` meets its contract.
+use borrow.Author.Rules.{rules}
+use Rattle.pulse_length.proofs.reply_limit.Goals as goal
+
+pub returns : goal.returns
+returns c = c.required_samples_for_apply.ensures

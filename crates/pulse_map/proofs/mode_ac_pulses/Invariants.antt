@@ -1,0 +1,23 @@
+-- `pulse_map::mode_ac_pulses` meets its contract: at every step, marking what is left gives what marking all gives.
+use mathlib.Core.Path.{◌≡◌, refl, sym, ap, ◌∙◌}
+use mathlib.Core.Bool.{Bool, true}
+use mathlib.Core.List.{List}
+use mathlib.Core.Logic.{⊎_elim}
+use Prim.Native.Nat.{ℕ, ◌+◌, ◌-◌, ◌≤◌}
+use lib.ListN.{length, set, length-set}
+use Rattle.mode_ac.proofs.RisingPositions.{position_below}
+use Rattle.pulse_map.specs.ModeAC.{data_positions}
+use Rattle.pulse_map.proofs.Marked.{mark}
+use Rattle.pulse_map.proofs.ModeACLoop.{step_set, step_clear, end, framed, whole_spi, whole}
+use borrow.Author.Rules.{rules}
+use native.Mathlib.Omega.{arith}
+use Rattle.pulse_map.proofs.mode_ac_pulses.Given as goal
+
+abbrev pub invariant-loop-n : goal.invariant-loop-n
+invariant-loop-n l =
+    (l.n ≤ 12)
+    × (length l.on ≡ 240)
+    × (mark (data_positions «data» (12 - l.n) l.n) l.on ≡ mark (data_positions «data» 12 0) framed)
+
+abbrev pub decreases-loop-n : goal.decreases-loop-n
+decreases-loop-n l = 12 - l.n

@@ -1,0 +1,39 @@
+-- `pulse_map::mode_s_pulses` meets its contract: at every step, marking what is left gives what marking all gives.
+use mathlib.Core.Path.{◌≡◌, refl, sym, ap, ◌∙◌}
+use Prim.Native.Nat.{ℕ, ◌+◌, ◌-◌, ◌*◌, ◌≤◌}
+use native.Mathlib.Nat.{sub-zero}
+use mathlib.Core.Bool.{true}
+use lib.ListN.{length, set, length-set}
+use Rattle.pulse_map.specs.ModeS.{bit_of, pair_position, bit_positions, mode_s_length}
+use Rattle.pulse_map.proofs.Marked.{mark}
+use Rattle.pulse_map.proofs.ModeSLoop.{pair_position_lem, turn, end, preambled, whole}
+use borrow.Author.Rules.{rules}
+use Rattle.pulse_map.proofs.mode_s_pulses.Goals as goal
+
+pub loop-n-init : goal.loop-n-init
+loop-n-init c =
+    let bits = c.num_bits-bits.result in
+    (search rules, refl, ap (λ (k : ℕ). mark (bit_positions c.args.t1 k 0) preambled) {x = bits - 0} {y = bits} (sub-zero bits))
+
+pub loop-n-preserved : goal.loop-n-preserved
+unfolding bit_of
+loop-n-preserved c =
+    let l = c.loop-n in
+    let bytes = c.args.t1 in
+    let bits = c.num_bits-bits.result in (
+      search rules,
+      length-set l.on _ true ∙ l.invariant.1,
+      ap (λ (p : ℕ). mark (bit_positions bytes (bits - (l.n + 1)) (l.n + 1)) (set l.on p true)) (sym (pair_position_lem l.n c.bit-second.result (search rules)) ∙ ap (pair_position l.n) c.bit-second.ensures.0)
+          ∙ turn bytes bits l.n l.on c.loop-n-test.true
+          ∙ l.invariant.2,
+    )
+
+pub returns : goal.returns
+unfolding mode_s_length
+returns c =
+    let l = c.loop-n in
+    let a = c.args in
+    let bits = c.num_bits-bits.result in
+    whole a.t1 a.long l.on _
+    (sym (end a.t1 bits l.n l.on c.loop-n-test.false) ∙ l.invariant.2 ∙ ap (λ (n : ℕ). mark (bit_positions a.t1 n 0) preambled) c.num_bits-bits.ensures.0)
+    (ap (λ (n : ℕ). 16 + 2 * n) c.num_bits-bits.ensures.0)

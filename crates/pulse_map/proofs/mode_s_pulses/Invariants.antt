@@ -1,0 +1,18 @@
+-- `pulse_map::mode_s_pulses` meets its contract: at every step, marking what is left gives what marking all gives.
+use mathlib.Core.Path.{◌≡◌, refl, sym, ap, ◌∙◌}
+use Prim.Native.Nat.{ℕ, ◌+◌, ◌-◌, ◌*◌, ◌≤◌}
+use native.Mathlib.Nat.{sub-zero}
+use mathlib.Core.Bool.{true}
+use lib.ListN.{length, set, length-set}
+use Rattle.pulse_map.specs.ModeS.{bit_of, pair_position, bit_positions, mode_s_length}
+use Rattle.pulse_map.proofs.Marked.{mark}
+use Rattle.pulse_map.proofs.ModeSLoop.{pair_position_lem, turn, end, preambled, whole}
+use borrow.Author.Rules.{rules}
+use Rattle.pulse_map.proofs.mode_s_pulses.Given as goal
+
+abbrev pub invariant-loop-n : goal.invariant-loop-n
+invariant-loop-n l =
+    (l.n ≤ l.bits) × (length l.on ≡ 240) × (mark (bit_positions l.bytes (l.bits - l.n) l.n) l.on ≡ mark (bit_positions l.bytes l.bits 0) preambled)
+
+abbrev pub decreases-loop-n : goal.decreases-loop-n
+decreases-loop-n l = l.bits - l.n

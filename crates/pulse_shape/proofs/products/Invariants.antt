@@ -1,0 +1,13 @@
+-- `products` meets its contract: what is left of the sum, from k on, is the whole.
+use Rattle.std.proofs.Common.{◌≡◌, ◌-◌, ◌≤◌, sym, ◌∙◌, rules}
+use lib.Ieee.{binary32, of_bits}
+use Rattle.pulse_shape.specs.Convolve.{products_from}
+use Rattle.pulse_shape.proofs.LoopSteps.{products_step, products_end}
+use Rattle.pulse_shape.proofs.products.Given as goal
+
+abbrev pub invariant-loop-k : goal.invariant-loop-k
+invariant-loop-k l =
+    (l.start ≤ l.k) × (products_from l.a l.b l.j (l.end - l.k) l.k l.sum ≡ products_from l.a l.b l.j (l.end - l.start) l.start (of_bits binary32 0))
+
+abbrev pub decreases-loop-k : goal.decreases-loop-k
+decreases-loop-k l = l.end - l.k

@@ -1,0 +1,16 @@
+-- `delay_row` meets its contract: the first i delays stand in the row.
+use Prim.Native.Nat.{◌-◌, ◌≤◌}
+use mathlib.Core.List.{◌++◌}
+use mathlib.Core.Path.{◌≡◌}
+use lib.ListN.{length, take, drop, length-set}
+use Rattle.rack.specs.Opening.{delay_row}
+use Rattle.rack.proofs.Rows.{copied_next, copied_end}
+use borrow.Author.Rules.{rules}
+use native.Mathlib.Omega.{arith}
+use Rattle.rack.proofs.delay_row.Given as goal
+
+abbrev pub invariant-loop-i : goal.invariant-loop-i
+invariant-loop-i l = (l.i ≤ length l.delays) × (length l.row ≡ 16) × (l.row ≡ take l.i l.delays ++ drop l.i l.initial.row)
+
+abbrev pub decreases-loop-i : goal.decreases-loop-i
+decreases-loop-i l = length l.delays - l.i

@@ -1,0 +1,16 @@
+-- `add_by` meets its contract.
+use borrow.Author.Rules.{rules}
+use Rattle.constants.specs.Setting.{per_pulse}
+use Rattle.reply_add.proofs.Adding.{pulses_most, by_samples}
+use Rattle.reply_add.proofs.add_by.Goals as goal
+
+pub wave_of-w-requires : goal.wave_of-w-requires
+wave_of-w-requires c = pulses_most c.args.c.reply _ c.message_to_pulses-p.ensures
+
+pub add_wave-requires : goal.add_wave-requires
+add_wave-requires c = c.wave_of-w.ensures.1
+
+pub returns : goal.returns
+returns c =
+    let a = c.args in
+    by_samples (per_pulse a.setting) a.delays a.amplitude a.c _ _ _ a.prototype.now a.memory.now _ a.slot _ c.message_to_pulses-p.ensures c.wave_of-w.ensures.0 c.pad_pulses-padded.ensures c.add_wave.ensures

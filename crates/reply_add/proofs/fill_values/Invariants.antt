@@ -1,0 +1,22 @@
+-- `fill_values` meets its contract. The invariant: what is written and what is left to write make all values.
+use borrow.Author.Rules.{rules}
+use native.Mathlib.Omega.{arith}
+use Prim.Native.Nat.{ℕ, ◌+◌, ◌≤◌, ◌-◌, ◌*◌}
+use mathlib.Core.Path.{◌≡◌, ap, ◌∙◌}
+use mathlib.Core.List.{◌++◌}
+use lib.ListN.{length, take, length-set}
+use Rattle.constants.specs.Setting.{per_pulse}
+use Rattle.filterbank.specs.Apply.{clock_values}
+use Rattle.reply_add.specs.AddModel.{padded_value, padded_values}
+use Rattle.reply_add.proofs.Filling.{fuel_room, fuel_is, fill_first, fill_next, fill_stop, fill_full}
+use Rattle.reply_add.proofs.fill_values.Given as goal
+
+abbrev pub invariant-loop-n : goal.invariant-loop-n
+invariant-loop-n l =
+    (l.n ≤ l.fuel)
+    × (l.fuel ≤ 2214)
+    × (length l.values ≡ 2214)
+    × (take l.n l.values ++ clock_values (l.fuel - l.n) l.limit l.step (padded_value (per_pulse l.setting) l.prototype l.padded) l.clock ≡ padded_values (per_pulse l.setting) l.prototype l.padded l.limit l.step l.initial.clock)
+
+abbrev pub decreases-loop-n : goal.decreases-loop-n
+decreases-loop-n l = l.fuel - l.n

@@ -1,0 +1,15 @@
+-- `reply_record::put_bytes` meets its contract: after k steps the first k bytes are written.
+use borrow.Author.Rules.{rules}
+use Prim.Native.Nat.{◌-◌, ◌≤◌}
+use mathlib.Core.Path.{◌≡◌, ap, ◌∙◌}
+use lib.ListN.{length, take, length-set}
+use lib.Seq.{take_all}
+use Rattle.le_read.specs.LeBytes.{overwritten}
+use Rattle.reply_record.proofs.Overwritten.{none_overwritten, next_byte}
+use Rattle.reply_record.proofs.put_bytes.Given as goal
+
+abbrev pub invariant-loop-k : goal.invariant-loop-k
+invariant-loop-k l = (l.k ≤ 14) × (length l.d ≡ length l.initial.d) × (l.d ≡ overwritten l.initial.d l.at (take l.k l.b))
+
+abbrev pub decreases-loop-k : goal.decreases-loop-k
+decreases-loop-k l = 14 - l.k

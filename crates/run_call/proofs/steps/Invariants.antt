@@ -1,0 +1,15 @@
+-- `steps` meets its contract: at each step the rest of the call is the whole call (`Going`), and what the step gave says which of three ways it goes on.
+use mathlib.Core.Path.{sym, ◌∙◌}
+use lib.ListN.{length}
+use Rattle.run_call.proofs.Going.{Going, starts, steps_left, Gave, tail_is, samples_written_less, samples_written_again, draw_taken_bytes, draw_taken_less, draw_taken_again, stop_reached_samples, stopped_left}
+use borrow.Author.Rules.{rules}
+use native.Mathlib.Omega.{arith}
+use Rattle.run_call.proofs.steps.Given as goal
+
+abbrev pub invariant-loop-rest : goal.invariant-loop-rest
+invariant-loop-rest l =
+    Going l.s l.mode_s l.mode_ac l.initial.memory l.draws l.noise l.initial.output l.initial.records l.memory l.output l.records l.t l.rest
+
+abbrev pub decreases-loop-rest : goal.decreases-loop-rest
+decreases-loop-rest l =
+    steps_left (length l.rest) (length l.output) l.t

@@ -1,0 +1,13 @@
+-- `write_all` meets its contract: each step writes one stretch more (`Writing`).
+use mathlib.Core.Path.{refl, sym, ◌∙◌}
+use Prim.Native.Nat.{◌-◌}
+use Rattle.run_due_samples.proofs.Stretches.{Writing, starts, goes_on, all_written}
+use borrow.Author.Rules.{rules}
+use native.Mathlib.Omega.{arith}
+use Rattle.run_due_samples.proofs.write_all.Given as goal
+
+abbrev pub invariant-loop-done : goal.invariant-loop-done
+invariant-loop-done l = Writing l.initial.memory l.noise l.initial.output l.written l.from l.at l.values l.memory l.output l.p l.done
+
+abbrev pub decreases-loop-done : goal.decreases-loop-done
+decreases-loop-done l = l.values - l.done

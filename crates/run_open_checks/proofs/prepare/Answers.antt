@@ -1,0 +1,12 @@
+-- `prepare` meets its contract.
+use Rattle.run_open_checks.proofs.Decided.{prepared}
+use borrow.Author.Rules.{rules}
+use Rattle.run_open_checks.proofs.prepare.Goals as goal
+
+pub check_open-opened-requires : goal.check_open-opened-requires
+check_open-opened-requires c = (c.mode_s_prototype-proto_s.ensures, c.mode_ac_prototype-proto_ac.ensures)
+
+pub returns : goal.returns
+returns c =
+    let a = c.args in
+    prepared a.taps-s.now a.taps-ac.now a.settings.now a.mode_s_lem a.mode_ac_lem a.memory c.check_open-opened.ensures c.mode_s_prototype-proto_s.ensures c.mode_ac_prototype-proto_ac.ensures

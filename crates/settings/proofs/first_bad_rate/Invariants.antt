@@ -1,0 +1,16 @@
+-- `settings::first_bad_rate` meets its contract: what the search finds from here on is what it finds from the start.
+use borrow.Author.Rules.{rules}
+use Prim.Native.Nat.{◌-◌, ◌≤◌}
+use mathlib.Core.Path.{◌≡◌, sym, ap, ◌∙◌}
+use lib.ListN.{drop}
+use Rattle.distributions.specs.Accepted.{finite_not_negative}
+use Rattle.settings.specs.Settings.{rates_of, rate_of}
+use Rattle.settings.specs.Accepted.{first_bad_rate}
+use Rattle.settings.proofs.Rates.{goes_on, stops, ends, refuted, held}
+use Rattle.settings.proofs.first_bad_rate.Given as goal
+
+abbrev pub invariant-loop-k : goal.invariant-loop-k
+invariant-loop-k l = (l.k ≤ 7) × (first_bad_rate l.k (drop l.k (rates_of l.rates)) ≡ first_bad_rate 0 (rates_of l.rates))
+
+abbrev pub decreases-loop-k : goal.decreases-loop-k
+decreases-loop-k l = 7 - l.k

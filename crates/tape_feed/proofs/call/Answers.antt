@@ -1,0 +1,46 @@
+-- `tape_feed::call` meets its contract.
+use Rattle.std.proofs.Common.{le_refl, lit<}
+use Rattle.tape_feed.proofs.Parts.{within, part_kept, called}
+use Rattle.tape_feed.proofs.call.Goals as goal
+
+pub place-a-requires : goal.place-a-requires
+place-a-requires c = lit< tt
+
+pub place-b-requires : goal.place-b-requires
+place-b-requires c = lit< tt
+
+pub slice_bounds-run-count : goal.slice_bounds-run-count
+slice_bounds-run-count c = within _ _ c.place-a.ensures
+
+pub slice_bounds-run-start : goal.slice_bounds-run-start
+slice_bounds-run-start c = within _ _ c.place-a.ensures
+
+pub slice_bounds-run-end : goal.slice_bounds-run-end
+slice_bounds-run-end c = le_refl _
+
+pub slice_bounds-run-count-2 : goal.slice_bounds-run-count-2
+slice_bounds-run-count-2 c = within _ _ c.place-b.ensures
+
+pub slice_bounds-run-start-2 : goal.slice_bounds-run-start-2
+slice_bounds-run-start-2 c = within _ _ c.place-b.ensures
+
+pub slice_bounds-run-end-2 : goal.slice_bounds-run-end-2
+slice_bounds-run-end-2 c = le_refl _
+
+pub run-r-requires : goal.run-r-requires
+run-r-requires c = tt
+
+pub after-requires : goal.after-requires
+after-requires c = tt
+
+pub shape_of-memory : goal.shape_of-memory
+shape_of-memory c = c.run-r.auto.1.1.1.0
+
+pub shape_of-output : goal.shape_of-output
+shape_of-output c = c.run-r.auto.1.1.1.1.1.1.0
+
+pub shape_of-records : goal.shape_of-records
+shape_of-records c = part_kept _ _ c.run-r.new.mode_s.1.1.1.1.1.1.0 (within _ _ c.place-b.ensures) c.run-r.auto.1.1.1.1.1.1.1.0
+
+pub returns : goal.returns
+returns c = let a = c.args in called a.f a.mode_s_lem.now a.mode_ac_lem.now a.memory.now a.draws.now a.noise.now a.output.now a.records.now c.place-a.ensures c.place-b.ensures c.run-r.ensures c.after.ensures

@@ -1,0 +1,16 @@
+-- `tape_floats::floats` meets its contract: after k steps the first k values are there.
+use borrow.Author.Rules.{rules}
+use Prim.Native.Nat.{ℕ, ◌-◌, ◌≤◌, ◌/◌, min}
+use mathlib.Core.Path.{◌≡◌, refl, sym, ap, ◌∙◌}
+use mathlib.Core.List.{List, ◌++◌}
+use lib.ListN.{length, drop, length-set}
+use lib.Ieee.{Float}
+use Rattle.tape_floats.specs.Floats.{floats_of}
+use Rattle.tape_floats.proofs.Rows.{read_next}
+use Rattle.tape_floats.proofs.floats.Given as goal
+
+abbrev pub invariant-loop-k : goal.invariant-loop-k
+invariant-loop-k l = (l.k ≤ l.n) × (length l.out ≡ length l.initial.out) × (l.n ≡ min (length l.bytes / 4) (length l.initial.out)) × (l.out ≡ floats_of l.k l.bytes ++ drop l.k l.initial.out)
+
+abbrev pub decreases-loop-k : goal.decreases-loop-k
+decreases-loop-k l = l.n - l.k

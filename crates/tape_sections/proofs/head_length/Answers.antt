@@ -1,0 +1,19 @@
+-- `tape_sections::head_length` meets its contract.
+use borrow.Author.Rules.{rules}
+use native.Mathlib.Omega.{arith}
+use Rattle.tape_sections.proofs.Counts.{counted, length_counted, length_wrong}
+use Rattle.tape_sections.proofs.head_length.Goals as goal
+
+pub overflow_mul-result : goal.overflow_mul-result
+overflow_mul-result c = record { fits = omega (arith, (counted _ _ _ _ _ _ c.section.ensures c.in-Of.is).1) }
+
+pub overflow_add-result : goal.overflow_add-result
+overflow_add-result c = record { fits = omega (arith, (counted _ _ _ _ _ _ c.section.ensures c.in-Of.is).1) }
+
+pub returns-in-Of : goal.returns-in-Of
+returns-in-Of c =
+    let t = counted _ _ _ _ _ _ c.section.ensures c.in-Of.is in
+    (length_counted _ c.section.ensures c.in-Of.is (search rules), (search rules, omega (arith, t.1)))
+
+pub returns-in-Wrong : goal.returns-in-Wrong
+returns-in-Wrong c = (length_wrong _ c.section.ensures c.in-Wrong.is (search rules), (search rules, search rules))

@@ -1,0 +1,20 @@
+-- `tape_stream::feed_section` is safe, ends, and feeds its run noise that is cut as tape_theory/specs/PlainTape asks.
+use Prim.Native.Nat.{ℕ, ◌+◌, ◌-◌, ◌*◌, ◌≤◌, ◌<◌, min, zero-le}
+use mathlib.Core.Bool.{false}
+use mathlib.Core.Logic.{◌⊎◌, inl, inr}
+use mathlib.Core.Path.{◌≡◌, refl, sym, ap, ◌∙◌}
+use native.Mathlib.Omega.{arith}
+use lib.ListN.{length}
+use lib.Seq.{length-take-le}
+use Rattle.tape_theory.proofs.Section.{Going, going_first, going_end, no_more, fewer_left, turned, next_step}
+use Rattle.tape_stream.proofs.feed_section.Given as goal
+
+abbrev pub invariant-loop-turns : goal.invariant-loop-turns
+invariant-loop-turns l =
+    (l.want ≤ l.left) × (l.want ≤ 16384) × (length l.memory ≡ length l.initial.memory) × (length l.records ≡ length l.initial.records) × ((l.want ≡ 0) ⊎ (l.want ≡ min l.left 16384))
+    × (0 < l.turns → l.short ≡ false) × (l.turns ≡ 0 → l.left ≡ 0)
+    × Going l.mode_s l.mode_ac l.draws (record { feed = l.initial.f; l.memory = l.initial.memory; l.records = l.initial.records }) l.count l.turns l.left l.short (record { feed = l.f; l.memory = l.memory; l.records = l.records })
+
+abbrev pub decreases-loop-turns : goal.decreases-loop-turns
+decreases-loop-turns l =
+    2 * l.left + l.turns + (1 - l.want)

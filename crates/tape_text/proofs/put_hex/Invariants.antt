@@ -1,0 +1,16 @@
+-- `tape_text::put_hex` meets its contract: after k steps the first k bytes are there in hexadecimal.
+use borrow.Author.Rules.{rules}
+use Prim.Native.Nat.{ℕ, ◌-◌, ◌≤◌}
+use mathlib.Core.Path.{◌≡◌, sym, ap, ◌∙◌}
+use lib.ListN.{length, take}
+use Rattle.le_read.specs.LeBytes.{overwritten}
+use Rattle.reply_record.proofs.Overwritten.{none_overwritten}
+use Rattle.tape_text.specs.Text.{hex}
+use Rattle.tape_text.proofs.Puts.{hex_of_first}
+use Rattle.tape_text.proofs.put_hex.Given as goal
+
+abbrev pub invariant-loop-k : goal.invariant-loop-k
+invariant-loop-k l = (l.k ≤ l.n) × (length l.out ≡ length l.initial.out) × (l.out ≡ overwritten l.initial.out l.at (hex (take l.k l.bytes)))
+
+abbrev pub decreases-loop-k : goal.decreases-loop-k
+decreases-loop-k l = l.n - l.k

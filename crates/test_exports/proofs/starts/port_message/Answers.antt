@@ -1,0 +1,16 @@
+-- `test_exports::port_message` meets its contract.
+use mathlib.Core.Path.{◌∙◌}
+use mir.Facts.{to_z-of_z}
+use Rattle.test_exports.specs.Messages.{delays_at}
+use Rattle.test_exports.proofs.Crossed.{start_crosses, onset_crosses}
+use borrow.Author.Rules.{rules}
+use Rattle.test_exports.proofs.starts.port_message.Goals as goal
+
+pub returns : goal.returns
+unfolding delays_at
+returns c =
+    let a = c.args in
+    let delays = delays_at a.delay-s a.delay-ac in (
+      start_crosses delays a.time a.offset a.phase a.error _ _ _ c.kind_of.ensures c.message_at-c.ensures _ (to_z-of_z (record { sfits = c.first_sample_index.type-inv }) ∙ c.first_sample_index.ensures),
+      onset_crosses delays a.time a.offset a.phase a.error _ _ _ c.kind_of.ensures c.message_at-c.ensures _ c.onset-o.ensures,
+    )

@@ -1,0 +1,11 @@
+-- The digits are read one after the other.
+use Rattle.std.proofs.Common.{◌-◌, ◌≤◌, length, arith, rules}
+use Rattle.test_floats.proofs.hexadecimal.Reads as reads
+use Rattle.test_floats.proofs.digit.Reads as digit-reads
+use Rattle.test_floats.proofs.hexadecimal.Given as goal
+
+abbrev pub invariant-loop-k : goal.invariant-loop-k
+invariant-loop-k l = l.k ≤ length l.digits
+
+abbrev pub decreases-loop-k : goal.decreases-loop-k
+decreases-loop-k l = length l.digits - l.k
