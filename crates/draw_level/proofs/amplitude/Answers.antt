@@ -5,9 +5,6 @@ use borrow.Author.Rules.{rules}
 use native.Mathlib.Omega.{arith}
 use Rattle.draw_level.proofs.amplitude.Goals as goal
 
-small : (c : tie.After-nearest-even) → c.nearest-even.result ≤ 16777216
-small c = q_small c.before.before.before.before.args.tenths c.before.before.before.entry.result c.before.before.power-of-five.result c.before.halvings.result c.nearest-even.result (omega arith) c.before.before.before.entry.ensures c.before.before.power-of-five.ensures c.before.halvings.ensures c.nearest-even.ensures
-
 pub overflow_mul-scaled : goal.overflow_mul-scaled
 overflow_mul-scaled c = omega (arith, product_of c.args.tenths c.entry.result c.power_of_five.result (omega arith) c.entry.ensures c.power_of_five.ensures)
 
@@ -22,13 +19,13 @@ nearest_even-significand-requires c =
     (divisor c.halvings-e.result c.halvings-e.ensures.0, omega (arith, p.most))
 
 pub overflow_add-result-3 : goal.overflow_add-result-3
-overflow_add-result-3 c = omega (arith, small c, c.halvings-e.ensures.0)
+overflow_add-result-3 c = omega (arith, q_small c.args.tenths c.entry.result c.power_of_five.result c.halvings-e.result c.nearest_even-significand.result (omega arith) c.entry.ensures c.power_of_five.ensures c.halvings-e.ensures c.nearest_even-significand.ensures, c.halvings-e.ensures.0)
 
 pub overflow_cast-result : goal.overflow_cast-result
-overflow_cast-result c = omega (arith, small c, c.halvings-e.ensures.0)
+overflow_cast-result c = omega (arith, q_small c.args.tenths c.entry.result c.power_of_five.result c.halvings-e.result c.nearest_even-significand.result (omega arith) c.entry.ensures c.power_of_five.ensures c.halvings-e.ensures c.nearest_even-significand.ensures, c.halvings-e.ensures.0)
 
 pub float_from_bits-result : goal.float_from_bits-result
-float_from_bits-result c = no_nan ((c.halvings-e.result + c.args.tenths / 200 + 105) * 8388608 + c.nearest_even-significand.result) (omega (arith, small c, c.halvings-e.ensures.0))
+float_from_bits-result c = no_nan ((c.halvings-e.result + c.args.tenths / 200 + 105) * 8388608 + c.nearest_even-significand.result) (omega (arith, q_small c.args.tenths c.entry.result c.power_of_five.result c.halvings-e.result c.nearest_even-significand.result (omega arith) c.entry.ensures c.power_of_five.ensures c.halvings-e.ensures c.nearest_even-significand.ensures, c.halvings-e.ensures.0))
 
 pub returns : goal.returns
 returns c = made c.args.tenths c.entry.result c.power_of_five.result c.halvings-e.result c.nearest_even-significand.result (omega arith) c.entry.ensures c.power_of_five.ensures c.halvings-e.ensures c.nearest_even-significand.ensures

@@ -3,31 +3,29 @@ use Rattle.std.proofs.Common.{◌^◌, ◌<◌, Bool, not, T, sym, ◌∙◌, su
 use lib.Ieee.{in_float}
 use mir.Facts.{to_z_pos}
 use Rattle.float_to_int.proofs.Ceiling.{pos_above_one, small_below_64, whole_part, small}
-use Rattle.float_to_int.proofs.ceil_small.Reads as reads
-use Rattle.std.proofs.num.truncating_f64_to_u64.Reads as truncating-f64-to-u64-reads
 use Rattle.float_to_int.proofs.ceil_small.Goals as goal
 
-few : (c : lts.After-truncating-f64-to-u64 (truncating-f64-to-u64-reads.Asked, truncating-f64-to-u64-reads.Learnt) reads.Pre reads.Post) → c.truncating-f64-to-u64.result < 2 ^ 53
-few c = lt_of_le_of_lt (le_of_eq c.truncating-f64-to-u64.ensures) (whole_part c.before.args.x c.before.requires.0 c.before.requires.1)
+few : (x : Float) (n : ℕ) → n ≡ to_unsigned 64 x → T (le (of_bits binary64 0) x) → T (lt x (of_bits binary64 0)) → n < 2 ^ 53
+few x n e p q = lt_of_le_of_lt (le_of_eq e) (whole_part x p q)
 
 pub truncating_f64_to_u64-t-requires : goal.truncating_f64_to_u64-t-requires
 truncating_f64_to_u64-t-requires c = (pos_above_one c.args.x c.requires.0, small_below_64 c.args.x c.requires.1 c.requires.0)
 
 pub int_to_float-t : goal.int_to_float-t
 unfolding in_float
-int_to_float-t c = le→leb c.truncating_f64_to_u64-t.result (2 ^ 53) (le_of_lt (few c))
+int_to_float-t c = le→leb c.truncating_f64_to_u64-t.result (2 ^ 53) (le_of_lt (few c.args.x _ c.truncating_f64_to_u64-t.ensures c.requires.0 c.requires.1))
 
 pub overflow_add-result : goal.overflow_add-result
-overflow_add-result c = omega (arith, few c)
+overflow_add-result c = omega (arith, few c.args.x _ c.truncating_f64_to_u64-t.ensures c.requires.0 c.requires.1)
 
 pub overflow_cast-result : goal.overflow_cast-result
-overflow_cast-result c = omega (arith, few c)
+overflow_cast-result c = omega (arith, few c.args.x _ c.truncating_f64_to_u64-t.ensures c.requires.0 c.requires.1)
 
 pub overflow_cast-result-else-t-x : goal.overflow_cast-result-else-t-x
-overflow_cast-result-else-t-x c = omega (arith, few c)
+overflow_cast-result-else-t-x c = omega (arith, few c.args.x _ c.truncating_f64_to_u64-t.ensures c.requires.0 c.requires.1)
 
 pub returns-then-t-x : goal.returns-then-t-x
-returns-then-t-x c = to_z_pos w64 (omega (arith, few c)) ∙ (small c.args.x c.truncating_f64_to_u64-t.result c.truncating_f64_to_u64-t.ensures c.requires.0 c.requires.1).0 (subst T (sym c.if-t-x.true) tt)
+returns-then-t-x c = to_z_pos w64 (omega (arith, few c.args.x _ c.truncating_f64_to_u64-t.ensures c.requires.0 c.requires.1)) ∙ (small c.args.x c.truncating_f64_to_u64-t.result c.truncating_f64_to_u64-t.ensures c.requires.0 c.requires.1).0 (subst T (sym c.if-t-x.true) tt)
 
 pub returns-else-t-x : goal.returns-else-t-x
-returns-else-t-x c = to_z_pos w64 (omega (arith, few c)) ∙ (small c.args.x c.truncating_f64_to_u64-t.result c.truncating_f64_to_u64-t.ensures c.requires.0 c.requires.1).1 (subst (λ (b : Bool). T (not b)) (sym c.if-t-x.false) tt)
+returns-else-t-x c = to_z_pos w64 (omega (arith, few c.args.x _ c.truncating_f64_to_u64-t.ensures c.requires.0 c.requires.1)) ∙ (small c.args.x c.truncating_f64_to_u64-t.result c.truncating_f64_to_u64-t.ensures c.requires.0 c.requires.1).1 (subst (λ (b : Bool). T (not b)) (sym c.if-t-x.false) tt)

@@ -3,9 +3,6 @@ use Rattle.std.proofs.Common.{◌≡◌, Bool, true, false, not, T, ℤ, sym, ap
 use lib.Ieee.{Float, binary64, fits, of_bits, neg, to_signed}
 use lib.Ieee.Casts.{to_signed_in}
 use Rattle.float_to_int.proofs.Ceiling.{pos_above_min, nonpos_below_max, large, huge, nonpos, low_end, no_number_lem}
-use Rattle.float_to_int.proofs.ceil_to_i64.Reads as reads
-use Rattle.float_to_int.proofs.ceil_small.Reads as ceil-small-reads
-use Rattle.std.proofs.num.truncating_f64_to_i64.Reads as truncating-f64-to-i64-reads
 use Rattle.float_to_int.proofs.ceil_to_i64.Goals as goal
 
 yes : {b : Bool} → b ≡ true → T b
@@ -14,8 +11,8 @@ yes e = subst T (sym e) tt
 no_t : {b : Bool} → b ≡ false → T (not b)
 no_t e = subst (λ (b : Bool). T (not b)) (sym e) tt
 
-held : (c : tie.Start) → T (fits binary64 c.args.x)
-held c = subst T (sym c.well-formed.0.1) tt
+held : (x : Float) → fits binary64 x ≡ true → T (fits binary64 x)
+held x e = subst T (sym e) tt
 
 -- the bits of an `i64` that came out of a float are read back as it
 
@@ -39,7 +36,7 @@ unfolding of_bits
 returns-then-x-3 c =
     let x = c.args.x in
     back c.truncating_f64_to_i64.result x c.truncating_f64_to_i64.ensures
-    ∙ large x (held c) (yes c.if-x.true) (no_t c.if-x-2.false) (yes c.if-x-3.true)
+    ∙ large x (held c.args.x c.well_formed.0.1) (yes c.if-x.true) (no_t c.if-x-2.false) (yes c.if-x-3.true)
 
 pub returns-else-x-3 : goal.returns-else-x-3
 unfolding of_bits

@@ -6,16 +6,11 @@ use native.Mathlib.Omega.{arith}
 use Rattle.mode_s.proofs.ByTable.{parities, place_lt, looked_up, with_byte_lt}
 use Rattle.mode_s.proofs.with_byte.Goals as goal
 
-place : (c : tie.After-index) → c.index.result < 256
-place c =
-    let a = c.before.before.args in
-    place_lt a.c a.b c.index.ensures c.before.wide.ensures.0 c.before.before.requires c.before.wide.ensures.1
-
 pub offset_bounds-at : goal.offset_bounds-at
-offset_bounds-at c = omega (arith, place c)
+offset_bounds-at c = omega (arith, place_lt c.args.c c.args.b c.index-at.ensures c.wide.ensures.0 c.requires c.wide.ensures.1)
 
 pub bounds-at : goal.bounds-at
-bounds-at c = place c
+bounds-at c = place_lt c.args.c c.args.b c.index-at.ensures c.wide.ensures.0 c.requires c.wide.ensures.1
 
 pub returns : goal.returns
 unfolding parities

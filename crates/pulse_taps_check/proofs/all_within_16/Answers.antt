@@ -12,13 +12,13 @@ pub returns-then-not-within_16 : goal.returns-then-not-within_16
 returns-then-not-within_16 c =
     let l = c.loop-j in
     let v = c.args.values.now in
-    sym (within_stop v l.j c.loop-j-test.true (sym c.within_16.ensures ∙ not-true _ c.if-not-within_16.true)) ∙ l.invariant.1
+    sym (within_stop v l.j c.loop-j-test.true (sym c.within_16.ensures ∙ c.if-not-within_16.true)) ∙ l.invariant.1
 
 pub loop-j-preserved : goal.loop-j-preserved
 loop-j-preserved c =
     let l = c.loop-j in
     let v = c.args.values.now in
-    (search rules, sym (within_on v l.j c.loop-j-test.true (sym c.within_16.ensures ∙ not-false _ c.if-not-within_16.false)) ∙ l.invariant.1)
+    (search rules, sym (within_on v l.j c.loop-j-test.true (sym c.within_16.ensures ∙ c.if-not-within_16.false)) ∙ l.invariant.1)
 
 pub returns : goal.returns
 returns c =

@@ -19,13 +19,13 @@ pub returns-then-not-gain_fits : goal.returns-then-not-gain_fits
 returns-then-not-gain_fits c =
     let a = c.args in
     let l = c.loop-i in
-    gain_out a.delays.now a.gains.now l.i (search rules) (search rules) c.if-delays-i-gt-LONGEST_DELAY.false c.gain_fits.result c.gain_fits.ensures (not-true _ c.if-not-gain_fits.true) l.invariant.1
+    gain_out a.delays.now a.gains.now l.i (search rules) (search rules) c.if-delays-i-gt-LONGEST_DELAY.false c.gain_fits.result c.gain_fits.ensures c.if-not-gain_fits.true l.invariant.1
 
 pub loop-i-preserved : goal.loop-i-preserved
 loop-i-preserved c =
     let a = c.args in
     let l = c.loop-i in
-    (search rules, feed_in a.delays.now a.gains.now l.i (search rules) (search rules) c.if-delays-i-gt-LONGEST_DELAY.false c.gain_fits.result c.gain_fits.ensures (not-false _ c.if-not-gain_fits.false) l.invariant.1)
+    (search rules, feed_in a.delays.now a.gains.now l.i (search rules) (search rules) c.if-delays-i-gt-LONGEST_DELAY.false c.gain_fits.result c.gain_fits.ensures c.if-not-gain_fits.false l.invariant.1)
 
 pub returns : goal.returns
 returns c =

@@ -13,14 +13,14 @@ use Rattle.rack_feed.proofs.feed.Goals as goal
 pub returns-then-not-fits : goal.returns-then-not-fits
 returns-then-not-fits c =
     let a = c.args in
-    sym (ap (λ (t : Bool). cond t (overwritten a.at (feed_of a.gain a.delay a.seen a.memory.now a.samples.now) a.room.now) a.room.now) (sym c.fits.ensures ∙ not-true _ c.if-not-fits.true))
+    sym (ap (λ (t : Bool). cond t (overwritten a.at (feed_of a.gain a.delay a.seen a.memory.now a.samples.now) a.room.now) a.room.now) (sym c.fits.ensures ∙ c.if-not-fits.true))
 
 pub write_feed-requires : goal.write_feed-requires
 write_feed-requires c =
     let a = c.args in
-    fits_for (length a.memory.now) (length a.samples.now) (length a.room.now) a.at (sym c.fits.ensures ∙ not-false _ c.if-not-fits.false)
+    fits_for (length a.memory.now) (length a.samples.now) (length a.room.now) a.at (sym c.fits.ensures ∙ c.if-not-fits.false)
 
 pub returns : goal.returns
 returns c =
     let a = c.args in
-    c.write_feed.ensures ∙ sym (ap (λ (t : Bool). cond t (overwritten a.at (feed_of a.gain a.delay a.seen a.memory.now a.samples.now) a.room.now) a.room.now) (sym c.fits.ensures ∙ not-false _ c.if-not-fits.false))
+    c.write_feed.ensures ∙ sym (ap (λ (t : Bool). cond t (overwritten a.at (feed_of a.gain a.delay a.seen a.memory.now a.samples.now) a.room.now) a.room.now) (sym c.fits.ensures ∙ c.if-not-fits.false))

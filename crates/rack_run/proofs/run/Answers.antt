@@ -16,19 +16,19 @@ pub returns-then-not-lengths_fit : goal.returns-then-not-lengths_fit
 returns-then-not-lengths_fit c =
     let a = c.args in
     refused a.rack a.memory.now (record { samples = a.samples.now; room = a.room.now }) c.number.result c.number.ensures
-    (sym (c.lengths_fit.ensures ∙ ap (λ (k : ℕ). lengths_fit k (length a.memory.now) (length a.samples.now) (length a.room.now)) c.feed_count-count.ensures) ∙ not-true _ c.if-not-lengths_fit.true)
+    (sym (c.lengths_fit.ensures ∙ ap (λ (k : ℕ). lengths_fit k (length a.memory.now) (length a.samples.now) (length a.room.now)) c.feed_count-count.ensures) ∙ c.if-not-lengths_fit.true)
 
 pub write_feeds-requires : goal.write_feeds-requires
 unfolding feed_count
 write_feeds-requires c =
     let a = c.args in
-    let f = fits c.feed_count-count.result (length a.memory.now) (length a.samples.now) (length a.room.now) (sym c.lengths_fit.ensures ∙ not-false _ c.if-not-lengths_fit.false) in
+    let f = fits c.feed_count-count.result (length a.memory.now) (length a.samples.now) (length a.room.now) (sym c.lengths_fit.ensures ∙ c.if-not-lengths_fit.false) in
     (f.memory_is, f.room_is, omega (arith, c.feed_count-count.ensures))
 
 pub returns : goal.returns
 returns c =
     let a = c.args in
-    let f = fits c.feed_count-count.result (length a.memory.now) (length a.samples.now) (length a.room.now) (sym c.lengths_fit.ensures ∙ not-false _ c.if-not-lengths_fit.false) in
+    let f = fits c.feed_count-count.result (length a.memory.now) (length a.samples.now) (length a.room.now) (sym c.lengths_fit.ensures ∙ c.if-not-lengths_fit.false) in
     accepted a.rack a.memory.now (record { samples = a.samples.now; room = a.room.now }) _ _ c.seen_after.result c.seen_after.ensures (c.move_on.ensures ∙ ap (λ (t : Bool). cond t (held_after a.memory.now a.samples.now) a.memory.now) (eq-eqb (length a.memory.now) 8190 f.memory_is))
     (c.write_feeds.ensures ∙ ap (λ (k : ℕ). feeds_up_to k a.rack.delays a.rack.gains a.rack.seen a.memory.now a.samples.now) c.feed_count-count.ensures)
-    (sym (c.lengths_fit.ensures ∙ ap (λ (k : ℕ). lengths_fit k (length a.memory.now) (length a.samples.now) (length a.room.now)) c.feed_count-count.ensures) ∙ not-false _ c.if-not-lengths_fit.false)
+    (sym (c.lengths_fit.ensures ∙ ap (λ (k : ℕ). lengths_fit k (length a.memory.now) (length a.samples.now) (length a.room.now)) c.feed_count-count.ensures) ∙ c.if-not-lengths_fit.false)

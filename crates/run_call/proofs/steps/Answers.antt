@@ -24,7 +24,7 @@ loop-rest-init c = let a = c.args in starts a.s a.mode_s_lem.now a.mode_ac_lem.n
 pub step-t-requires : goal.step-t-requires
 step-t-requires c =
     let g = c.before.before.before.loop.invariant in
-    (g.memory_is, g.inside, omega (arith, g.tape, c.before.before.before.before.before.before.before.before.before.before.before.before), omega (arith, c.before.before.before.before.before.before.before.before.before.before.before.before.well-formed.0))  -- LEFT
+    (g.memory_is, g.inside, omega (arith, g.tape, c.before.before.before.before.before.before.before.before.before.before.before.before), omega (arith, c.before.before.before.before.before.before.before.before.before.before.before.before.well_formed.0))  -- LEFT
 
 pub loop-rest-smaller-in-SamplesWritten : goal.loop-rest-smaller-in-SamplesWritten
 loop-rest-smaller-in-SamplesWritten c =

@@ -14,12 +14,12 @@ loop-k-init c = (search rules, refl)
 pub returns-then-not-within_f32 : goal.returns-then-not-within_f32
 returns-then-not-within_f32 c =
     let l = c.loop-k in
-    out_of_range_at c.args.noise.now l.k c.loop-k-test.true (sym c.within_f32.ensures ∙ not-true _ c.if-not-within_f32.true) ∙ l.invariant.1
+    out_of_range_at c.args.noise.now l.k c.loop-k-test.true (sym c.within_f32.ensures ∙ c.if-not-within_f32.true) ∙ l.invariant.1
 
 pub loop-k-preserved : goal.loop-k-preserved
 loop-k-preserved c =
     let l = c.loop-k in
-    (search rules, out_of_range_on c.args.noise.now l.k c.loop-k-test.true (sym c.within_f32.ensures ∙ not-false _ c.if-not-within_f32.false) ∙ l.invariant.1)
+    (search rules, out_of_range_on c.args.noise.now l.k c.loop-k-test.true (sym c.within_f32.ensures ∙ c.if-not-within_f32.false) ∙ l.invariant.1)
 
 pub returns : goal.returns
 returns c =

@@ -8,26 +8,20 @@ use borrow.Author.Rules.{rules}
 use native.Mathlib.Omega.{arith}
 use Rattle.run_due_samples.proofs.write_due.Goals as goal
 
-abbrev Held : tie.Else1 → Type 0
-Held c = let a = c.before.before.before.before.before.args in Fits (length a.memory.now) (length a.noise.now) (length a.output.now) a.samples a.n
-
-held : (c : tie.Else1) → Held c
-held c = fits_for _ _ _ _ _ (sym c.before.fits2.ensures ∙ not-false _ c.if1.false)
-
 pub returns-then-not-fits : goal.returns-then-not-fits
-returns-then-not-fits c = unchanged _ _ _ _ _ (sym (not-true _ c.if-not-fits.true) ∙ c.fits.ensures)
+returns-then-not-fits c = unchanged _ _ _ _ _ (sym c.if-not-fits.true ∙ c.fits.ensures)
 
 pub overflow_mul-at : goal.overflow_mul-at
-overflow_mul-at c = omega (arith, (held c).output_holds, c)
+overflow_mul-at c = omega (arith, (fits_for _ _ _ _ _ (sym c.fits.ensures ∙ c.if-not-fits.false)).output_holds, c)
 
 pub overflow_mul-n : goal.overflow_mul-n
-overflow_mul-n c = omega (arith, (held c).output_holds, c)
+overflow_mul-n c = omega (arith, (fits_for _ _ _ _ _ (sym c.fits.ensures ∙ c.if-not-fits.false)).output_holds, c)
 
 pub write_all-requires : goal.write_all-requires
 write_all-requires c =
-    let f = held c in
+    let f = fits_for _ _ _ _ _ (sym c.fits.ensures ∙ c.if-not-fits.false) in
     (f.memory_is, omega arith, omega (arith, f.noise_holds), omega (arith, f.output_holds))
 
 pub returns : goal.returns
 returns c =
-    changed _ _ _ _ _ _ _ _ (search rules) (search rules) (sym (not-false _ c.if-not-fits.false) ∙ c.fits.ensures)
+    changed _ _ _ _ _ _ _ _ (search rules) (search rules) (sym c.if-not-fits.false ∙ c.fits.ensures)
