@@ -13,7 +13,6 @@ returns-in-Constant c = sym (ap (λ (d : ClockError). clock_draw_fits d c.args.d
 pub returns-in-Uniform : goal.returns-in-Uniform
 unfolding clock_draw_fits
 returns-in-Uniform c =
-    let draw = c.before.before.before.before.args.draw in
-    let d = c.before.before.d in
-    let inside : c.within.result ≡ clock_draw_fits (Uniform d.given.0.0) draw = c.within.ensures in
-    inside ∙ sym (ap (λ (d : ClockError). clock_draw_fits d draw) d.given.1)  -- LEFT
+    let draw = c.args.draw in
+    let inside : c.within.result ≡ clock_draw_fits (Uniform c.in-Uniform.max) draw = c.within.ensures in
+    inside ∙ sym (ap (λ (d : ClockError). clock_draw_fits d draw) c.in-Uniform.is)

@@ -13,7 +13,7 @@ returns-in-Constant c = search rules
 pub returns-in-ClampedNormal : goal.returns-in-ClampedNormal
 unfolding offset_of
 returns-in-ClampedNormal c =
-    let draw = c.before.before.before.before.args.draw in
-    let d = c.before.before.d2 in
-    let held : c.clamp.result ≡ clamped (mul binary64 draw d.given.0.0) d.given.0.1.0 = c.clamp.ensures in
-    held ∙ sym (ap (λ (d : CarrierOffset). offset_of d draw) d.given.1)  -- LEFT
+    let draw = c.args.draw in
+    let d = c.in-ClampedNormal in
+    let held : c.clamp.result ≡ clamped (mul binary64 draw d.sigma) d.max = c.clamp.ensures in
+    held ∙ sym (ap (λ (d : CarrierOffset). offset_of d draw) d.is)

@@ -25,11 +25,11 @@ ceil_small-requires c = (yes c.if-x.true, yes c.if-x-2.true)
 
 pub truncating_f64_to_i64-requires : goal.truncating_f64_to_i64-requires
 unfolding of_bits
-truncating_f64_to_i64-requires c = (pos_above_min c.args.x (yes c.if-x.true), yes c.if-x-3.true)
+truncating_f64_to_i64-requires c = record { lower_bound = pos_above_min c.args.x (yes c.if-x.true); upper_bound = yes c.if-x-3.true }
 
 pub truncating_f64_to_i64-requires-then-x-5 : goal.truncating_f64_to_i64-requires-then-x-5
 unfolding of_bits neg
-truncating_f64_to_i64-requires-then-x-5 c = (yes c.if-x-5.true, nonpos_below_max c.args.x (yes c.if-x-4.true))
+truncating_f64_to_i64-requires-then-x-5 c = record { lower_bound = yes c.if-x-5.true; upper_bound = nonpos_below_max c.args.x (yes c.if-x-4.true) }
 
 pub returns-then-x-3 : goal.returns-then-x-3
 unfolding of_bits

@@ -6,7 +6,7 @@ use Rattle.float_to_int.proofs.to_u64.Goals as goal
 
 pub truncating_f64_to_u64-requires : goal.truncating_f64_to_u64-requires
 unfolding of_bits
-truncating_f64_to_u64-requires c = (above_minus_one c.args.x (subst T (sym c.if-x.true) tt), subst T (sym c.if-x-2.true) tt)
+truncating_f64_to_u64-requires c = record { lower_bound = above_minus_one c.args.x (subst T (sym c.if-x.true) tt); upper_bound = subst T (sym c.if-x-2.true) tt }
 
 pub returns-then-x : goal.returns-then-x
 unfolding of_bits

@@ -8,4 +8,4 @@ use Rattle.message.proofs.Bytes.{first_set}
 use Rattle.message_make.proofs.long_without_parity.Goals as goal
 
 pub returns : goal.returns
-returns c = let h : length c.args.t2 ≡ 14 = search rules in ap (reply Long) (first_set c.args.t2 h _)
+returns c = let h : length c.args.draw ≡ 14 = search rules in ap (reply Long) (first_set c.args.draw h _)

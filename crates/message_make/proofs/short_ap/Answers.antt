@@ -9,8 +9,8 @@ use Rattle.message.proofs.InRange.{entry_lt, short_ap_format}
 use Rattle.message.proofs.Replies.{short_ap_reply}
 use Rattle.message_make.proofs.short_ap.Goals as goal
 
-pub bounds-b-0 : goal.bounds-b-0
-bounds-b-0 c = omega (arith, short_ap_format _ c.requires)
+pub bounds-format : goal.bounds-format
+bounds-format c = omega (arith, short_ap_format _ c.requires)
 
 pub overflow_mul-first : goal.overflow_mul-first
 overflow_mul-first c = omega (arith, entry_lt 32 short_ap_formats (lit< tt) tt c.args.p.format)

@@ -12,6 +12,7 @@ use Rattle.pulse_map.proofs.ModeACLoop.{step_set, step_clear, end, framed, whole
 use borrow.Author.Rules.{rules}
 use native.Mathlib.Omega.{arith}
 use Rattle.pulse_map.proofs.mode_ac_pulses.Goals as goal
+use Rattle.pulse_map.proofs.mode_ac_pulses.Goals.{then-bit_of, else-bit_of}
 
 pub loop-n-init : goal.loop-n-init
 loop-n-init c = (search rules, refl, refl)
@@ -26,10 +27,14 @@ loop-n-preserved c =
     let h = c.loop-n-test.true in
     let left : List Bool → List Bool = mark (data_positions d (12 - (l.n + 1)) (l.n + 1)) in (
       search rules,
-      ⊎_elim (λ t. ap length t.2 ∙ length-set l.on t.1.result true ∙ l.invariant.1) (λ f. ap length f.1 ∙ l.invariant.1) c.if-bit_of.branch,
-      ⊎_elim (λ t. ap left (t.2 ∙ ap (λ (p : ℕ). set l.on p true) t.1.ensures) ∙ step_set d l.n l.on h (sym c.bit_of.ensures ∙ t.0.taken) ∙ l.invariant.2)
-          (λ f. ap left f.1 ∙ step_clear d l.n l.on h (sym c.bit_of.ensures ∙ f.0.left) ∙ l.invariant.2)
-          c.if-bit_of.branch,
+      elim c.if-bit_of.branch [
+        | then-bit_of w ↦ ap length w.on-is ∙ length-set l.on w.position_of.result true ∙ l.invariant.1
+        | else-bit_of w ↦ ap length w.on-is ∙ l.invariant.1
+      ],
+      elim c.if-bit_of.branch [
+        | then-bit_of w ↦ ap left (w.on-is ∙ ap (λ (p : ℕ). set l.on p true) w.position_of.ensures) ∙ step_set d l.n l.on h (sym c.bit_of.ensures ∙ w.if-bit_of.true) ∙ l.invariant.2
+        | else-bit_of w ↦ ap left w.on-is ∙ step_clear d l.n l.on h (sym c.bit_of.ensures ∙ w.if-bit_of.false) ∙ l.invariant.2
+      ],
     )
 
 pub returns-then-spi : goal.returns-then-spi

@@ -17,7 +17,7 @@ abbrev pub invariant-loop-n : goal.invariant-loop-n
 invariant-loop-n l =
     (l.n ≤ 12)
     × (length l.on ≡ 240)
-    × (mark (data_positions «data» (12 - l.n) l.n) l.on ≡ mark (data_positions «data» 12 0) framed)
+    × (mark (data_positions l.«data» (12 - l.n) l.n) l.on ≡ mark (data_positions l.«data» 12 0) framed)
 
 abbrev pub decreases-loop-n : goal.decreases-loop-n
 decreases-loop-n l = 12 - l.n

@@ -13,13 +13,13 @@ use Rattle.pulse_map.proofs.mode_s_pulses.Goals as goal
 pub loop-n-init : goal.loop-n-init
 loop-n-init c =
     let bits = c.num_bits-bits.result in
-    (search rules, refl, ap (λ (k : ℕ). mark (bit_positions c.args.t1 k 0) preambled) {x = bits - 0} {y = bits} (sub-zero bits))
+    (search rules, refl, ap (λ (k : ℕ). mark (bit_positions c.args.bytes k 0) preambled) {x = bits - 0} {y = bits} (sub-zero bits))
 
 pub loop-n-preserved : goal.loop-n-preserved
 unfolding bit_of
 loop-n-preserved c =
     let l = c.loop-n in
-    let bytes = c.args.t1 in
+    let bytes = c.args.bytes in
     let bits = c.num_bits-bits.result in (
       search rules,
       length-set l.on _ true ∙ l.invariant.1,
@@ -34,6 +34,6 @@ returns c =
     let l = c.loop-n in
     let a = c.args in
     let bits = c.num_bits-bits.result in
-    whole a.t1 a.long l.on _
-    (sym (end a.t1 bits l.n l.on c.loop-n-test.false) ∙ l.invariant.2 ∙ ap (λ (n : ℕ). mark (bit_positions a.t1 n 0) preambled) c.num_bits-bits.ensures.0)
+    whole a.bytes a.long l.on _
+    (sym (end a.bytes bits l.n l.on c.loop-n-test.false) ∙ l.invariant.2 ∙ ap (λ (n : ℕ). mark (bit_positions a.bytes n 0) preambled) c.num_bits-bits.ensures.0)
     (ap (λ (n : ℕ). 16 + 2 * n) c.num_bits-bits.ensures.0)

@@ -14,11 +14,11 @@ loop-k-init c = (search rules, search rules, none_overwritten c.args.d.now c.arg
 pub loop-k-preserved : goal.loop-k-preserved
 loop-k-preserved c =
     let l = c.loop-k in
-    let h : length c.args.t3 ≡ 14 = search rules in
-    (search rules, simp length-set (search rules), next_byte c.args.d.now c.args.at c.args.t3 l.k l.d (search rules) (search rules) l.invariant.2)
+    let h : length c.args.b ≡ 14 = search rules in
+    (search rules, simp length-set (search rules), next_byte c.args.d.now c.args.at c.args.b l.k l.d (search rules) (search rules) l.invariant.2)
 
 pub returns : goal.returns
 returns c =
     let l = c.loop-k in
-    let h : length c.args.t3 ≡ 14 = search rules in
-    l.invariant.2 ∙ ap (overwritten c.args.d.now c.args.at) (take_all l.k c.args.t3 (search rules))
+    let h : length c.args.b ≡ 14 = search rules in
+    l.invariant.2 ∙ ap (overwritten c.args.d.now c.args.at) (take_all l.k c.args.b (search rules))

@@ -12,7 +12,7 @@ returns c =
     let picks = c.picks.ensures in
     let made = c.completed-c.ensures in
     let sum = c.add_reply-count.ensures in (
-      added a.pending a.delays a.first a.rest.now _ _ _ _ _ here type loudness picks made a.mode_s_lem.now a.mode_ac_lem.now a.memory.now _ sum.0,
+      added a.pending a.delays a.first a.rest.now _ _ _ _ _ here type loudness picks made a.mode_s.now a.mode_ac.now a.memory.now _ sum.0,
       recorded a.pending a.delays a.first a.rest.now _ _ _ _ _ here type loudness picks made a.memory.now a.records.now _ a.at _ sum.1 c.put.ensures.1,
       counted a.pending a.delays a.first a.rest.now _ _ _ _ _ here type loudness picks made a.memory.now _ sum.1,
     )

@@ -13,7 +13,7 @@ use Rattle.run_booking.proofs.booking.Goals as goal
 abbrev IsOpened : tie.After-prepare → Type 0
 IsOpened z =
     let a = z.before.before.before.before.before.before.args in
-    z.prepare.result.opened ≡ opened a.taps-s.now a.taps-ac.now a.settings.now
+    z.prepare.result.opened ≡ opened a.taps_s.now a.taps_ac.now a.settings.now
 
 is_opened : (z : tie.After-prepare) → IsOpened z
 unfolding prepared_of
@@ -22,19 +22,19 @@ is_opened z = ap (λ (p : Prepared). p.opened) z.prepare.ensures
 pub returns-then-draws-ne0 : goal.returns-then-draws-ne0
 returns-then-draws-ne0 c =
     let a = c.args in
-    length_refused a.taps-s.now a.taps-ac.now a.time a.settings.now a.draws.now c.if-draws-ne0.true
+    length_refused a.taps_s.now a.taps_ac.now a.time a.settings.now a.draws.now c.if-draws-ne0.true
 
 pub of_run-requires : goal.of_run-requires
 of_run-requires c =
     let a = c.args in
-    (few_samples a.taps-s.now a.taps-ac.now a.settings.now _ (sym (is_opened c) ∙ c.in-Run.is), c.if-draws-ne0.false)
+    (few_samples a.taps_s.now a.taps_ac.now a.settings.now _ (sym (is_opened c) ∙ c.in-Run.is), c.if-draws-ne0.false)
 
 pub returns-in-Refused : goal.returns-in-Refused
 returns-in-Refused c =
     let a = c.args in
-    opening_refused a.taps-s.now a.taps-ac.now a.time a.settings.now a.draws.now c.if-draws-ne0.false _ (is_opened c) _ c.in-Refused.is
+    opening_refused a.taps_s.now a.taps_ac.now a.time a.settings.now a.draws.now c.if-draws-ne0.false _ (is_opened c) _ c.in-Refused.is
 
 pub returns-in-Run : goal.returns-in-Run
 returns-in-Run c =
     let a = c.args in
-    run_booked a.taps-s.now a.taps-ac.now a.time a.settings.now a.draws.now c.if-draws-ne0.false _ (is_opened c) _ _ c.in-Run.is c.of_run.ensures
+    run_booked a.taps_s.now a.taps_ac.now a.time a.settings.now a.draws.now c.if-draws-ne0.false _ (is_opened c) _ _ c.in-Run.is c.of_run.ensures

@@ -30,7 +30,7 @@ went : (z : tie.After-after-draw invariant_loop decreases_loop) → Stepped z
 went z =
     let a = z.before.before.before.before.before.before.before.args in
     let l = z.before.before.before.before.before.loop in
-    stepped a.all a.delays a.total l.w _ l.rest.now _ _ _ z.before.before.before.pending.ensures z.before.before.first-sample-index.ensures (z.before.kind-of.ensures ∙ ap (λ (x : ℤ). kind_seen (kind_of (counted a.total) (start_from x))) (to_z-of_z (record { sfits = z.before.before.first-sample-index.type-inv }))) z.after-draw.ensures
+    stepped a.all a.delays a.total l.w _ l.rest.now _ _ _ z.before.before.before.pending.ensures z.before.before.first-sample-index.ensures (z.before.kind-of.ensures ∙ ap (λ (x : ℤ). kind_seen (kind_of (counted a.total) (start_from x))) (to_z-of_z (record { sfits = z.before.before.first-sample-index.type_inv }))) z.after-draw.ensures
 
 pub loop-rest-init : goal.loop-rest-init
 loop-rest-init c = (search rules, search rules, refl)

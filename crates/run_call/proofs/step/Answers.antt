@@ -64,4 +64,4 @@ returns-in-End c =
 
 pub returns-in-Add : goal.returns-in-Add
 returns-in-Add c =
-    added (planned c) _ _ c.in-Add.is c.add-count.result (omega (arith, c.add-count.type-inv)) _ _ _ c.after_step.ensures c.add-count.ensures.0 c.add-count.ensures.1 c.add-count.ensures.2
+    added (planned c) _ _ c.in-Add.is c.add-count.result (omega (arith, c.add-count.type_inv)) _ _ _ c.after_step.ensures c.add-count.ensures.0 c.add-count.ensures.1 c.add-count.ensures.2

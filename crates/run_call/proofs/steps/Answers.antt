@@ -12,14 +12,14 @@ abbrev Went : tie.After-step invariant_loop decreases_loop → Type 0
 Went c =
     let l = c.before.before.before.before.loop in
     let a = c.before.before.before.before.before.before.before.before.before.before.before.before.before.args in
-    Gave a.s a.mode_s_lem.now a.mode_ac_lem.now a.noise.now l.memory l.output l.records l.t l.rest.now c.step.result
+    Gave a.s a.mode_s.now a.mode_ac.now a.noise.now l.memory l.output l.records l.t l.rest.now c.step.result
     c.step.new.1.1.1.1.0 c.step.new.1.1.1.1.1.1.1.0 c.step.new.1.1.1.1.1.1.1.1.0
 
 went : (c : tie.After-step invariant_loop decreases_loop) → Went c
 went c = record { is = c.step.ensures; m_is = c.step.auto.1.1.1.1.0; o_is = c.step.auto.1.1.1.1.1.1.1.0; r_is = c.step.auto.1.1.1.1.1.1.1.1.0 }
 
 pub loop-rest-init : goal.loop-rest-init
-loop-rest-init c = let a = c.args in starts a.s a.mode_s_lem.now a.mode_ac_lem.now a.memory.now a.draws.now a.noise.now a.output.now a.records.now _ c.initial_progress-t.ensures c.requires
+loop-rest-init c = let a = c.args in starts a.s a.mode_s.now a.mode_ac.now a.memory.now a.draws.now a.noise.now a.output.now a.records.now _ c.initial_progress-t.ensures c.requires
 
 pub step-t-requires : goal.step-t-requires
 step-t-requires c =

@@ -17,11 +17,11 @@ chosen wanted b x filled lent e h = h ∙ ap (λ (c : Bool). cond c filled lent)
 pub returns-then-not-wanted : goal.returns-then-not-wanted
 returns-then-not-wanted c =
     let a = c.args in
-    let e = not-true a.wanted c.if-not-wanted.true in
-    (chosen a.wanted false _ (over a.t2 a.mode_s_lem.now) _ e refl, chosen a.wanted false _ (over a.t3 a.mode_ac_lem.now) _ e refl, chosen a.wanted false _ (zeros (length a.memory.now)) _ e refl)
+    let e = c.if-not-wanted.true in
+    (chosen a.wanted false _ (over a.proto_s a.mode_s.now) _ e refl, chosen a.wanted false _ (over a.proto_ac a.mode_ac.now) _ e refl, chosen a.wanted false _ (zeros (length a.memory.now)) _ e refl)
 
 pub returns : goal.returns
 returns c =
     let a = c.args in
-    let e = not-false a.wanted c.if-not-wanted.false in
-    (chosen a.wanted true _ _ a.mode_s_lem.now e c.copy.ensures, chosen a.wanted true _ _ a.mode_ac_lem.now e c.copy-2.ensures, chosen a.wanted true _ _ a.memory.now e c.clear.ensures)
+    let e = c.if-not-wanted.false in
+    (chosen a.wanted true _ _ a.mode_s.now e c.copy.ensures, chosen a.wanted true _ _ a.mode_ac.now e c.copy-2.ensures, chosen a.wanted true _ _ a.memory.now e c.clear.ensures)

@@ -7,4 +7,4 @@ pub returns : goal.returns
 returns c =
     let a = c.args in
     let f = c.fill.ensures in
-    opened_left a.taps-s.now a.taps-ac.now a.settings.now (record { mode_s = a.mode_s_lem.now; mode_ac = a.mode_ac_lem.now; memory = a.memory.now }) c.prepare-p.ensures c.is_run-wanted.ensures f.0 f.1 f.2
+    opened_left a.taps_s.now a.taps_ac.now a.settings.now (record { mode_s = a.mode_s.now; mode_ac = a.mode_ac.now; memory = a.memory.now }) c.prepare-p.ensures c.is_run-wanted.ensures f.0 f.1 f.2

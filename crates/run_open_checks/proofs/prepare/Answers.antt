@@ -9,4 +9,4 @@ check_open-opened-requires c = (c.mode_s_prototype-proto_s.ensures, c.mode_ac_pr
 pub returns : goal.returns
 returns c =
     let a = c.args in
-    prepared a.taps-s.now a.taps-ac.now a.settings.now a.mode_s_lem a.mode_ac_lem a.memory c.check_open-opened.ensures c.mode_s_prototype-proto_s.ensures c.mode_ac_prototype-proto_ac.ensures
+    prepared a.taps_s.now a.taps_ac.now a.settings.now a.mode_s a.mode_ac a.memory c.check_open-opened.ensures c.mode_s_prototype-proto_s.ensures c.mode_ac_prototype-proto_ac.ensures

@@ -17,4 +17,4 @@ pub returns : goal.returns
 returns c =
     let a = c.args in
     c.classify.ensures
-    ∙ chose_draw a.written a.total a.delays a.last a.rest a.room a.noise a.bytes a.ended c.if-ended.false c.if-rest-lt-DRAW_LEN.false _ (to_z-of_z (record { sfits = c.first_sample_index-start.type-inv }) ∙ c.first_sample_index-start.ensures)
+    ∙ chose_draw a.written a.total a.delays a.last a.rest a.room a.noise a.bytes a.ended c.if-ended.false c.if-rest-lt-DRAW_LEN.false _ (to_z-of_z (record { sfits = c.first_sample_index-start.type_inv }) ∙ c.first_sample_index-start.ensures)

@@ -14,7 +14,7 @@ unfolding rate_of rates_of
 returns-then-not-finite_not_negative c =
     let l = c.loop-k in
     let r = c.args.rates in
-    let bad = refuted _ c.if-not-finite_not_negative.true in
+    let bad = c.if-not-finite_not_negative.true in
     sym (stops (rates_of r) l.k (search rules) (ap finite_not_negative (sym c.rate_of.ensures) ∙ sym c.finite_not_negative.ensures ∙ bad)) ∙ l.invariant.1
 
 pub loop-k-preserved : goal.loop-k-preserved
@@ -22,7 +22,7 @@ unfolding rate_of rates_of
 loop-k-preserved c =
     let l = c.loop-k in
     let r = c.args.rates in
-    let fine = held _ c.if-not-finite_not_negative.false in (
+    let fine = c.if-not-finite_not_negative.false in (
       search rules,
       sym (goes_on (rates_of r) l.k (search rules) (ap finite_not_negative (sym c.rate_of.ensures) ∙ sym c.finite_not_negative.ensures ∙ fine)) ∙ l.invariant.1,
     )

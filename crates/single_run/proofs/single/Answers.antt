@@ -9,9 +9,9 @@ slice_bounds-make-end-in-Run c = mode_ac_length_lem _ _ _ _ c.prepare-p.ensures
 pub returns-in-Run : goal.returns-in-Run
 returns-in-Run c =
     let a = c.args in
-    accepted a.settings.now a.taps-s.now a.taps-ac.now a.draw.now a.noise.now a.output.now _ c.prepare-p.ensures _ c.check.ensures _ _ c.in-Run.is c.make.ensures
+    accepted a.settings.now a.taps_s.now a.taps_ac.now a.draw.now a.noise.now a.output.now _ c.prepare-p.ensures _ c.check.ensures _ _ c.in-Run.is c.make.ensures
 
 pub returns-in-Refused : goal.returns-in-Refused
 returns-in-Refused c =
     let a = c.args in
-    refused a.settings.now a.taps-s.now a.taps-ac.now a.draw.now a.noise.now a.output.now _ c.prepare-p.ensures _ c.check.ensures _ c.in-Refused.is
+    refused a.settings.now a.taps_s.now a.taps_ac.now a.draw.now a.noise.now a.output.now _ c.prepare-p.ensures _ c.check.ensures _ c.in-Refused.is

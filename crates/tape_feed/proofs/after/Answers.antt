@@ -9,4 +9,4 @@ pub wrapping_add_usize-requires-2 : goal.wrapping_add_usize-requires-2
 wrapping_add_usize-requires-2 c = tt
 
 pub returns : goal.returns
-returns c = next_feed _ _ c.wrapping_add_usize.ensures c.wrapping_add_usize-2.ensures
+returns c = next_feed _ _ c.wrapping_add_usize.ensures.value c.wrapping_add_usize-2.ensures.value

@@ -13,4 +13,4 @@ pub returns : goal.returns
 returns c =
     let a = c.args in
     let f = c.fill.ensures in
-    head_given a.tape.now (record { mode_s = a.mode_s_lem.now; mode_ac = a.mode_ac_lem.now; memory = a.memory.now }) c.before_taps.ensures c.in_default.is c.prepared-p.ensures c.opened_then-answer.ensures c.is_begun-wanted.ensures f.0 f.1 f.2
+    head_given a.tape.now (record { mode_s = a.mode_s.now; mode_ac = a.mode_ac.now; memory = a.memory.now }) c.before_taps.ensures c.in_default.is c.prepared-p.ensures c.opened_then-answer.ensures c.is_begun-wanted.ensures f.0 f.1 f.2

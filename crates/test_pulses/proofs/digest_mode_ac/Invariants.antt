@@ -4,7 +4,7 @@ use borrow.Author.Rules.{rules}
 use Rattle.test_pulses.proofs.digest_mode_ac.Given as goal
 
 abbrev pub invariant-loop-data : goal.invariant-loop-data
-invariant-loop-data l = («data» ≤ 4096) × (l.h < 4294967291)
+invariant-loop-data l = (l.«data» ≤ 4096) × (l.h < 4294967291)
 
 abbrev pub decreases-loop-data : goal.decreases-loop-data
-decreases-loop-data l = 4096 - «data»
+decreases-loop-data l = 4096 - l.«data»

@@ -7,4 +7,4 @@ pub ceil_to_i64-requires : goal.ceil_to_i64-requires
 ceil_to_i64-requires c = tt
 
 pub returns : goal.returns
-returns c = to_z-of_z (record { sfits = c.ceil_to_i64.type-inv }) ∙ c.ceil_to_i64.ensures
+returns c = to_z-of_z (record { sfits = c.ceil_to_i64.type_inv }) ∙ c.ceil_to_i64.ensures

@@ -10,7 +10,7 @@ pub returns : goal.returns
 unfolding delays_at
 returns c =
     let a = c.args in
-    let delays = delays_at a.delay-s a.delay-ac in (
-      start_crosses delays a.time a.offset a.phase a.error _ _ _ c.kind_of.ensures c.message_at-c.ensures _ (to_z-of_z (record { sfits = c.first_sample_index.type-inv }) ∙ c.first_sample_index.ensures),
+    let delays = delays_at a.delay_s a.delay_ac in (
+      start_crosses delays a.time a.offset a.phase a.error _ _ _ c.kind_of.ensures c.message_at-c.ensures _ (to_z-of_z (record { sfits = c.first_sample_index.type_inv }) ∙ c.first_sample_index.ensures),
       onset_crosses delays a.time a.offset a.phase a.error _ _ _ c.kind_of.ensures c.message_at-c.ensures _ c.onset-o.ensures,
     )
