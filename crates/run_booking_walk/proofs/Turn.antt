@@ -62,7 +62,7 @@ module _ (all : Distributions) (delays : Delays) (total : ℕ) where
 
   -- the rest of a walk
   abbrev pub rest_of : ℕ → Progress → List ℕ → Walk.Walk Float
-  rest_of k w rest = Walk.walkFrom (walk_generator all delays total) k w.records w.time (draws_of (walk_generator all delays total) rest)
+  rest_of k w rest = Walk.walk_from (walk_generator all delays total) k w.records w.time (draws_of (walk_generator all delays total) rest)
 
   -- what step 4 makes of the next draw
   abbrev pub next : Progress → List ℕ → Plain.Kind
@@ -78,20 +78,20 @@ module _ (all : Distributions) (delays : Delays) (total : ℕ) where
       e ∙ (λ i. progress_after w ((k ∙ ap (λ (z : ℤ). kind_seen (Plain.kind_of (counted total) (start_from z))) (s ∙ ap (config_start delays) m)) i) (m i).time)
 
   module _ (k : ℕ) (w w' : Progress) (rest : List ℕ) (h : 65 ≤ length rest) (e : w' ≡ progress_after w (kind_seen (next w rest)) (time_after w.time (draw_at rest))) where
-    first : rest_of k w rest ≡ Walk.walkFrom G k w.records w.time (G.draw_at rest ∷ draws_of G (drop 65 rest))
-    first = ap (Walk.walkFrom G k w.records w.time) (draws_cons G rest (lit< tt) h)
+    first : rest_of k w rest ≡ Walk.walk_from G k w.records w.time (G.draw_at rest ∷ draws_of G (drop 65 rest))
+    first = ap (Walk.walk_from G k w.records w.time) (draws_cons G rest (lit< tt) h)
 
     pub goes_on : w'.ended ≡ false → rest_of k w rest ≡ rest_of (k + 1) w' (drop 65 rest)
     unfolding time_after progress_after kind_seen
     goes_on q = first ∙ go (next w rest) e ∙ ap (λ (n : ℕ). rest_of n w' (drop 65 rest)) (sym (add-one k))
       where
         go : (kind : Plain.Kind) → w' ≡ progress_after w (kind_seen kind) (time_after w.time (draw_at rest))
-            → Walk.by_kind kind (Walk.walkFrom G (suc k) w.records (time_after w.time (draw_at rest)) (draws_of G (drop 65 rest))) (record { records = w.records; taken = suc k; end = Walk.atDraw k }) (Walk.walkFrom G (suc k) (suc w.records) (time_after w.time (draw_at rest)) (draws_of G (drop 65 rest)))
+            → Walk.by_kind kind (Walk.walk_from G (suc k) w.records (time_after w.time (draw_at rest)) (draws_of G (drop 65 rest))) (record { records = w.records; taken = suc k; end = Walk.at_draw k }) (Walk.walk_from G (suc k) (suc w.records) (time_after w.time (draw_at rest)) (draws_of G (drop 65 rest)))
             ≡ rest_of (suc k) w' (drop 65 rest)
         go Plain.ignored p = λ i. rest_of (suc k) (sym p i) (drop 65 rest)
         go Plain.ends p = absurd (true≢false (sym (ap (λ (x : Progress). x.ended) p) ∙ q))
         go (Plain.reply s) p =
-            ap (λ (n : ℕ). Walk.walkFrom G (suc k) n (time_after w.time (draw_at rest)) (draws_of G (drop 65 rest))) (sym (add-one w.records))
+            ap (λ (n : ℕ). Walk.walk_from G (suc k) n (time_after w.time (draw_at rest)) (draws_of G (drop 65 rest))) (sym (add-one w.records))
             ∙ (λ i. rest_of (suc k) (sym p i) (drop 65 rest))
 
     pub stops : w'.ended ≡ true → rest_of k w rest ≡ walked_read (record { records = w'.records; taken = k + 1; end = End.TheVariants.Draw k })
@@ -99,12 +99,12 @@ module _ (all : Distributions) (delays : Delays) (total : ℕ) where
     stops q = first ∙ go (next w rest) e
       where
         go : (kind : Plain.Kind) → w' ≡ progress_after w (kind_seen kind) (time_after w.time (draw_at rest))
-            → Walk.by_kind kind (Walk.walkFrom G (suc k) w.records (time_after w.time (draw_at rest)) (draws_of G (drop 65 rest))) (record { records = w.records; taken = suc k; end = Walk.atDraw k }) (Walk.walkFrom G (suc k) (suc w.records) (time_after w.time (draw_at rest)) (draws_of G (drop 65 rest)))
-            ≡ record { records = w'.records; taken = k + 1; end = Walk.atDraw k }
+            → Walk.by_kind kind (Walk.walk_from G (suc k) w.records (time_after w.time (draw_at rest)) (draws_of G (drop 65 rest))) (record { records = w.records; taken = suc k; end = Walk.at_draw k }) (Walk.walk_from G (suc k) (suc w.records) (time_after w.time (draw_at rest)) (draws_of G (drop 65 rest)))
+            ≡ record { records = w'.records; taken = k + 1; end = Walk.at_draw k }
         go Plain.ignored p = absurd (false≢true (sym (ap (λ (x : Progress). x.ended) p) ∙ q))
-        go Plain.ends p = λ i. record { records = (sym p i).records; taken = sym (add-one k) i; end = Walk.atDraw k }
+        go Plain.ends p = λ i. record { records = (sym p i).records; taken = sym (add-one k) i; end = Walk.at_draw k }
         go (Plain.reply s) p = absurd (false≢true (sym (ap (λ (x : Progress). x.ended) p) ∙ q))
 
   pub ends : (k : ℕ) (w : Progress) (rest : List ℕ) → length rest < 65 → rest_of k w rest ≡ walked_read (record { records = w.records; taken = k; end = End.TheVariants.RanOut w.time })
   unfolding walked_read end_read
-  ends k w rest h = ap (Walk.walkFrom G k w.records w.time) (draws_none G rest h)
+  ends k w rest h = ap (Walk.walk_from G k w.records w.time) (draws_none G rest h)

@@ -31,8 +31,8 @@ walk_generator all delays total = instance_of (record {
 
 -- case by case
 unfoldable pub end_read : End.End → Walk.End Float
-end_read (End.TheVariants.Draw index) = Walk.atDraw index
-end_read (End.TheVariants.RanOut time) = Walk.ranOut time
+end_read (End.TheVariants.Draw index) = Walk.at_draw index
+end_read (End.TheVariants.RanOut time) = Walk.ran_out time
 
 unfoldable pub walked_read : Walked → Walk.Walk Float
 walked_read r = record { records = r.records; taken = r.taken; end = end_read r.end }

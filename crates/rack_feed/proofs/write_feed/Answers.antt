@@ -15,7 +15,7 @@ scale_stretch-requires c =
     let held : ◌≡◌ {A = ℕ} c.least-held.result (min (length a.samples.now) c.numbers-back.result) = c.least-held.ensures in
     let back : ◌≡◌ {A = ℕ} c.numbers-back.result (2 * min a.delay 4095) = c.numbers-back.ensures in (
       subst (λ (k : ℕ). 8190 - c.numbers-back.result + c.least-unseen.result + (c.least-held.result - c.least-unseen.result) ≤ k) (sym c.requires.0) (inside_memory (length a.samples.now) _ _ _ _ 8190 unseen held (omega (arith, back))),
-      inside_room a.at (length a.samples.now) _ _ _ _ (length a.room.now) _ unseen held c.requires.1 c.clear_stretch.auto.0,
+      inside_room a.at (length a.samples.now) _ _ _ _ (length a.room.now) _ unseen held c.requires.1 c.clear_stretch.auto.room,
     )
 
 pub returns : goal.returns

@@ -1,4 +1,5 @@
 -- `walk` meets its contract. The loop's invariant: the draws passed are counted, records are at most as many, and the walk over the rest is that over all.
+use Rattle.std.proofs.Common.{w64}
 use Prim.Native.Nat.{◌+◌, ◌*◌, ◌≤◌}
 use mathlib.Core.Path.{◌≡◌, refl, sym, ap, ◌∙◌}
 use lib.ListN.{length, length-drop}
@@ -18,20 +19,6 @@ use borrow.Author.Rules.{rules}
 use native.Mathlib.Omega.{arith}
 use Rattle.run_booking_walk.proofs.walk.Goals as goal
 
--- the walk after the next draw
-
-abbrev Stepped : tie.After-after-draw invariant_loop decreases_loop → Type 0
-Stepped z =
-    let a = z.before.before.before.before.before.before.before.args in
-    let l = z.before.before.before.before.before.loop in
-    z.after-draw.result ≡ progress_after l.w (kind_seen (next a.all a.delays a.total l.w l.rest.now)) (time_after l.w.time (draw_at l.rest.now))
-
-went : (z : tie.After-after-draw invariant_loop decreases_loop) → Stepped z
-went z =
-    let a = z.before.before.before.before.before.before.before.args in
-    let l = z.before.before.before.before.before.loop in
-    stepped a.all a.delays a.total l.w _ l.rest.now _ _ _ z.before.before.before.pending.ensures z.before.before.first-sample-index.ensures (z.before.kind-of.ensures ∙ ap (λ (x : ℤ). kind_seen (kind_of (counted a.total) (start_from x))) (to_z-of_z (record { sfits = z.before.before.first-sample-index.type_inv }))) z.after-draw.ensures
-
 pub loop-rest-init : goal.loop-rest-init
 loop-rest-init c = (search rules, search rules, refl)
 
@@ -39,7 +26,9 @@ pub returns-then-w : goal.returns-then-w
 returns-then-w c =
     let a = c.args in
     let l = c.loop-rest in
-    (sym (stops a.all a.delays a.total l.k l.w _ l.rest.now c.loop-rest-test.true (went c) c.if-w.true) ∙ l.invariant.2, omega (arith, l.invariant.0, c.loop-rest-test.true))
+    -- the walk after the next draw
+    let went = stepped a.all a.delays a.total l.w _ l.rest.now _ _ _ c.pending-message.ensures c.first_sample_index-start.ensures (c.kind_of.ensures ∙ ap (λ (x : ℤ). kind_seen (kind_of (counted a.total) (start_from x))) (to_z-of_z {w = w64} (record { sfits = c.first_sample_index-start.type_inv }))) c.after_draw-w.ensures in
+    (sym (stops a.all a.delays a.total l.k l.w _ l.rest.now c.loop-rest-test.true went c.if-w.true) ∙ l.invariant.2, omega (arith, l.invariant.0, c.loop-rest-test.true))
 
 pub loop-rest-smaller : goal.loop-rest-smaller
 loop-rest-smaller c = rw (part_is, length-drop) (omega arith)
@@ -47,10 +36,13 @@ loop-rest-smaller c = rw (part_is, length-drop) (omega arith)
 pub loop-rest-preserved : goal.loop-rest-preserved
 loop-rest-preserved c =
     let a = c.args in
-    let l = c.loop-rest in (
+    let l = c.loop-rest in
+    -- the walk after the next draw
+    let went = stepped a.all a.delays a.total l.w _ l.rest.now _ _ _ c.pending-message.ensures c.first_sample_index-start.ensures (c.kind_of.ensures ∙ ap (λ (x : ℤ). kind_seen (kind_of (counted a.total) (start_from x))) (to_z-of_z {w = w64} (record { sfits = c.first_sample_index-start.type_inv }))) c.after_draw-w.ensures in
+    (
       rw (part_is, length-drop) (omega arith),
       omega (arith, counted_on l.w _ _ _ c.after_draw-w.ensures),
-      rw part_is (sym (goes_on a.all a.delays a.total l.k l.w _ l.rest.now c.loop-rest-test.true (went c) c.if-w.false) ∙ l.invariant.2),
+      rw part_is (sym (goes_on a.all a.delays a.total l.k l.w _ l.rest.now c.loop-rest-test.true went c.if-w.false) ∙ l.invariant.2),
     )
 
 pub returns : goal.returns

@@ -12,7 +12,7 @@ loop-done-init c = starts _ _ _ _ _ _ _ _ c.requires.0 (search rules)
 pub loop-done-preserved : goal.loop-done-preserved
 loop-done-preserved c =
     let p = c.requires in
-    goes_on _ _ _ _ _ _ _ _ _ _ _ _ _ _ p.0 p.1 p.2 p.3 c.loop-done-test.true c.least-len.ensures c.stretch.ensures.0 c.stretch.ensures.1 c.stretch.auto.0 c.stretch.auto.1.1.0 c.loop-done.invariant _ refl
+    goes_on _ _ _ _ _ _ _ _ _ _ _ _ _ _ p.0 p.1 p.2 p.3 c.loop-done-test.true c.least-len.ensures c.stretch.ensures.0 c.stretch.ensures.1 c.stretch.auto.memory c.stretch.auto.output c.loop-done.invariant _ refl
 
 pub shape_of-memory : goal.shape_of-memory
 shape_of-memory c = c.loop-done.invariant.same_memory ∙ sym c.requires.0

@@ -1,4 +1,5 @@
 -- `add` meets its contract.
+use Rattle.std.proofs.Common.{w64}
 use mathlib.Core.Path.{◌≡◌, sym, ap, ◌∙◌}
 use lib.Ieee.{of_bits}
 use mir.Facts.{to_z-of_z}
@@ -22,13 +23,13 @@ ring_slots-slots-requires c = tt
 
 pub returns-then-first-output : goal.returns-then-first-output
 returns-then-first-output c =
-    let start = to_z-of_z (record { sfits = c.first_sample_index-start.type_inv }) ∙ c.first_sample_index-start.ensures in
+    let start = to_z-of_z {w = w64} (record { sfits = c.first_sample_index-start.type_inv }) ∙ c.first_sample_index-start.ensures in
     let a = c.args in
     past_the_end _ _ _ a.output.now c.first_reached-first.result (c.first_reached-first.ensures.0 ∙ ap first_reached start) c.if-first-output.true
 
 pub returns-then-past-slots : goal.returns-then-past-slots
 returns-then-past-slots c =
-    let start = to_z-of_z (record { sfits = c.first_sample_index-start.type_inv }) ∙ c.first_sample_index-start.ensures in
+    let start = to_z-of_z {w = w64} (record { sfits = c.first_sample_index-start.type_inv }) ∙ c.first_sample_index-start.ensures in
     all_before _ _ _ _ _ _ _ (c.first_reached-first.ensures.0 ∙ ap first_reached start) (c.passed_over-past.ensures ∙ ap passed_over start) c.ring_slots-slots.ensures.0 c.if-first-output.false c.if-past-slots.true
 
 pub slice_bounds-add_window-end : goal.slice_bounds-add_window-end
@@ -44,5 +45,5 @@ add_window-requires c =
 
 pub returns : goal.returns
 returns c =
-    let start = to_z-of_z (record { sfits = c.first_sample_index-start.type_inv }) ∙ c.first_sample_index-start.ensures in
+    let start = to_z-of_z {w = w64} (record { sfits = c.first_sample_index-start.type_inv }) ∙ c.first_sample_index-start.ensures in
     in_window _ _ _ _ _ _ _ _ (c.first_reached-first.ensures.0 ∙ ap first_reached start) (c.passed_over-past.ensures ∙ ap passed_over start) c.ring_slots-slots.ensures.0 c.if-first-output.false c.if-past-slots.false c.add_window.ensures

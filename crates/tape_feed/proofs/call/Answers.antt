@@ -33,14 +33,5 @@ run-r-requires c = tt
 pub after-requires : goal.after-requires
 after-requires c = tt
 
-pub shape_of-memory : goal.shape_of-memory
-shape_of-memory c = c.run-r.auto.1.1.1.0
-
-pub shape_of-output : goal.shape_of-output
-shape_of-output c = c.run-r.auto.1.1.1.1.1.1.0
-
-pub shape_of-records : goal.shape_of-records
-shape_of-records c = part_kept _ _ c.run-r.new.mode_s.1.1.1.1.1.1.0 (within _ _ c.place-b.ensures) c.run-r.auto.1.1.1.1.1.1.1.0
-
 pub returns : goal.returns
 returns c = let a = c.args in called a.f a.mode_s.now a.mode_ac.now a.memory.now a.draws.now a.noise.now a.output.now a.records.now c.place-a.ensures c.place-b.ensures c.run-r.ensures c.after.ensures

@@ -6,8 +6,5 @@ use Rattle.le_read.proofs.Halves.{overwritten_one}
 use Rattle.tape_text.proofs.Lines.{hex_line_put}
 use Rattle.tape_text.proofs.put_hex_line.Goals as goal
 
-pub shape_of-out : goal.shape_of-out
-shape_of-out c = simp length-set c.put_hex.auto.1.1.0
-
 pub returns : goal.returns
 returns c = hex_line_put _ _ c.requires.0 c.requires.1 c.put_hex.ensures (overwritten_one _ _ _ (slice_write_out c)) refl

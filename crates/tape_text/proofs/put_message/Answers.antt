@@ -3,9 +3,6 @@ use borrow.Author.Rules.{rules}
 use Rattle.tape_text.proofs.Lines.{mode_ac_put, mode_s_put}
 use Rattle.tape_text.proofs.put_message.Goals as goal
 
-pub shape_of-out-then-rec-eq6 : goal.shape_of-out-then-rec-eq6
-shape_of-out-then-rec-eq6 c = c.put_hex_line.auto.1.1.0
-
 pub returns-then-rec-eq6 : goal.returns-then-rec-eq6
 returns-then-rec-eq6 c = mode_ac_put _ c.if-rec-eq6.true (search rules) (search rules) c.put_hex_line.ensures
 
@@ -14,9 +11,6 @@ wide-requires c = tt
 
 pub least-n-requires : goal.least-n-requires
 least-n-requires c = tt
-
-pub shape_of-out : goal.shape_of-out
-shape_of-out c = c.put_hex_line-2.auto.1.1.0
 
 pub returns : goal.returns
 returns c = mode_s_put _ c.requires.0 c.if-rec-eq6.false c.wide.ensures.0 c.least-n.ensures c.put_hex_line-2.ensures

@@ -1,4 +1,5 @@
 -- `test_exports::port_message` meets its contract.
+use Rattle.std.proofs.Common.{w64}
 use mathlib.Core.Path.{◌∙◌}
 use mir.Facts.{to_z-of_z}
 use Rattle.test_exports.specs.Messages.{delays_at}
@@ -11,6 +12,6 @@ unfolding delays_at
 returns c =
     let a = c.args in
     let delays = delays_at a.delay_s a.delay_ac in (
-      start_crosses delays a.time a.offset a.phase a.error _ _ _ c.kind_of.ensures c.message_at-c.ensures _ (to_z-of_z (record { sfits = c.first_sample_index.type_inv }) ∙ c.first_sample_index.ensures),
+      start_crosses delays a.time a.offset a.phase a.error _ _ _ c.kind_of.ensures c.message_at-c.ensures _ (to_z-of_z {w = w64} (record { sfits = c.first_sample_index.type_inv }) ∙ c.first_sample_index.ensures),
       onset_crosses delays a.time a.offset a.phase a.error _ _ _ c.kind_of.ensures c.message_at-c.ensures _ c.onset-o.ensures,
     )
