@@ -116,9 +116,9 @@ advance_on d c e h = ap (clock_at (add binary64 c.phase d)) (sym (mod-eq_of_lt h
 abbrev added_of : Float → Float → Bool → Float
 added_of sum tap on = cond on (add binary32 sum tap) sum
 
-pub sum_past : (t : List Float) (paddedPulses : List Bool) (i : ℕ) → 246 ≤ i → of_bits binary32 0 ≡ padded_sum t paddedPulses i
+pub sum_past : (t : List Float) (padded_pulses : List Bool) (i : ℕ) → 246 ≤ i → of_bits binary32 0 ≡ padded_sum t padded_pulses i
 unfolding padded_sum
-sum_past t paddedPulses i h = sym (rw (le-ltb i 246 h))
+sum_past t padded_pulses i h = sym (rw (le-ltb i 246 h))
 
 place : (i a b : ℕ) → i + (a + b) - b ≡ i + a
 place i a b = omega arith
@@ -126,23 +126,23 @@ place i a b = omega arith
 place_0 : (i : ℕ) → i + 6 - 6 ≡ i
 place_0 i = omega arith
 
-pub sum_seven : (t : List Float) (paddedPulses : List Bool) (i : ℕ) (s0 s1 s2 s3 s4 s5 s6 : Float) → 7 ≡ length t → i < 246
-    → s0 ≡ added_of (of_bits binary32 0) (get_or t 0 nan) (get_or paddedPulses (i + 6) false)
-    → s1 ≡ added_of s0 (get_or t 1 nan) (get_or paddedPulses (i + 5) false)
-    → s2 ≡ added_of s1 (get_or t 2 nan) (get_or paddedPulses (i + 4) false)
-    → s3 ≡ added_of s2 (get_or t 3 nan) (get_or paddedPulses (i + 3) false)
-    → s4 ≡ added_of s3 (get_or t 4 nan) (get_or paddedPulses (i + 2) false)
-    → s5 ≡ added_of s4 (get_or t 5 nan) (get_or paddedPulses (i + 1) false)
-    → s6 ≡ added_of s5 (get_or t 6 nan) (get_or paddedPulses i false)
-    → s6 ≡ padded_sum t paddedPulses i
+pub sum_seven : (t : List Float) (padded_pulses : List Bool) (i : ℕ) (s0 s1 s2 s3 s4 s5 s6 : Float) → 7 ≡ length t → i < 246
+    → s0 ≡ added_of (of_bits binary32 0) (get_or t 0 nan) (get_or padded_pulses (i + 6) false)
+    → s1 ≡ added_of s0 (get_or t 1 nan) (get_or padded_pulses (i + 5) false)
+    → s2 ≡ added_of s1 (get_or t 2 nan) (get_or padded_pulses (i + 4) false)
+    → s3 ≡ added_of s2 (get_or t 3 nan) (get_or padded_pulses (i + 3) false)
+    → s4 ≡ added_of s3 (get_or t 4 nan) (get_or padded_pulses (i + 2) false)
+    → s5 ≡ added_of s4 (get_or t 5 nan) (get_or padded_pulses (i + 1) false)
+    → s6 ≡ added_of s5 (get_or t 6 nan) (get_or padded_pulses i false)
+    → s6 ≡ padded_sum t padded_pulses i
 unfolding padded_sum sum_where
-sum_seven [] paddedPulses i s0 s1 s2 s3 s4 s5 s6 l h e0 e1 e2 e3 e4 e5 e6 = absurd (omega arith)
-sum_seven (a ∷ []) paddedPulses i s0 s1 s2 s3 s4 s5 s6 l h e0 e1 e2 e3 e4 e5 e6 = absurd (omega arith)
-sum_seven (a ∷ b ∷ []) paddedPulses i s0 s1 s2 s3 s4 s5 s6 l h e0 e1 e2 e3 e4 e5 e6 = absurd (omega arith)
-sum_seven (a ∷ b ∷ c ∷ []) paddedPulses i s0 s1 s2 s3 s4 s5 s6 l h e0 e1 e2 e3 e4 e5 e6 = absurd (omega arith)
-sum_seven (a ∷ b ∷ c ∷ d ∷ []) paddedPulses i s0 s1 s2 s3 s4 s5 s6 l h e0 e1 e2 e3 e4 e5 e6 = absurd (omega arith)
-sum_seven (a ∷ b ∷ c ∷ d ∷ e ∷ []) paddedPulses i s0 s1 s2 s3 s4 s5 s6 l h e0 e1 e2 e3 e4 e5 e6 = absurd (omega arith)
-sum_seven (a ∷ b ∷ c ∷ d ∷ e ∷ f ∷ []) paddedPulses i s0 s1 s2 s3 s4 s5 s6 l h e0 e1 e2 e3 e4 e5 e6 = absurd (omega arith)
-sum_seven (a ∷ b ∷ c ∷ d ∷ e ∷ f ∷ g ∷ x ∷ l) paddedPulses i s0 s1 s2 s3 s4 s5 s6 n h e0 e1 e2 e3 e4 e5 e6 = absurd (omega arith)
-sum_seven (a ∷ b ∷ c ∷ d ∷ e ∷ f ∷ g ∷ []) paddedPulses i s0 s1 s2 s3 s4 s5 s6 l h e0 e1 e2 e3 e4 e5 e6 =
+sum_seven [] padded_pulses i s0 s1 s2 s3 s4 s5 s6 l h e0 e1 e2 e3 e4 e5 e6 = absurd (omega arith)
+sum_seven (a ∷ []) padded_pulses i s0 s1 s2 s3 s4 s5 s6 l h e0 e1 e2 e3 e4 e5 e6 = absurd (omega arith)
+sum_seven (a ∷ b ∷ []) padded_pulses i s0 s1 s2 s3 s4 s5 s6 l h e0 e1 e2 e3 e4 e5 e6 = absurd (omega arith)
+sum_seven (a ∷ b ∷ c ∷ []) padded_pulses i s0 s1 s2 s3 s4 s5 s6 l h e0 e1 e2 e3 e4 e5 e6 = absurd (omega arith)
+sum_seven (a ∷ b ∷ c ∷ d ∷ []) padded_pulses i s0 s1 s2 s3 s4 s5 s6 l h e0 e1 e2 e3 e4 e5 e6 = absurd (omega arith)
+sum_seven (a ∷ b ∷ c ∷ d ∷ e ∷ []) padded_pulses i s0 s1 s2 s3 s4 s5 s6 l h e0 e1 e2 e3 e4 e5 e6 = absurd (omega arith)
+sum_seven (a ∷ b ∷ c ∷ d ∷ e ∷ f ∷ []) padded_pulses i s0 s1 s2 s3 s4 s5 s6 l h e0 e1 e2 e3 e4 e5 e6 = absurd (omega arith)
+sum_seven (a ∷ b ∷ c ∷ d ∷ e ∷ f ∷ g ∷ x ∷ l) padded_pulses i s0 s1 s2 s3 s4 s5 s6 n h e0 e1 e2 e3 e4 e5 e6 = absurd (omega arith)
+sum_seven (a ∷ b ∷ c ∷ d ∷ e ∷ f ∷ g ∷ []) padded_pulses i s0 s1 s2 s3 s4 s5 s6 l h e0 e1 e2 e3 e4 e5 e6 =
     rw (e6, e5, e4, e3, e2, e1, e0) (sym (rw (lt-ltb i 246 h) (rw (sub-zero (i + 6), place i 5 1, place i 4 2, place i 3 3, place i 2 4, place i 1 5, place_0 i))))

@@ -9,5 +9,5 @@ pad_pulses pulses = replicate reach false ++ (pulses ++ replicate (longest_index
 
 -- the sum over padded pulses, tap k meeting position index + 6 - k. It is `pulse_sum` of up to 240 pulses: see proofs/PaddedSum.antt
 unfoldable pub padded_sum : List Float → List Bool → ℕ → Float
-padded_sum taps paddedPulses index =
-    cond (nat_lt index longest_index) (sum_where (λ k. slice_index_or paddedPulses (index + reach - k) false) taps 0 (from_bits binary32 0)) (from_bits binary32 0)
+padded_sum taps padded_pulses index =
+    cond (nat_lt index longest_index) (sum_where (λ k. slice_index_or padded_pulses (index + reach - k) false) taps 0 (from_bits binary32 0)) (from_bits binary32 0)

@@ -33,5 +33,5 @@ filter_clock_error ModeAc e = sub binary64 (mul binary64 mode_ac_ratio (add bina
 
 -- how far the first sample lies past the unrounded start, times (1 + the filter's clock error)
 unfoldable pub clock_phase : Float → Float → Float → Float → Float
-clock_phase time delay e filterError =
-    mul binary64 (sub binary64 (of_int binary64 (start_of time delay e)) (unrounded_start time delay e)) (add binary64 one filterError)
+clock_phase time delay e filter_error =
+    mul binary64 (sub binary64 (of_int binary64 (start_of time delay e)) (unrounded_start time delay e)) (add binary64 one filter_error)

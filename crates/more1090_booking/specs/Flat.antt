@@ -5,7 +5,7 @@ use Rattle.std.specs.Float.Ieee.{of_bits}
 use Rattle.refusals.specs.Answer.{Answer, accepted, refused}
 use Rattle.refusals.specs.Number.{number_of}
 use Rattle.refusal_values.specs.Flat.{values_flat}
-use Rattle.run_booking_walk.specs.Walk.{End, atDraw, ranOut}
+use Rattle.run_booking_walk.specs.Walk.{End, at_draw, ran_out}
 use Rattle.run_booking.specs.Booking.{Figures}
 use Rattle.more1090_booking.specs.declared.FlatBooking.{FlatBooking}
 
@@ -14,9 +14,9 @@ zero64 = of_bits binary64 0
 
 -- ended is 1 where a draw ends the run, with its index, and 0 where draws ran out, with their time
 unfoldable pub ended_flat : Figures Float → End Float → FlatBooking
-ended_flat f (atDraw k) =
+ended_flat f (at_draw k) =
     record { samples = f.samples; noise = f.noise; records = f.records; taken = f.taken; ended = 1; draw = k; time = zero64; refusal = 0; value = 0; field = 0 }
-ended_flat f (ranOut t) =
+ended_flat f (ran_out t) =
     record { samples = f.samples; noise = f.noise; records = f.records; taken = f.taken; ended = 0; draw = 0; time = t; refusal = 0; value = 0; field = 0 }
 
 -- a refusal has no figures

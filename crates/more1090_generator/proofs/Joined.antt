@@ -17,7 +17,7 @@ use Rattle.run_call.specs.declared.Counts.{Counts}
 use Rattle.run_call.specs.declared.Answer as Answer
 use Rattle.run_call.specs.declared.Ran.{Ran}
 use Rattle.run_call.specs.Buffers.{Left}
-use Rattle.run_call.specs.Given.{stopNumber}
+use Rattle.run_call.specs.Given.{stop_number}
 use Rattle.run_call.specs.CallModel.{run_left}
 use Rattle.more1090_generator.specs.declared.FlatDistribution.{FlatDistribution}
 use Rattle.more1090_generator.specs.declared.FlatState.{FlatState}
@@ -49,7 +49,7 @@ unfolding opened opened_flat
 opened_refused o q p f a n b v d = (λ i. opened (a i) (b i) (d i).value) ∙ sym (ap opened_flat p)
 
 module _ (counts : Counts) (answer : Answer.Answer) where
-  pub answered_stopped : (w : Stop) → answer ≡ Answer.TheVariants.Stopped w → (n : ℕ) → n ≡ stopNumber w → (r : FlatAnswer) → r ≡ flat_answer counts n 0 0 0 → r ≡ answered counts answer
+  pub answered_stopped : (w : Stop) → answer ≡ Answer.TheVariants.Stopped w → (n : ℕ) → n ≡ stop_number w → (r : FlatAnswer) → r ≡ flat_answer counts n 0 0 0 → r ≡ answered counts answer
   unfolding answered
   answered_stopped w p n a r e = e ∙ ap (λ x. flat_answer counts x 0 0 0) a ∙ sym (ap (answered counts) p)
 

@@ -7,7 +7,7 @@ use Rattle.run_call.specs.declared.Counts.{Counts}
 use Rattle.run_call.specs.declared.Answer as Answer
 use Rattle.run_call.specs.declared.Ran.{Ran}
 use Rattle.run_call.specs.Buffers.{Left, CallBuffers}
-use Rattle.run_call.specs.Given.{stopNumber}
+use Rattle.run_call.specs.Given.{stop_number}
 use Rattle.run_call.specs.CallModel.{run_left}
 use Rattle.more1090_generator.specs.declared.FlatState.{FlatState}
 use Rattle.more1090_generator.specs.declared.FlatOpened.{FlatOpened}
@@ -26,7 +26,7 @@ flat_answer n stop refusal value field = record { taken = n.taken; samples = n.s
 
 -- refusal 0 is none; stop 5 is none
 unfoldable pub answered : Counts → Answer.Answer → FlatAnswer
-answered n (Answer.TheVariants.Stopped w) = flat_answer n (stopNumber w) 0 0 0
+answered n (Answer.TheVariants.Stopped w) = flat_answer n (stop_number w) 0 0 0
 answered n (Answer.TheVariants.Refused q) = flat_answer n 5 (number_of q) (values_flat q).value (values_flat q).field
 
 unfoldable pub ran_flat : Ran → FlatRan

@@ -5,7 +5,7 @@ ghost use Rattle.std.specs.Prelude.{◌≡◌, cond};
 ghost use Rattle.constants.specs.Rate.{four};
 ghost use Rattle.run_open_checks.specs.Opening.{opened_of, left_by};
 ghost use Rattle.more1090_generator.specs.States.{carrier_flat, phase_flat, clock_flat, carrier_from, phase_from, clock_from, flat_of, state_from, no_state};
-ghost use Rattle.run_call.specs.Given.{stopNumber};
+ghost use Rattle.run_call.specs.Given.{stop_number};
 ghost use Rattle.more1090_generator.specs.Answers.{opened_flat, answered, ran_flat, flat_run_left};
 
 use distributions::{CarrierOffset, CarrierPhase, ClockError};
@@ -309,7 +309,7 @@ fn opened_out(o: Opened) -> FlatOpened
 }
 
 fn stop_number(w: Stop) -> u64
-    ensures { result ≡ stopNumber w }
+    ensures { result ≡ stop_number w }
 {
     match w {
         Stop::Done => 0,

@@ -20,7 +20,7 @@ use Rattle.run_call_checks.specs.ChecksModel.{fault_read}
 use Rattle.run_call_checks.proofs.Draws.{fault_same}
 use Rattle.run_call.specs.declared.State.{State}
 use Rattle.run_call.specs.StateGenerator.{gen_of}
-use Rattle.run_call.specs.Given.{refusalGiven}
+use Rattle.run_call.specs.Given.{refusal_given}
 use Rattle.run_open_checks.specs.declared.Opened as Opened
 use Rattle.run_booking_walk.specs.declared.Walked.{Walked}
 use Rattle.run_booking_walk.specs.Walk as Walk
@@ -47,7 +47,7 @@ module _ (s : State) (mode_s mode_ac : List Float) (time : Float) (draws : List 
     answer o q = ap (λ (x : Option Bench.Refusal). unless (given x) (figures_of G time (Bench.draws_of G draws))) (sym q ∙ fault_is)
 
     pub draw_refused : (k field : ℕ) → f ≡ DrawFault.TheVariants.At k field → booked_read (Booked.TheVariants.Refused (Refusal.TheVariants.Draw k field)) ≡ draws_then s mode_s mode_ac time draws
-    unfolding booked_read given unless fault_read refusalGiven
+    unfolding booked_read given unless fault_read refusal_given
     draw_refused k field q = answer (some (Bench.wrong_draw k field)) (ap fault_read q)
 
     pub figures_given : f ≡ DrawFault.TheVariants.None → (w : Walked) → walked_read w ≡ Walk.walk_of (walk_generator s.distributions s.delays s.total) time (Bench.draws_of (walk_generator s.distributions s.delays s.total) draws)

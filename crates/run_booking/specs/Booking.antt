@@ -10,7 +10,7 @@ use Rattle.run_theory.specs.Generator.{Generator}
 use Rattle.run_theory.specs.PlainBench as Bench
 use Rattle.run_call.specs.declared.State.{State}
 use Rattle.run_call.specs.StateGenerator.{gen_of}
-use Rattle.run_call.specs.Given.{refusalGiven}
+use Rattle.run_call.specs.Given.{refusal_given}
 use Rattle.run_open_checks.specs.declared.Opened as Opened
 use Rattle.run_open_checks.specs.Opening.{opened_for}
 use Rattle.run_booking_walk.specs.Walk.{End, walk_of}
@@ -30,7 +30,7 @@ figures_of G t ds = record { samples = G.total; noise = 2 * G.total; records = (
 -- a refusal of the plain bench in the library's words
 unfoldable pub given : Option Bench.Refusal → Option Refusal.Refusal
 given none = none
-given (some q) = some (refusalGiven q)
+given (some q) = some (refusal_given q)
 
 -- of a run: refusal 7 for the first draw at fault, ignored or behind the end draw as it may be; then the figures of its draws, the time before the first one given
 unfoldable pub draws_then : State → List Float → List Float → Float → List ℕ → Answer (Figures Float)

@@ -12,7 +12,7 @@ use Rattle.run_theory.specs.PlainBench.{Refusal, Call, Result, Remaining, remain
 use Rattle.run_theory.proofs.PlainFacts.{length_snoc, replies_append}
 use Rattle.run_theory.proofs.StepFacts.{used_slots, Says, step_says, Takes}
 use Rattle.run_theory.proofs.ListClaim.{draws_taken, samples_written, noise_used, records_written}
-use Rattle.run_booking_walk.specs.Walk.{Walk, by_kind, atDraw, ranOut, walkFrom, walk_of}
+use Rattle.run_booking_walk.specs.Walk.{Walk, by_kind, at_draw, ran_out, walk_from, walk_of}
 use Rattle.run_booking_theorem.proofs.Walked.{walk_on}
 
 module _ (G : Generator) where
@@ -29,7 +29,7 @@ module _ (G : Generator) where
       ∙ one (0 + length ds) (0 + length (replies G t0 ds)) (kind G (after (time_of G t0 ds) d) d)
       ∙ sym (length_snoc ds d ∙ omega arith)
     where
-      one : (k n : ℕ) (x : Kind) → (by_kind x (walkFrom G (suc k) n (after (time_of G t0 ds) d) []) (record { records = n; taken = suc k; end = atDraw k }) (walkFrom G (suc k) (suc n) (after (time_of G t0 ds) d) [])).taken ≡ suc k
+      one : (k n : ℕ) (x : Kind) → (by_kind x (walk_from G (suc k) n (after (time_of G t0 ds) d) []) (record { records = n; taken = suc k; end = at_draw k }) (walk_from G (suc k) (suc n) (after (time_of G t0 ds) d) [])).taken ≡ suc k
       one k n ignored = refl
       one k n ends = refl
       one k n (reply s) = refl

@@ -29,7 +29,7 @@ use Rattle.run_open_checks.proofs.WhatIsOpened.{opened_run_in_range}
 use Rattle.run_theorem.specs.Seen.{Seen, seen_left, counts_of, seen_result}
 use Rattle.run_theorem.specs.OpenedRuns.{Run, Opens, calls, gen, bench_calls, results, bench, draws_taken, ReachesDone, Demand3}
 use Rattle.run_theorem.proofs.Demand3.{opened_runs}
-use Rattle.run_booking_walk.specs.Walk.{Walk, atDraw, walk_of, walkFrom}
+use Rattle.run_booking_walk.specs.Walk.{Walk, at_draw, walk_of, walk_from}
 use Rattle.run_booking.specs.Booking.{Figures, booking_of, figures_of}
 use Rattle.run_booking_theorem.specs.FinishedRuns.{Totals, added, in_all, Follows, Finished, FinishedRuns}
 use Rattle.run_booking_theorem.proofs.Walked.{walk_ends}
@@ -102,12 +102,12 @@ module _ (taps_s taps_ac : List Float) (settings : List ℕ) (given : Opening.Op
     over : ended (gen run) (gen run).t0 (bench run cs).taken ≡ true
     over = ap (λ (l : List RepresentableDraw). ended (gen run) (gen run).t0 l) (sym (D.taken cs)) ∙ (D.whole cs d).0
 
-    found : (last : ℕ) × ((es : List RepresentableDraw) → walkFrom (gen run) 0 0 (gen run).t0 ((bench run cs).taken ++ es) ≡ record { records = 0 + length (replies (gen run) (gen run).t0 (bench run cs).taken); taken = suc last; end = atDraw last })
+    found : (last : ℕ) × ((es : List RepresentableDraw) → walk_from (gen run) 0 0 (gen run).t0 ((bench run cs).taken ++ es) ≡ record { records = 0 + length (replies (gen run) (gen run).t0 (bench run cs).taken); taken = suc last; end = at_draw last })
     found = walk_ends (gen run) 0 0 (gen run).t0 (bench run cs).taken over
 
     all_taken_lem : suc found.0 ≡ length (bench run cs).taken
     all_taken_lem =
-        sym (ap (λ (w : Walk Float). w.taken) (ap (walkFrom (gen run) 0 0 (gen run).t0) (sym (append-nil (bench run cs).taken)) ∙ found.1 []))
+        sym (ap (λ (w : Walk Float). w.taken) (ap (walk_from (gen run) 0 0 (gen run).t0) (sym (append-nil (bench run cs).taken)) ∙ found.1 []))
         ∙ S.all_taken_lem refl
 
     draws_are : Bench.draws_of (gen run) bytes ≡ (bench run cs).taken ++ F.behind
@@ -134,8 +134,8 @@ module _ (taps_s taps_ac : List Float) (settings : List ℕ) (given : Opening.Op
           }));
     }
       where
-        walked : walk_of (gen run) (gen run).t0 (Bench.draws_of (gen run) bytes) ≡ record { records = 0 + length (replies (gen run) (gen run).t0 (bench run cs).taken); taken = suc found.0; end = atDraw found.0 }
-        walked = ap (walkFrom (gen run) 0 0 (gen run).t0) draws_are ∙ found.1 F.behind
+        walked : walk_of (gen run) (gen run).t0 (Bench.draws_of (gen run) bytes) ≡ record { records = 0 + length (replies (gen run) (gen run).t0 (bench run cs).taken); taken = suc found.0; end = at_draw found.0 }
+        walked = ap (walk_from (gen run) 0 0 (gen run).t0) draws_are ∙ found.1 F.behind
 
         samples_are : s.total ≡ (in_all (calls run cs)).samples
         samples_are = sym used_all ∙ sym S.samples ∙ zero-add _ ∙ sym (ap (λ (n : Totals). n.samples) counts_are)

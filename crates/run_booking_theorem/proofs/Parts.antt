@@ -25,7 +25,7 @@ use Rattle.run_generator.specs.Instance.{RepresentableDraw}
 use Rattle.run_call.specs.declared.State.{State}
 use Rattle.run_call.specs.StateGenerator.{filters_of, gen_of}
 use Rattle.run_open_checks.specs.declared.Opened as Opened
-use Rattle.run_booking_walk.specs.Walk.{Walk, End, atDraw, ranOut, by_kind, walkFrom, walk_of}
+use Rattle.run_booking_walk.specs.Walk.{Walk, End, at_draw, ran_out, by_kind, walk_from, walk_of}
 use Rattle.run_booking.specs.Booking.{Figures, figures_of, given, draws_then, opened, opened_then, booking_of}
 use Rattle.run_booking_theorem.specs.Parts.{behind, added, added_to, go_on, and_then, in_parts, WholeDraws, Parts}
 use Rattle.run_booking_theorem.proofs.Walked.{walk_on, walk_out, walk_ends}
@@ -39,31 +39,31 @@ module _ (G : Generator) where
   abbrev moved : ℕ → ℕ → Walk Time → Walk Time
   moved a b w = record { records = b + w.records; taken = a + w.taken; end = behind a w.end }
 
-  pub walk_moved : (a b k n : ℕ) (t : Time) (ds : List Draw) → walkFrom G (a + k) (b + n) t ds ≡ moved a b (walkFrom G k n t ds)
+  pub walk_moved : (a b k n : ℕ) (t : Time) (ds : List Draw) → walk_from G (a + k) (b + n) t ds ≡ moved a b (walk_from G k n t ds)
   walk_moved a b k n t [] = refl
   walk_moved a b k n t (d ∷ ds) = go (kind G (after t d) d) (λ m. walk_moved a b (suc k) m (after t d) ds)
     where
       up : (x y : ℕ) → suc (x + y) ≡ x + suc y
       up x y = omega arith
 
-      go : (x : Kind) → ((m : ℕ) → walkFrom G (a + suc k) (b + m) (after t d) ds ≡ moved a b (walkFrom G (suc k) m (after t d) ds))
-          → by_kind x (walkFrom G (suc (a + k)) (b + n) (after t d) ds) (record { records = b + n; taken = suc (a + k); end = atDraw (a + k) }) (walkFrom G (suc (a + k)) (suc (b + n)) (after t d) ds)
-          ≡ moved a b (by_kind x (walkFrom G (suc k) n (after t d) ds) (record { records = n; taken = suc k; end = atDraw k }) (walkFrom G (suc k) (suc n) (after t d) ds))
-      go ignored ih = ap (λ (m : ℕ). walkFrom G m (b + n) (after t d) ds) (up a k) ∙ ih n
-      go ends ih = λ i. record { records = b + n; taken = up a k i; end = atDraw (a + k) }
-      go (reply s) ih = (λ i. walkFrom G (up a k i) (up b n i) (after t d) ds) ∙ ih (suc n)
+      go : (x : Kind) → ((m : ℕ) → walk_from G (a + suc k) (b + m) (after t d) ds ≡ moved a b (walk_from G (suc k) m (after t d) ds))
+          → by_kind x (walk_from G (suc (a + k)) (b + n) (after t d) ds) (record { records = b + n; taken = suc (a + k); end = at_draw (a + k) }) (walk_from G (suc (a + k)) (suc (b + n)) (after t d) ds)
+          ≡ moved a b (by_kind x (walk_from G (suc k) n (after t d) ds) (record { records = n; taken = suc k; end = at_draw k }) (walk_from G (suc k) (suc n) (after t d) ds))
+      go ignored ih = ap (λ (m : ℕ). walk_from G m (b + n) (after t d) ds) (up a k) ∙ ih n
+      go ends ih = λ i. record { records = b + n; taken = up a k i; end = at_draw (a + k) }
+      go (reply s) ih = (λ i. walk_from G (up a k i) (up b n i) (after t d) ds) ∙ ih (suc n)
 
   -- ---- two parts of draws
   module _ (t : Time) (ds es : List Draw) where
     pub one_part : ended G t ds ≡ true → walk_of G t (ds ++ es) ≡ walk_of G t ds
     one_part e =
         let f = walk_ends G 0 0 t ds e in
-        f.1 es ∙ sym (ap (walkFrom G 0 0 t) (sym (append-nil ds)) ∙ f.1 [])
+        f.1 es ∙ sym (ap (walk_from G 0 0 t) (sym (append-nil ds)) ∙ f.1 [])
 
     pub two_parts : ended G t ds ≡ false → walk_of G t (ds ++ es) ≡ moved (walk_of G t ds).taken (walk_of G t ds).records (walk_of G (time_of G t ds) es)
     two_parts e =
         walk_on G 0 0 t ds es e
-        ∙ (λ i. walkFrom G (same (0 + length ds) i) (same (0 + length (replies G t ds)) i) (time_of G t ds) es)
+        ∙ (λ i. walk_from G (same (0 + length ds) i) (same (0 + length (replies G t ds)) i) (time_of G t ds) es)
         ∙ walk_moved (0 + length ds) (0 + length (replies G t ds)) 0 0 (time_of G t ds) es
         ∙ (λ i. moved (sym (walk_out G 0 0 t ds e) i).taken (sym (walk_out G 0 0 t ds e) i).records (walk_of G (time_of G t ds) es))
       where
@@ -131,7 +131,7 @@ module _ (taps_s taps_ac : List Float) (settings : List ℕ) where
         go : (b : Bool) → ended (H s) t ds ≡ b → go_on (figures_of (H s) t ds) next (walk_of (H s) t ds).end ≡ accepted (figures_of (H s) t (ds ++ es))
         go true e =
             let f = walk_ends (H s) 0 0 t ds e in
-            ap (λ (x : End Float). go_on (figures_of (H s) t ds) next x) (ap (λ (w : Walk Float). w.end) (ap (walkFrom (H s) 0 0 t) (sym (append-nil ds)) ∙ f.1 []))
+            ap (λ (x : End Float). go_on (figures_of (H s) t ds) next x) (ap (λ (w : Walk Float). w.end) (ap (walk_from (H s) 0 0 t) (sym (append-nil ds)) ∙ f.1 []))
             ∙ ap (λ (w : Walk Float). accepted (figured w)) (sym (one_part (H s) t ds es e))
         go false e =
             ap (λ (x : End Float). go_on (figures_of (H s) t ds) next x) (ap (λ (w : Walk Float). w.end) (walk_out (H s) 0 0 t ds e))

@@ -7,7 +7,7 @@ use native.Mathlib.Nat.{zero-add}
 use lib.ListN.{length, length-map}
 use Rattle.run_theory.specs.Generator.{Generator}
 use Rattle.run_theory.specs.PlainRun.{Reply, ended, replies, plain_records}
-use Rattle.run_booking_walk.specs.Walk.{Walk, walk_of, walkFrom}
+use Rattle.run_booking_walk.specs.Walk.{Walk, walk_of, walk_from}
 use Rattle.run_booking_theorem.specs.PlainWalk.{EndIs, PlainWalk}
 use Rattle.run_booking_theorem.proofs.Walked.{walk_out, walk_ends}
 
@@ -29,7 +29,7 @@ module _ (G : Generator) where
           }
       go true e =
           let f = walk_ends G 0 0 t0 ds e in
-          let w : walk_of G t0 ds ≡ _ = ap (walkFrom G 0 0 t0) (sym (append-nil ds)) ∙ f.1 [] in
+          let w : walk_of G t0 ds ≡ _ = ap (walk_from G 0 0 t0) (sym (append-nil ds)) ∙ f.1 [] in
           record {
             records = ap (λ (x : Walk Time). x.records) w ∙ lines;
             end = subst (λ (x : Walk Time). EndIs G ds x.taken x.end) (sym w) (e, refl);

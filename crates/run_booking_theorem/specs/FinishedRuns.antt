@@ -10,7 +10,7 @@ use Rattle.run_call.specs.declared.Counts.{Counts}
 use Rattle.run_call.specs.Buffers.{Left, CallBuffers}
 use Rattle.run_open_checks.specs.Opening as Opening
 use Rattle.run_theorem.specs.OpenedRuns.{Run, Opens, calls, gen, draws_taken, ReachesDone}
-use Rattle.run_booking_walk.specs.Walk.{atDraw}
+use Rattle.run_booking_walk.specs.Walk.{at_draw}
 use Rattle.run_booking.specs.Booking.{booking_of}
 
 -- draws taken, samples written, noise values used and records written by a list of calls in all
@@ -41,7 +41,7 @@ pub record Finished (taps_s taps_ac : List Float) (settings : List ℕ) (r : Run
   pub taken : (in_all (calls r cs)).taken ≡ suc last
   pub booked :
       booking_of taps_s taps_ac nought settings bytes
-      ≡ accepted (record { samples = (in_all (calls r cs)).samples; noise = (in_all (calls r cs)).noise; records = (in_all (calls r cs)).records; taken = suc last; end = atDraw last })
+      ≡ accepted (record { samples = (in_all (calls r cs)).samples; noise = (in_all (calls r cs)).noise; records = (in_all (calls r cs)).records; taken = suc last; end = at_draw last })
 
 abbrev pub FinishedRuns : Type 0
 FinishedRuns = (taps_s taps_ac : List Float) (settings : List ℕ) (given : Opening.OpenBuffers) (r : Run) → Opens taps_s taps_ac settings given r

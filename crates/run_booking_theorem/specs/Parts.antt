@@ -4,13 +4,13 @@ use Rattle.refusals.specs.Answer.{Answer, accepted, refused}
 use Rattle.draw.specs.Draw.{draw_length}
 use Rattle.run_theory.specs.Each.{Each}
 use Rattle.run_theory.specs.PlainBench.{join}
-use Rattle.run_booking_walk.specs.Walk.{End, atDraw, ranOut}
+use Rattle.run_booking_walk.specs.Walk.{End, at_draw, ran_out}
 use Rattle.run_booking.specs.Booking.{Figures, booking_of}
 
 -- an index of a draw counted from n draws earlier
 abbrev pub behind : {Time : Type 0} → ℕ → End Time → End Time
-behind n (atDraw k) = atDraw (n + k)
-behind n (ranOut t) = ranOut t
+behind n (at_draw k) = at_draw (n + k)
+behind n (ran_out t) = ran_out t
 
 -- records and draws taken added; samples and noise values are the run's in each part
 abbrev pub added : Figures Float → Figures Float → Figures Float
@@ -22,8 +22,8 @@ added_to f (refused q) = refused q
 
 -- a part, and what is asked behind it: nothing once a draw ends the run
 abbrev pub go_on : Figures Float → (Float → Answer (Figures Float)) → End Float → Answer (Figures Float)
-go_on f next (atDraw k) = accepted f
-go_on f next (ranOut t) = added_to f (next t)
+go_on f next (at_draw k) = accepted f
+go_on f next (ran_out t) = added_to f (next t)
 
 abbrev pub and_then : Answer (Figures Float) → (Float → Answer (Figures Float)) → Answer (Figures Float)
 and_then (accepted f) next = go_on f next f.end

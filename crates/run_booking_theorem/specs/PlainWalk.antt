@@ -2,15 +2,15 @@
 use Rattle.std.specs.Prelude.{ℕ, suc, true, false, List, ◌≡◌, length}
 use Rattle.run_theory.specs.Generator.{Generator}
 use Rattle.run_theory.specs.PlainRun.{time_of, ended, plain_records}
-use Rattle.run_booking_walk.specs.Walk.{End, atDraw, ranOut, walk_of}
+use Rattle.run_booking_walk.specs.Walk.{End, at_draw, ran_out, walk_of}
 
 module _ (G : Generator) where
   open G use {Draw, Time, t0}
 
   -- where a walk ends
   abbrev pub EndIs : List Draw → ℕ → End Time → Type 0
-  EndIs ds taken (atDraw k) = (ended G t0 ds ≡ true) × (taken ≡ suc k)
-  EndIs ds taken (ranOut t) = (ended G t0 ds ≡ false) × (taken ≡ length ds) × (t ≡ time_of G t0 ds)
+  EndIs ds taken (at_draw k) = (ended G t0 ds ≡ true) × (taken ≡ suc k)
+  EndIs ds taken (ran_out t) = (ended G t0 ds ≡ false) × (taken ≡ length ds) × (t ≡ time_of G t0 ds)
 
   pub record PlainWalk (ds : List Draw) : Type 0 where
     pub records : (walk_of G t0 ds).records ≡ length (plain_records G ds)

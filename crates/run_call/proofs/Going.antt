@@ -20,10 +20,10 @@ use Rattle.run_call.specs.StepModel.{Inside, progress_read, rest_after, Went, St
 use Rattle.run_call.specs.StateGenerator.{gen_of}
 use Rattle.run_call.specs.Buffers.{Left}
 use Rattle.run_call.specs.CallModel.{initial_by, ran_by, left_by, call_left}
-use Rattle.run_call.specs.Given.{stopGiven}
+use Rattle.run_call.specs.Given.{stop_given}
 
-given_read : (w : Stop.Stop) → stopGiven (stop_read w) ≡ w
-unfolding stopGiven stop_read
+given_read : (w : Stop.Stop) → stop_given (stop_read w) ≡ w
+unfolding stop_given stop_read
 given_read Stop.TheVariants.Done = refl
 given_read Stop.TheVariants.OutputFull = refl
 given_read Stop.TheVariants.WantsNoise = refl

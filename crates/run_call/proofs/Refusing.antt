@@ -20,7 +20,7 @@ use Rattle.run_call.specs.Buffers.{Left}
 use Rattle.run_call.specs.CallModel.{call_left, refused_by, run_by, call_refusal, run_left}
 use Rattle.run_call_checks.specs.Checks.{wrong_memory}
 use Rattle.run_call_checks.specs.ChecksModel.{wrong_buffers, fault_read}
-use Rattle.run_call.specs.Given.{refusalGiven}
+use Rattle.run_call.specs.Given.{refusal_given}
 
 -- ---- refusal 9
 module _ {X : Type 0} (q : X) (x : Option X) where
@@ -54,14 +54,14 @@ module _ (s : State) (mode_s mode_ac memory : List Float) (draws : List ℕ) (no
   abbrev after_lengths : Option Bench.Refusal
   after_lengths = Bench.or_else (gen_of s mode_s mode_ac) asks (Bench.first_out_of_range (gen_of s mode_s mode_ac) 0 noise)
 
-  refused_with_lem : (q : Bench.Refusal) (x : Ran) → call_refusal s mode_s mode_ac memory draws noise output records ≡ some q → x ≡ refused_by s (refusalGiven q) → Same x
+  refused_with_lem : (q : Bench.Refusal) (x : Ran) → call_refusal s mode_s mode_ac memory draws noise output records ≡ some q → x ≡ refused_by s (refusal_given q) → Same x
   unfolding run_left
   refused_with_lem q x e k =
       (λ i. record { ran = k i; memory = memory; output = output; records = records })
       ∙ sym (ap (λ (o : Option Bench.Refusal). run_by s memory output records (call_left s mode_s mode_ac memory draws noise output records) o) e)
 
   pub buffers_refused : (wrong_memory (length memory) (length mode_s) (length mode_ac) || wrong_buffers (length output) (length draws)) ≡ true → (x : Ran) → x ≡ refused_by s Refusal.TheVariants.Length → Same x
-  unfolding refusalGiven
+  unfolding refusal_given
   buffers_refused e x k = refused_with_lem Bench.wrong_length x (first_of Bench.wrong_length after_lengths (wrong_memory (length memory) (length mode_s) (length mode_ac)) (wrong_buffers (length output) (length draws)) e) k
 
   module _ (lengths : (wrong_memory (length memory) (length mode_s) (length mode_ac) || wrong_buffers (length output) (length draws)) ≡ false) (f : DrawFault.DrawFault) (drawn : fault_read f ≡ asks) where
@@ -71,7 +71,7 @@ module _ (s : State) (mode_s mode_ac memory : List Float) (draws : List ℕ) (no
         ∙ ap (λ (o : Option Bench.Refusal). Bench.or_else G o (Bench.first_out_of_range G 0 noise)) (sym drawn)
 
     pub draw_refused : (k n : ℕ) → f ≡ DrawFault.TheVariants.At k n → (x : Ran) → x ≡ refused_by s (Refusal.TheVariants.Draw k n) → Same x
-    unfolding fault_read refusalGiven
+    unfolding fault_read refusal_given
     draw_refused k n e x r = refused_with_lem (Bench.wrong_draw k n) x (is ∙ ap (λ (y : DrawFault.DrawFault). Bench.or_else G (fault_read y) (Bench.first_out_of_range G 0 noise)) e) r
 
     module _ (clean : f ≡ DrawFault.TheVariants.None) (l : NoiseFault.NoiseFault) (heard : noise_fault_read l ≡ out_of_range_from 0 noise) where
@@ -80,7 +80,7 @@ module _ (s : State) (mode_s mode_ac memory : List Float) (draws : List ℕ) (no
       then_noise = is ∙ ap (λ (y : DrawFault.DrawFault). Bench.or_else G (fault_read y) (Bench.first_out_of_range G 0 noise)) clean ∙ sym (heard ∙ out_of_range_same noise 0)
 
       pub noise_refused : (p : ℕ) → l ≡ NoiseFault.TheVariants.At p → (x : Ran) → x ≡ refused_by s (Refusal.TheVariants.Noise p) → Same x
-      unfolding noise_fault_read refusalGiven
+      unfolding noise_fault_read refusal_given
       noise_refused p e x r = refused_with_lem (Bench.wrong_noise p) x (then_noise ∙ ap noise_fault_read e) r
 
       pub not_refused : l ≡ NoiseFault.TheVariants.None → (left : Left) → left ≡ call_left s mode_s mode_ac memory draws noise output records → left ≡ run_left s mode_s mode_ac memory draws noise output records

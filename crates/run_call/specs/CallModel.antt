@@ -11,7 +11,7 @@ use Rattle.run_steps.specs.ProgressModel.{added_of}
 use Rattle.run_call.specs.declared.Answer as Answer
 use Rattle.run_call.specs.declared.Ran.{Ran}
 use Rattle.run_call.specs.StateGenerator.{gen_of}
-use Rattle.run_call.specs.Given.{stopGiven, refusalGiven}
+use Rattle.run_call.specs.Given.{stop_given, refusal_given}
 use Rattle.run_call.specs.Buffers.{Left}
 use Rattle.std.proofs.Math.Option.{Option, none, some}
 use Rattle.run_theory.specs.PlainBench as Bench
@@ -37,7 +37,7 @@ module _ (s : State) (mode_s mode_ac : List Float) where
     ran = record {
       state = record { written = e.state.written; total = s.total; time = e.state.time; latest = e.state.mark; ended = e.state.over; rates = s.rates; delays = s.delays; distributions = s.distributions };
       counts = record { taken = e.taken; samples = e.samples; noise = 2 * e.samples; records = e.lines; added_high = high_half e.added; added_low = low_half e.added };
-      answer = Answer.TheVariants.Stopped (stopGiven e.stop);
+      answer = Answer.TheVariants.Stopped (stop_given e.stop);
     };
     memory = e.state.memory;
     output = e.output;
@@ -57,7 +57,7 @@ refused_by s q = record { state = s; counts = record { taken = 0; samples = 0; n
 -- a refusal changes neither state nor any buffer
 abbrev pub run_by : State → List Float → List Float → List ℕ → Left → Option Bench.Refusal → Left
 run_by s memory output records left none = left
-run_by s memory output records left (some q) = record { ran = refused_by s (refusalGiven q); memory = memory; output = output; records = records }
+run_by s memory output records left (some q) = record { ran = refused_by s (refusal_given q); memory = memory; output = output; records = records }
 
 module _ (s : State) (mode_s mode_ac memory : List Float) (draws : List ℕ) (noise output : List Float) (records : List ℕ) where
   -- 9, then every draw, then every noise value (SPECIFICATION 3.2)

@@ -7,10 +7,10 @@ use Rattle.refusals.specs.declared.Refusal as Refusal
 -- a stop of the theory, as the code answers it
 unfoldable pub stop_given : Bench.Stop → Stop.Stop
 stop_given Bench.done = Stop.TheVariants.Done
-stop_given Bench.outputFull = Stop.TheVariants.OutputFull
-stop_given Bench.wantsNoise = Stop.TheVariants.WantsNoise
-stop_given Bench.wantsDraws = Stop.TheVariants.WantsDraws
-stop_given Bench.recordsFull = Stop.TheVariants.RecordsFull
+stop_given Bench.output_full = Stop.TheVariants.OutputFull
+stop_given Bench.wants_noise = Stop.TheVariants.WantsNoise
+stop_given Bench.wants_draws = Stop.TheVariants.WantsDraws
+stop_given Bench.records_full = Stop.TheVariants.RecordsFull
 
 -- the code's stops, numbered as in SPECIFICATION 9.2, as the plain bench's are
 unfoldable pub stop_number : Stop.Stop → ℕ

@@ -8,7 +8,7 @@ use native.Mathlib.Omega.{arith}
 use lib.ListN.{length, drop}
 use Rattle.run_theory.specs.Generator.{Generator}
 use Rattle.run_theory.specs.PlainRun.{Kind, ignored, ends, reply}
-use Rattle.run_theory.specs.PlainBench.{Stop, wantsDraws, Call, result_of}
+use Rattle.run_theory.specs.PlainBench.{Stop, wants_draws, Call, result_of}
 use Rattle.run_call_model.specs.Machine.{later, State, machine_call}
 use Rattle.run_call_model.specs.Buffers.{overwritten}
 use Rattle.run_call_model.specs.Progress.{Progress, Ended, initial_progress, stopped, rest_of, Within, step_fuel}
@@ -40,7 +40,7 @@ module _ (G : Generator) (o : G.Value) (noise : List G.Value) where
   progress_by go t (add_reply time s) = go (next_progress t (add_reply time s))
 
   unfoldable pub batched_steps : ℕ → Progress G o → Ended G o
-  batched_steps zero t = stopped G o t wantsDraws
+  batched_steps zero t = stopped G o t wants_draws
   batched_steps (suc f) t = progress_by (λ t'. batched_steps f t') t (plan_of G o noise t)
 
   module _ (draw-pos : 0 < draw_bytes) (record-pos : 0 < record_bytes) (line_length : (t : Time) (d : Draw) (s n : ℕ) → length (entry t d s n) ≡ record_bytes) where

@@ -12,7 +12,7 @@ use Rattle.run_theory.specs.Generator.{Generator, Sample, NoisePair}
 use Rattle.run_theory.specs.PlainRun.{Reply, time_of, ended, replies, samples_from, plain_samples, plain_records, plain_counts, plain_added}
 use Rattle.run_theory.specs.Added.{sum_of}
 use Rattle.run_theory.specs.Each.{Each}
-use Rattle.run_theory.specs.PlainBench.{Stop, done, outputFull, wantsNoise, wantsDraws, recordsFull, Refusal, pairs, flatten, join, over, Call, Result, draws_of, refusal_of, Remaining, remaining_of, Bench, Benched, bench0, bench_steps, fuel, counts, Given, result_of, bench_call, bench_results, bench_after}
+use Rattle.run_theory.specs.PlainBench.{Stop, done, output_full, wants_noise, wants_draws, records_full, Refusal, pairs, flatten, join, over, Call, Result, draws_of, refusal_of, Remaining, remaining_of, Bench, Benched, bench0, bench_steps, fuel, counts, Given, result_of, bench_call, bench_results, bench_after}
 use Rattle.run_theory.specs.Laws.{Laws, Accepted}
 use Rattle.run_theory.specs.Demand3.{Prefix, bench, plain_output, plain_lines}
 use Rattle.run_call_model.specs.Machine.{State, Ran, opened, machine_steps, machine_call, machine_results, machine_after, runs}
@@ -28,10 +28,10 @@ use Rattle.run_theory.proofs.Reach.{all_recorded, all_reach}
 
 is_done_eq : (s : Stop) → is_done s ≡ true → s ≡ done
 is_done_eq done e = refl
-is_done_eq outputFull e = absurd (false≢true e)
-is_done_eq wantsNoise e = absurd (false≢true e)
-is_done_eq wantsDraws e = absurd (false≢true e)
-is_done_eq recordsFull e = absurd (false≢true e)
+is_done_eq output_full e = absurd (false≢true e)
+is_done_eq wants_noise e = absurd (false≢true e)
+is_done_eq wants_draws e = absurd (false≢true e)
+is_done_eq records_full e = absurd (false≢true e)
 
 new_part : {X : Type 0} (xs ys zs : List X) → xs ++ ys ≡ zs → ys ≡ drop (length xs) zs
 new_part xs ys zs e = sym (drop_at xs ys (length xs) refl) ∙ ap (λ (l : List _). drop (length xs) l) e

@@ -11,7 +11,7 @@ use lib.ListN.{length}
 use borrow.Author.Tests.{eqb-true, eqb-false, leb-true, leb-false, ltb-true, ltb-false, eq-eqb, ne_eqb, le-leb, lt-leb, lt-ltb, le-ltb}
 use Rattle.run_theory.specs.Generator.{Generator, from}
 use Rattle.run_theory.specs.PlainRun.{Kind, ignored, ends, reply, kind_of}
-use Rattle.run_theory.specs.PlainBench.{done, outputFull, wantsNoise, wantsDraws, recordsFull}
+use Rattle.run_theory.specs.PlainBench.{done, output_full, wants_noise, wants_draws, records_full}
 use Rattle.run_call_model.specs.Machine.{later}
 use Rattle.run_call_model.specs.Buffers.{overwritten}
 use Rattle.run_call_model.specs.Progress.{Progress, Ended, stopped, rest_of, Within}
@@ -38,7 +38,7 @@ module _ (G : Generator) where
   pub reply_due : (n : ℕ) (time : Time) (s room noise bytes : ℕ) → 0 < n → plan_reply G n time s room noise bytes ≡ some_or (λ k. due_many k time) (batch n room noise) room
   reply_due n time s room noise bytes h = rw (lt-ltb 0 n h)
 
-  pub reply_full : (n : ℕ) (time : Time) (s room noise bytes : ℕ) → n ≤ 0 → bytes < record_bytes → plan_reply G n time s room noise bytes ≡ stop_at recordsFull
+  pub reply_full : (n : ℕ) (time : Time) (s room noise bytes : ℕ) → n ≤ 0 → bytes < record_bytes → plan_reply G n time s room noise bytes ≡ stop_at records_full
   reply_full n time s room noise bytes h b = rw (le-ltb 0 n h, lt-ltb bytes record_bytes b)
 
   pub reply_added : (n : ℕ) (time : Time) (s room noise bytes : ℕ) → n ≤ 0 → record_bytes ≤ bytes → plan_reply G n time s room noise bytes ≡ add_reply time s
@@ -50,7 +50,7 @@ module _ (G : Generator) where
   pub start_replies : (s : ℕ) → s + limit < total → kind_of G (from s) ≡ reply s
   start_replies s h = rw (lt-leb total (s + limit) h)
 
-  pub wants_draws : (written rest : ℕ) (time : Time) (k : Kind) (room noise bytes : ℕ) → rest < draw_bytes → plan G false written rest time k room noise bytes ≡ stop_at wantsDraws
+  pub wants_draws : (written rest : ℕ) (time : Time) (k : Kind) (room noise bytes : ℕ) → rest < draw_bytes → plan G false written rest time k room noise bytes ≡ stop_at wants_draws
   wants_draws written rest time k room noise bytes h = rw (lt-ltb rest draw_bytes h)
 
   pub has_draw : (written rest : ℕ) (time : Time) (k : Kind) (room noise bytes : ℕ) → draw_bytes ≤ rest → plan G false written rest time k room noise bytes ≡ plan_draw G written time k room noise bytes
@@ -98,7 +98,7 @@ module _ (G : Generator) (o : G.Value) (noise : List G.Value) where
       → PlanSays t (some_or f (batch n (length t.output - 2 * t.samples) (length noise - 2 * t.samples)) (length t.output - 2 * t.samples))
   some_or_lem t f n m w pos d h = go (eqb (batch n (length t.output - 2 * t.samples) (length noise - 2 * t.samples)) 0) refl
     where
-      stops : (x : Bool) → ltb (length t.output - 2 * t.samples) 2 ≡ x → batch n (length t.output - 2 * t.samples) (length noise - 2 * t.samples) ≡ 0 → rest_of G o noise t ≡ stopped G o t (cond x outputFull wantsNoise)
+      stops : (x : Bool) → ltb (length t.output - 2 * t.samples) 2 ≡ x → batch n (length t.output - 2 * t.samples) (length noise - 2 * t.samples) ≡ 0 → rest_of G o noise t ≡ stopped G o t (cond x output_full wants_noise)
       stops true e z = step_output_full G o noise t m (d 1 pos) (omega (arith, ltb-true (length t.output - 2 * t.samples) 2 e, w.output_in))
       stops false e z =
           step_wants_noise G o noise t m (d 1 pos)
@@ -138,7 +138,7 @@ module _ (G : Generator) (o : G.Value) (noise : List G.Value) where
         → PlanSays t (plan_reply G n (next_time G o noise t) s (length t.output - 2 * t.samples) (length noise - 2 * t.samples) (length t.records - record_bytes * t.lines))
     reply_says t s w k n e = on (ltb 0 n) refl
       where
-        full : (x : Bool) → ltb (length t.records - record_bytes * t.lines) record_bytes ≡ x → s ≤ t.state.written + hold → PlanSays t (cond x (stop_at recordsFull) (add_reply (next_time G o noise t) s))
+        full : (x : Bool) → ltb (length t.records - record_bytes * t.lines) record_bytes ≡ x → s ≤ t.state.written + hold → PlanSays t (cond x (stop_at records_full) (add_reply (next_time G o noise t) s))
         full true p near =
             step_records_full G o noise t k.going draw-pos k.bytes s k.is near record-pos
             (omega (arith, ltb-true (length t.records - record_bytes * t.lines) record_bytes p, w.records_in_lem, mul-add record_bytes t.lines 1))
@@ -149,7 +149,7 @@ module _ (G : Generator) (o : G.Value) (noise : List G.Value) where
         }
 
         on : (x : Bool) → ltb 0 n ≡ x
-            → PlanSays t (cond x (some_or (λ j. due_many j (next_time G o noise t)) (batch n (length t.output - 2 * t.samples) (length noise - 2 * t.samples)) (length t.output - 2 * t.samples)) (cond (ltb (length t.records - record_bytes * t.lines) record_bytes) (stop_at recordsFull) (add_reply (next_time G o noise t) s)))
+            → PlanSays t (cond x (some_or (λ j. due_many j (next_time G o noise t)) (batch n (length t.output - 2 * t.samples) (length noise - 2 * t.samples)) (length t.output - 2 * t.samples)) (cond (ltb (length t.records - record_bytes * t.lines) record_bytes) (stop_at records_full) (add_reply (next_time G o noise t) s)))
         on false p = full (ltb (length t.records - record_bytes * t.lines) record_bytes) refl (omega (arith, ltb-false 0 n p))
         on true p =
             some_or_lem t (λ j. due_many j (next_time G o noise t)) n (later G t.state.mark (next_time G o noise t)) w (ltb-true 0 n p)
@@ -175,7 +175,7 @@ module _ (G : Generator) (o : G.Value) (noise : List G.Value) where
     plan_says t w = go t.state.over refl
       where
         drawn : t.state.over ≡ false → (x : Bool) → ltb (length t.rest) draw_bytes ≡ x
-            → PlanSays t (cond x (stop_at wantsDraws) (plan_draw G t.state.written (next_time G o noise t) (next_kind G o noise t) (length t.output - 2 * t.samples) (length noise - 2 * t.samples) (length t.records - record_bytes * t.lines)))
+            → PlanSays t (cond x (stop_at wants_draws) (plan_draw G t.state.written (next_time G o noise t) (next_kind G o noise t) (length t.output - 2 * t.samples) (length noise - 2 * t.samples) (length t.records - record_bytes * t.lines)))
         drawn e true p = step_wants_draws G o noise t e (ltb-true (length t.rest) draw_bytes p)
         drawn e false p = draw_says t w e (ltb-false (length t.rest) draw_bytes p) (next_kind G o noise t) refl
 

@@ -13,7 +13,7 @@ use borrow.Author.Tests.{le-leb, lt-leb, lt-ltb, le-ltb}
 use Rattle.run_theory.specs.Generator.{Generator, Sample, NoisePair}
 use Rattle.run_theory.specs.Added.{sum_of}
 use Rattle.run_theory.specs.PlainRun.{Kind, ignored, ends, reply, kind}
-use Rattle.run_theory.specs.PlainBench.{Stop, done, outputFull, wantsNoise, wantsDraws, recordsFull, Answer, ran, pairs, flatten, join, over, Call, Result, draws_of, Remaining, remaining_of, Step, halt, drain, due, taking, write, step4, step5, due_by, step1, fuel, result_of}
+use Rattle.run_theory.specs.PlainBench.{Stop, done, output_full, wants_noise, wants_draws, records_full, Answer, ran, pairs, flatten, join, over, Call, Result, draws_of, Remaining, remaining_of, Step, halt, drain, due, taking, write, step4, step5, due_by, step1, fuel, result_of}
 use Rattle.run_call_model.specs.Machine.{later, State, Ran, state_step, state_after_draw, noted, machine_on, machine_call}
 use Rattle.run_call_model.specs.Buffers.{overwritten}
 use Rattle.run_call_model.specs.Batch.{written}
@@ -67,10 +67,10 @@ module _ (G : Generator) (o : G.Value) where
         is = rw (e, le-leb total t.state.written h)
 
     -- Step 3
-    pub step_wants_draws : (t : Progress G o) → t.state.over ≡ false → length t.rest < draw_bytes → rest_of G o noise t ≡ stopped G o t wantsDraws
-    step_wants_draws t e h = step_stops t wantsDraws is
+    pub step_wants_draws : (t : Progress G o) → t.state.over ≡ false → length t.rest < draw_bytes → rest_of G o noise t ≡ stopped G o t wants_draws
+    step_wants_draws t e h = step_stops t wants_draws is
       where
-        is : state_step G o t.state (left_of G o noise t) ≡ halt wantsDraws
+        is : state_step G o t.state (left_of G o noise t) ≡ halt wants_draws
         is = rw (e, draws_none G t.rest h)
 
     -- ---- samples
@@ -111,8 +111,8 @@ module _ (G : Generator) (o : G.Value) where
         by_kind k' q = rw (q, lt-ltb t.state.written (s - hold) (omega arith))
 
     -- Step 2: none left in output, fewer than 2 noise values left
-    pub step_output_full : (t : Progress G o) (m : Time) → AreDue t 1 m → length t.output < 2 * t.samples + 2 → rest_of G o noise t ≡ stopped G o t outputFull
-    step_output_full t m d h = step_stops t outputFull (w.is ∙ ap (λ (n : ℕ). write G w.how (draws_of G t.rest) (left_of G o noise t).noise n (left_of G o noise t).slots) no_room)
+    pub step_output_full : (t : Progress G o) (m : Time) → AreDue t 1 m → length t.output < 2 * t.samples + 2 → rest_of G o noise t ≡ stopped G o t output_full
+    step_output_full t m d h = step_stops t output_full (w.is ∙ ap (λ (n : ℕ). write G w.how (draws_of G t.rest) (left_of G o noise t).noise n (left_of G o noise t).slots) no_room)
       where
         w : Writes t
         w = one_due t m d
@@ -120,9 +120,9 @@ module _ (G : Generator) (o : G.Value) where
         no_room : length t.output / 2 - t.samples ≡ 0
         no_room = omega arith
 
-    pub step_wants_noise : (t : Progress G o) (m : Time) → AreDue t 1 m → 2 * t.samples + 2 ≤ length t.output → length noise < 2 * t.samples + 2 → rest_of G o noise t ≡ stopped G o t wantsNoise
+    pub step_wants_noise : (t : Progress G o) (m : Time) → AreDue t 1 m → 2 * t.samples + 2 ≤ length t.output → length noise < 2 * t.samples + 2 → rest_of G o noise t ≡ stopped G o t wants_noise
     step_wants_noise t m d h g =
-        step_stops t wantsNoise
+        step_stops t wants_noise
         (w.is
         ∙ ap (λ (n : ℕ). write G w.how (draws_of G t.rest) (left_of G o noise t).noise n (left_of G o noise t).slots) some_room
         ∙ ap (λ (vs : List (NoisePair G)). write G w.how (draws_of G t.rest) vs (suc (length t.output / 2 - t.samples - 1)) (left_of G o noise t).slots) (pairs_none (drop (2 * t.samples) noise) (omega (arith, length-drop (2 * t.samples) noise))))
@@ -283,9 +283,9 @@ module _ (G : Generator) (o : G.Value) where
         not_due : ltb t.state.written (s - hold) ≡ false
         not_due = le-ltb t.state.written (s - hold) (omega arith)
 
-        pub step_records_full : length t.records < record_bytes * (t.lines + 1) → rest_of G o noise t ≡ stopped G o t recordsFull
+        pub step_records_full : length t.records < record_bytes * (t.lines + 1) → rest_of G o noise t ≡ stopped G o t records_full
         step_records_full h =
-            step_stops t recordsFull
+            step_stops t records_full
             (step_is (reply s) is not_due ∙ ap (λ (n : ℕ). step5 G (draw_at t.rest) s (draws_of G (drop draw_bytes t.rest)) (left_of G o noise t).noise (left_of G o noise t).room n) no_slot)
           where
             few : length t.records / record_bytes < t.lines + 1

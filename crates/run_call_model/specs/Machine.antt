@@ -5,7 +5,7 @@ use Rattle.std.proofs.Math.Option.{Option, none, some}
 use Rattle.run_theory.specs.Generator.{Generator, Sample, NoisePair, silence, add, noisy}
 use Rattle.run_theory.specs.Added.{sum_of}
 use Rattle.run_theory.specs.PlainRun.{Kind, ignored, ends, reply}
-use Rattle.run_theory.specs.PlainBench.{Stop, wantsDraws, Refusal, Call, Result, Remaining, remaining_of, Step, halt, drain, due, taking, step1, refusal_of, fuel, counts, Given, refused_with, result_of}
+use Rattle.run_theory.specs.PlainBench.{Stop, wants_draws, Refusal, Call, Result, Remaining, remaining_of, Step, halt, drain, due, taking, step1, refusal_of, fuel, counts, Given, refused_with, result_of}
 
 module _ (G : Generator) where
   open G use {Time, before}
@@ -91,7 +91,7 @@ module _ (G : Generator) (o : G.Value) where
   machine_on go z l (taking d k l') = noted (after z.time d) d k (go (state_after_draw z d k) l')
 
   abbrev pub machine_steps : ℕ → State → Remaining G → Ran
-  machine_steps zero z l = record { state = z; rest = l; stop = wantsDraws; samples = []; records = []; added = [] }
+  machine_steps zero z l = record { state = z; rest = l; stop = wants_draws; samples = []; records = []; added = [] }
   machine_steps (suc f) z l = machine_on (λ z' l'. machine_steps f z' l') z l (state_step z l)
 
   abbrev pub machine_given : Remaining G → Ran → Given G

@@ -2,7 +2,7 @@
 use Rattle.std.specs.Prelude.{Bool, true, false, cond, ℕ, ◌-◌, ◌/◌, min, eqb, leb, ltb}
 use Rattle.run_theory.specs.Generator.{Generator}
 use Rattle.run_theory.specs.PlainRun.{Kind, ignored, ends, reply}
-use Rattle.run_theory.specs.PlainBench.{Stop, done, outputFull, wantsNoise, wantsDraws, recordsFull}
+use Rattle.run_theory.specs.PlainBench.{Stop, done, output_full, wants_noise, wants_draws, records_full}
 
 -- of times T: a stop; n samples after the end draw; n samples by the start of the next draw, at its time; a draw taken at its time, ignored, ending the run, or a reply from its start on
 pub data Plan (T : Type 0) : Type 0 where
@@ -20,7 +20,7 @@ batch n room noise = min n (min (room / 2) (noise / 2))
 
 -- where none can be written
 abbrev pub stop_for : ℕ → Stop
-stop_for room = cond (ltb room 2) outputFull wantsNoise
+stop_for room = cond (ltb room 2) output_full wants_noise
 
 abbrev pub some_or : {T : Type 0} → (ℕ → Plan T) → ℕ → ℕ → Plan T
 some_or f n room = cond (eqb n 0) (stop_at (stop_for room)) (f n)
@@ -34,7 +34,7 @@ module _ (G : Generator) where
   -- a reply by whose start n samples are due
   abbrev pub plan_reply : ℕ → Time → ℕ → ℕ → ℕ → ℕ → Plan Time
   plan_reply n time s room noise bytes =
-      cond (ltb 0 n) (some_or (λ k. due_many k time) (batch n room noise) room) (cond (ltb bytes record_bytes) (stop_at recordsFull) (add_reply time s))
+      cond (ltb 0 n) (some_or (λ k. due_many k time) (batch n room noise) room) (cond (ltb bytes record_bytes) (stop_at records_full) (add_reply time s))
 
   abbrev pub plan_draw : ℕ → Time → Kind → ℕ → ℕ → ℕ → Plan Time
   plan_draw written time ignored room noise bytes = ignore time
@@ -44,4 +44,4 @@ module _ (G : Generator) where
   -- `rest` counts the draw bytes that are left
   abbrev pub plan : Bool → ℕ → ℕ → Time → Kind → ℕ → ℕ → ℕ → Plan Time
   plan true written rest time k room noise bytes = plan_ended written room noise
-  plan false written rest time k room noise bytes = cond (ltb rest draw_bytes) (stop_at wantsDraws) (plan_draw written time k room noise bytes)
+  plan false written rest time k room noise bytes = cond (ltb rest draw_bytes) (stop_at wants_draws) (plan_draw written time k room noise bytes)

@@ -21,7 +21,7 @@ use Rattle.pulse_shape.specs.Values.{values_from}
 use Rattle.filterbank.specs.declared.Clock.{Clock}
 use Rattle.filterbank.specs.Taps.{branch_of, tau_of, branch, next_branch, one, between, filter_taps}
 use Rattle.filterbank.specs.PulseSum.{sum_where, pulse_back, pulse_sum}
-use Rattle.filterbank.specs.Clocked.{one as clockOne, step_of, start_clock, advance, settle}
+use Rattle.filterbank.specs.Clocked.{one as clock_one, step_of, start_clock, advance, settle}
 use Rattle.filterbank.specs.Apply.{clock_values, limit_of, fuel_of, value_at, apply_filterbank}
 use Rattle.filterbank.proofs.Grid.{Grid, Stepping, Kept, kept_step}
 use Rattle.filterbank.proofs.ClockSteps.{grid, step_in, starts}
@@ -158,10 +158,10 @@ pulses_sized taps pulses index e t = subst (λ (n : ℕ). AtMost (0 + 48 * n) (s
 -- ---- at each clock
 advance_fits : (step : Float) (clock : Clock) → T (fits binary64 (advance step clock).phase)
 unfolding advance settle
-advance_fits step clock = go (le clockOne (add binary64 clock.phase step))
+advance_fits step clock = go (le clock_one (add binary64 clock.phase step))
   where
     go : (b : Bool) → T (fits binary64 (settle b (add binary64 clock.phase step) clock.index).phase)
-    go true = sub-fits binary64 (add binary64 clock.phase step) clockOne
+    go true = sub-fits binary64 (add binary64 clock.phase step) clock_one
     go false = add-fits binary64 clock.phase step
 
 module _ (g : Grid) (l : ℕ) (step : Float) (S : Stepping g step) (limit : ℕ) (value : Clock → Float)

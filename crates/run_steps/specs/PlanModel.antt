@@ -23,10 +23,10 @@ is_negative (negsuc n) = true
 -- the code's stops and plans, case by case
 unfoldable pub stop_read : Stop.Stop → Bench.Stop
 stop_read Stop.TheVariants.Done = Bench.done
-stop_read Stop.TheVariants.OutputFull = Bench.outputFull
-stop_read Stop.TheVariants.WantsNoise = Bench.wantsNoise
-stop_read Stop.TheVariants.WantsDraws = Bench.wantsDraws
-stop_read Stop.TheVariants.RecordsFull = Bench.recordsFull
+stop_read Stop.TheVariants.OutputFull = Bench.output_full
+stop_read Stop.TheVariants.WantsNoise = Bench.wants_noise
+stop_read Stop.TheVariants.WantsDraws = Bench.wants_draws
+stop_read Stop.TheVariants.RecordsFull = Bench.records_full
 
 unfoldable pub plan_read : Plan.Plan → Theory.Plan Float
 plan_read (Plan.TheVariants.Halt s) = Theory.stop_at (stop_read s)

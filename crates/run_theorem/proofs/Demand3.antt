@@ -31,7 +31,7 @@ use Rattle.run_call.specs.declared.Counts.{Counts}
 use Rattle.run_call.specs.declared.Answer as Answer
 use Rattle.run_call.specs.StateGenerator.{filters_of}
 use Rattle.run_call.specs.Buffers.{Left, CallBuffers}
-use Rattle.run_call.specs.Given.{stopGiven}
+use Rattle.run_call.specs.Given.{stop_given}
 use Rattle.run_call.specs.CallModel.{run_left}
 use Rattle.run_call.specs.Calls.{call_of, runs_left}
 use Rattle.run_call.specs.MachineModel.{machine_of, state_of, ran_given, left_given, runs_given}
@@ -106,13 +106,13 @@ module _ (r : Run) where
       (added_given x.answer z ∙ a.added)
 
   done_given : (a : Bench.Answer) (z : Machine.State G nan) → (ran_given s p_s p_ac a z).answer ≡ Answer.TheVariants.Stopped Stop.TheVariants.Done → Theory.done_in a ≡ true
-  unfolding ran_given stopGiven
+  unfolding ran_given stop_given
   done_given (Bench.refused q) z e = let n : ◌≡◌ {A = ℕ} 0 1 = cc in absurd (omega arith)
   done_given (Bench.ran taken samples noise lines added Bench.done) z e = refl
-  done_given (Bench.ran taken samples noise lines added Bench.outputFull) z e = let n : ◌≡◌ {A = ℕ} 0 1 = cc in absurd (omega arith)
-  done_given (Bench.ran taken samples noise lines added Bench.wantsNoise) z e = let n : ◌≡◌ {A = ℕ} 0 1 = cc in absurd (omega arith)
-  done_given (Bench.ran taken samples noise lines added Bench.wantsDraws) z e = let n : ◌≡◌ {A = ℕ} 0 1 = cc in absurd (omega arith)
-  done_given (Bench.ran taken samples noise lines added Bench.recordsFull) z e = let n : ◌≡◌ {A = ℕ} 0 1 = cc in absurd (omega arith)
+  done_given (Bench.ran taken samples noise lines added Bench.output_full) z e = let n : ◌≡◌ {A = ℕ} 0 1 = cc in absurd (omega arith)
+  done_given (Bench.ran taken samples noise lines added Bench.wants_noise) z e = let n : ◌≡◌ {A = ℕ} 0 1 = cc in absurd (omega arith)
+  done_given (Bench.ran taken samples noise lines added Bench.wants_draws) z e = let n : ◌≡◌ {A = ℕ} 0 1 = cc in absurd (omega arith)
+  done_given (Bench.ran taken samples noise lines added Bench.records_full) z e = let n : ◌≡◌ {A = ℕ} 0 1 = cc in absurd (omega arith)
 
   -- what a list of calls wrote, used and took is what its results did
   record Alike (cs : List CallBuffers) (ls : List Left) (xs : List (Bench.Result G)) : Type 0 where

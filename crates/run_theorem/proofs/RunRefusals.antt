@@ -19,7 +19,7 @@ use Rattle.run_call.specs.declared.Answer.TheVariants.{Refused}
 use Rattle.run_call.specs.StateGenerator.{gen_of}
 use Rattle.run_call.specs.Buffers.{Left, CallBuffers}
 use Rattle.run_call.specs.CallModel.{left_by, call_left, refused_by, run_by, call_refusal, run_left}
-use Rattle.run_call.specs.Given.{refusalGiven}
+use Rattle.run_call.specs.Given.{refusal_given}
 use Rattle.run_call.specs.Calls.{call_of}
 use Rattle.run_theorem.specs.RunRefusals.{CallCause, Answered, refused, stopped}
 
@@ -79,6 +79,6 @@ module _ (s : State) (mode_s mode_ac memory : List Float) (l : CallBuffers) wher
       go (some q) e = refused q (given_for q e)
       go none e = stopped _ (λ q h. let none_some : none ≡ some q = sym e ∙ given_if q h in let z : ◌≡◌ {A = ℕ} 0 1 = cc in absurd (omega arith))
 
-  pub only : (q : Bench.Refusal) → CallCause s mode_s mode_ac memory l q → answer ≡ Refused (refusalGiven q)
+  pub only : (q : Bench.Refusal) → CallCause s mode_s mode_ac memory l q → answer ≡ Refused (refusal_given q)
   unfolding run_left refused_by
   only q h = ap (λ (o : Option Bench.Refusal). (left_for o).ran.answer) (given_if q h)

@@ -3,18 +3,18 @@ use mathlib.Core.Path.{◌≡◌, refl}
 use mathlib.Core.List.{◌∷◌}
 use Rattle.run_theory.specs.PlainBench as Bench
 use Rattle.refusals.specs.Number.{number_of, values_of}
-use Rattle.run_call.specs.Given.{refusalGiven, stopNumber, stopGiven}
+use Rattle.run_call.specs.Given.{refusal_given, stop_number, stop_given}
 
-pub same_numbers : (q : Bench.Refusal) → number_of (refusalGiven q) ∷ values_of (refusalGiven q) ≡ Bench.numbers q
-unfolding refusalGiven number_of values_of
+pub same_numbers : (q : Bench.Refusal) → number_of (refusal_given q) ∷ values_of (refusal_given q) ≡ Bench.numbers q
+unfolding refusal_given number_of values_of
 same_numbers Bench.wrong_length = refl
 same_numbers (Bench.wrong_draw draw field) = refl
 same_numbers (Bench.wrong_noise index) = refl
 
-pub same_stops : (s : Bench.Stop) → stopNumber (stopGiven s) ≡ Bench.stop_number s
-unfolding stopNumber stopGiven
+pub same_stops : (s : Bench.Stop) → stop_number (stop_given s) ≡ Bench.stop_number s
+unfolding stop_number stop_given
 same_stops Bench.done = refl
-same_stops Bench.outputFull = refl
-same_stops Bench.wantsNoise = refl
-same_stops Bench.wantsDraws = refl
-same_stops Bench.recordsFull = refl
+same_stops Bench.output_full = refl
+same_stops Bench.wants_noise = refl
+same_stops Bench.wants_draws = refl
+same_stops Bench.records_full = refl

@@ -8,7 +8,7 @@ use Rattle.run_steps.specs.declared.Stop.{Stop}
 use Rattle.run_call.specs.declared.State.{State}
 use Rattle.run_call.specs.declared.Answer as Answer
 use Rattle.run_call.specs.StateGenerator.{gen_of}
-use Rattle.run_call.specs.Given.{refusalGiven}
+use Rattle.run_call.specs.Given.{refusal_given}
 use Rattle.run_call.specs.Calls.{call_of}
 use Rattle.run_call.specs.Buffers.{CallBuffers}
 
@@ -21,5 +21,5 @@ module _ (s : State) (mode_s mode_ac memory : List Float) (l : CallBuffers) wher
 
   -- which answer is right: a refusal for its cause, and a stop where none has a cause
   pub data Answered : Answer.Answer → Type 0 where
-    refused : (q : Bench.Refusal) → CallCause q → Answered (Answer.TheVariants.Refused (refusalGiven q))
+    refused : (q : Bench.Refusal) → CallCause q → Answered (Answer.TheVariants.Refused (refusal_given q))
     stopped : (w : Stop) → ((q : Bench.Refusal) → CallCause q → ⊥) → Answered (Answer.TheVariants.Stopped w)

@@ -8,7 +8,7 @@ use Rattle.run_call.specs.declared.Counts.{Counts}
 use Rattle.run_call.specs.declared.Answer as Answer
 use Rattle.run_call.specs.StateGenerator.{gen_of}
 use Rattle.run_call.specs.Buffers.{Left}
-use Rattle.run_call.specs.Given.{stopNumber}
+use Rattle.run_call.specs.Given.{stop_number}
 
 -- an answer: a stop, numbered in the order of the specification's steps; or a refusal's number and values
 pub data Numbered : Type 0 where
@@ -23,7 +23,7 @@ pub record Seen : Type 0 where
 
 -- of what the contract of a run call leaves
 unfoldable pub answer_seen : Answer.Answer → Numbered
-answer_seen (Answer.TheVariants.Stopped stop) = stopped (stopNumber stop)
+answer_seen (Answer.TheVariants.Stopped stop) = stopped (stop_number stop)
 answer_seen (Answer.TheVariants.Refused q) = refused (number_of q ∷ values_of q)
 
 unfoldable pub seen_left : Left → Seen

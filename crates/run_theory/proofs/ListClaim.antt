@@ -9,15 +9,15 @@ use Rattle.run_theory.specs.Each.{Each}
 use Rattle.run_theory.specs.Added.{sum_of}
 use Rattle.run_theory.specs.Generator.{Generator}
 use Rattle.run_theory.specs.PlainRun.{Reply, time_of, ended, replies, plain_added}
-use Rattle.run_theory.specs.PlainBench.{Stop, done, outputFull, wantsNoise, wantsDraws, recordsFull, Answer, refused, ran, pairs, flatten, join, Call, Result, draws_of, draw_refusal, bench0, bench_results}
+use Rattle.run_theory.specs.PlainBench.{Stop, done, output_full, wants_noise, wants_draws, records_full, Answer, refused, ran, pairs, flatten, join, Call, Result, draws_of, draw_refusal, bench0, bench_results}
 use Rattle.run_theory.specs.Demand3.{Prefix, bench, plain_output, plain_lines, Reach}
 
 abbrev pub is_done : Stop → Bool
 is_done done = true
-is_done outputFull = false
-is_done wantsNoise = false
-is_done wantsDraws = false
-is_done recordsFull = false
+is_done output_full = false
+is_done wants_noise = false
+is_done wants_draws = false
+is_done records_full = false
 
 abbrev pub done_in : Answer → Bool
 done_in (refused r) = false

@@ -6,15 +6,15 @@ use Rattle.run_theory.specs.PlainRun.{Kind, ignored, ends, reply, kind, time_of,
 use Rattle.run_theory.specs.Added.{sum_of}
 
 pub data Stop : Type 0 where
-  done outputFull wantsNoise wantsDraws recordsFull : Stop
+  done output_full wants_noise wants_draws records_full : Stop
 
 -- the stops by number (SPECIFICATION 9.2)
 abbrev pub stop_number : Stop → ℕ
 stop_number done = 0
-stop_number outputFull = 1
-stop_number wantsNoise = 2
-stop_number wantsDraws = 3
-stop_number recordsFull = 4
+stop_number output_full = 1
+stop_number wants_noise = 2
+stop_number wants_draws = 3
+stop_number records_full = 4
 
 -- why a run call is refused: a buffer has a wrong length; a draw and its field; the index of a noise value
 pub data Refusal : Type 0 where
@@ -138,13 +138,13 @@ module _ (G : Generator) where
 
   -- Step 2, where one sample is due: none left in output, fewer than 2 noise values left, else write it.
   abbrev pub write : (NoisePair G → Remaining → Step) → List Draw → List (NoisePair G) → ℕ → ℕ → Step
-  write f ds vs zero slots = halt outputFull
-  write f ds [] (suc room) slots = halt wantsNoise
+  write f ds vs zero slots = halt output_full
+  write f ds [] (suc room) slots = halt wants_noise
   write f ds (v ∷ vs) (suc room) slots = f v (record { draws = ds; noise = vs; room = room; slots = slots })
 
   -- Step 5: fewer than 66 record bytes left, else the message is added and recorded.
   abbrev pub step5 : Draw → ℕ → List Draw → List (NoisePair G) → ℕ → ℕ → Step
-  step5 d s ds vs room zero = halt recordsFull
+  step5 d s ds vs room zero = halt records_full
   step5 d s ds vs room (suc slots) = taking d (reply s) (record { draws = ds; noise = vs; room = room; slots = slots })
 
   -- Step 4: the draw is taken and ignored, or is taken and ends the run.
@@ -162,7 +162,7 @@ module _ (G : Generator) where
   -- Steps 2 and 3: end draw taken; no draw left; a draw at time t by whose start a sample is due, or not.
   abbrev pub step2 : Bool → ℕ → Time → List Draw → List (NoisePair G) → ℕ → ℕ → Step
   step2 true written t ds vs room slots = write drain ds vs room slots
-  step2 false written t [] vs room slots = halt wantsDraws
+  step2 false written t [] vs room slots = halt wants_draws
   step2 false written t (d ∷ ds) vs room slots =
       cond (due_by written (kind G (after t d) d)) (write (due (after t d)) (d ∷ ds) vs room slots) (step4 d (kind G (after t d) d) ds vs room slots)
 
@@ -209,7 +209,7 @@ module _ (G : Generator) where
 
   -- The call repeats these steps until one stops it. The number bounds the steps; run_call_model/proofs/EnoughFuel.antt shows that `fuel` is enough.
   abbrev pub bench_steps : ℕ → Bench → Remaining → Benched
-  bench_steps zero b l = record { bench = b; rest = l; stop = wantsDraws }
+  bench_steps zero b l = record { bench = b; rest = l; stop = wants_draws }
   bench_steps (suc f) b l = bench_on (λ b' l'. bench_steps f b' l') b l (bench_step b l)
 
   -- each step but the last takes a draw or fills room

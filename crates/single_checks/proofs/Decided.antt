@@ -25,7 +25,7 @@ use Rattle.run_theory.specs.PlainBench as Bench
 use Rattle.run_call_checks.specs.declared.NoiseFault as NoiseFault
 use Rattle.run_call_checks.specs.NoiseModel.{out_of_range_from, noise_fault_read}
 use Rattle.run_call.specs.declared.State.{State}
-use Rattle.run_call.specs.Given.{refusalGiven}
+use Rattle.run_call.specs.Given.{refusal_given}
 use Rattle.run_open_checks.specs.declared.Opened.{Opened}
 use Rattle.run_open_checks.specs.declared.Opened.TheVariants.{Run, Refused}
 use Rattle.single_theory.specs.Single.{samples_asked, wrong_lengths, wrong_stretch, noise_then, draw_then, opened_then, duration_then, checked_of}
@@ -133,7 +133,7 @@ module _ (state : State) (noise : List Float) where
   noise_passes r e q = sym (ap (noise_then state) (sym e ∙ ap noise_fault_read q))
 
   pub noise_refused : (r : NoiseFault.NoiseFault) (k : ℕ) → noise_fault_read r ≡ out_of_range_from 0 noise → r ≡ NoiseFault.TheVariants.At k → Refused (Refusal.TheVariants.Noise k) ≡ noise_then state (out_of_range_from 0 noise)
-  unfolding noise_then noise_fault_read refusalGiven
+  unfolding noise_then noise_fault_read refusal_given
   noise_refused r k e q = sym (ap (noise_then state) (sym e ∙ ap noise_fault_read q))
 
   pub draw_passes : (r x : DrawFault.DrawFault) (out : Opened) → r ≡ x → r ≡ DrawFault.TheVariants.None → out ≡ noise_then state (out_of_range_from 0 noise) → out ≡ draw_then state noise x

@@ -19,7 +19,7 @@ use Rattle.run_generator.specs.Instance.{Filters, pulse_samples}
 use Rattle.run_call_checks.specs.NoiseModel.{out_of_range_from}
 use Rattle.run_call.specs.declared.State.{State}
 use Rattle.run_call.specs.StateGenerator.{filters_of}
-use Rattle.run_call.specs.Given.{refusalGiven}
+use Rattle.run_call.specs.Given.{refusal_given}
 use Rattle.run_open_checks.specs.declared.Opened as Opened
 use Rattle.run_open_checks.specs.Opening.{opened_for}
 use Rattle.single_add.specs.Stretch.{laid, with_reply}
@@ -48,7 +48,7 @@ wrong_stretch n output noise = not (eqb output (2 * n)) || not (eqb noise (2 * n
 -- refusal 8, of the first noise value at fault; or the run
 unfoldable pub noise_then : State → Option Bench.Refusal → Opened.Opened
 noise_then state none = Opened.TheVariants.Run state
-noise_then state (some q) = Opened.TheVariants.Refused (refusalGiven q)
+noise_then state (some q) = Opened.TheVariants.Refused (refusal_given q)
 
 -- refusal 7, of the draw; then 8
 unfoldable pub draw_then : State → List Float → DrawFault.DrawFault → Opened.Opened

@@ -11,7 +11,7 @@ use lib.Seq.{take_all, take_at}
 use borrow.Author.Tests.{leb-true, leb-false, ltb-true, le-leb, lt-leb}
 use Rattle.run_theory.specs.Generator.{Generator, NoisePair}
 use Rattle.run_theory.specs.PlainRun.{Kind, ignored, ends, reply, Reply, kind, time_of, ended, replies, samples_from, plain_samples, plain_records}
-use Rattle.run_theory.specs.PlainBench.{Stop, done, outputFull, wantsNoise, wantsDraws, recordsFull, Remaining, Step, halt, drain, due, taking, write, step5, step4, due_by, step1, latest, Bench, Benched, bench_step, bench_on, bench_steps, fuel}
+use Rattle.run_theory.specs.PlainBench.{Stop, done, output_full, wants_noise, wants_draws, records_full, Remaining, Step, halt, drain, due, taking, write, step5, step4, due_by, step1, latest, Bench, Benched, bench_step, bench_on, bench_steps, fuel}
 use Rattle.run_theory.specs.Laws.{Laws, Accepted}
 use Rattle.run_theory.proofs.ListClaim.{is_done}
 use Rattle.run_theory.proofs.PlainFacts.{ended_still, replies_still}
@@ -25,10 +25,10 @@ module _ (G : Generator) (L : Laws G) where
   -- why a call stops, where output and record bytes have room: of a bench whose end draw is taken or not and that has written w samples, with these draws and noise left
   abbrev pub StopsFor : Bool → ℕ → List Draw → List (NoisePair G) → Stop → Type 0
   StopsFor e w ds vs done = (e ≡ true) × (total ≤ w)
-  StopsFor e w ds vs outputFull = ⊥
-  StopsFor e w ds vs wantsNoise = (vs ≡ []) × (w < total)
-  StopsFor e w ds vs wantsDraws = (ds ≡ []) × (e ≡ false)
-  StopsFor e w ds vs recordsFull = ⊥
+  StopsFor e w ds vs output_full = ⊥
+  StopsFor e w ds vs wants_noise = (vs ≡ []) × (w < total)
+  StopsFor e w ds vs wants_draws = (ds ≡ []) × (e ≡ false)
+  StopsFor e w ds vs records_full = ⊥
 
   abbrev Halts : Bool → ℕ → List Draw → List (NoisePair G) → Step G → Type 0
   Halts e w ds vs (halt s) = StopsFor e w ds vs s
@@ -166,10 +166,10 @@ module _ (G : Generator) (L : Laws G) where
         → l.draws ≡ rest → length l.noise < l.room → length l.draws ≤ l.slots
         → (let r = bench_steps G (fuel G l) b l in Fed tape r.stop r.bench r.rest.draws (vs ++ l.noise))
     fed_on done b rest vs l f same more rows = stays done b rest vs l f.at f.why same (rw (f.why.0, le-leb total (length b.used) f.why.1))
-    fed_on outputFull b rest vs l f same more rows = absurd f.why
-    fed_on wantsNoise b rest vs l f same more rows = fed_first b rest vs l f.at f.why.0 same more rows
-    fed_on wantsDraws b rest vs l f same more rows = stays wantsDraws b rest vs l f.at f.why same (rw (f.why.1, same ∙ f.why.0))
-    fed_on recordsFull b rest vs l f same more rows = absurd f.why
+    fed_on output_full b rest vs l f same more rows = absurd f.why
+    fed_on wants_noise b rest vs l f same more rows = fed_first b rest vs l f.at f.why.0 same more rows
+    fed_on wants_draws b rest vs l f same more rows = stays wants_draws b rest vs l f.at f.why same (rw (f.why.1, same ∙ f.why.0))
+    fed_on records_full b rest vs l f same more rows = absurd f.why
 
     -- Done exactly where the tape has the end draw and noise for every sample
     pub fed_end : (w : Stop) (b : Bench G) (rest : List Draw) (vs : List (NoisePair G)) → Fed tape w b rest vs → (ended G t0 tape && leb total (length vs)) ≡ is_done w
@@ -178,15 +178,15 @@ module _ (G : Generator) (L : Laws G) where
           sym (ap (ended G t0) f.at.draws) ∙ ended_still G t0 b.taken rest f.why.0,
           le-leb total (length vs) (omega (arith, f.why.1, ap length f.at.noise, length-append b.used f.at.unused)),
         )
-    fed_end outputFull b rest vs f = absurd f.why
-    fed_end wantsNoise b rest vs f = both_not (ended G t0 tape) (lt-leb total (length vs) (omega (arith, f.why.1, ap length f.at.noise, length-append b.used f.at.unused, ap length f.why.0)))
+    fed_end output_full b rest vs f = absurd f.why
+    fed_end wants_noise b rest vs f = both_not (ended G t0 tape) (lt-leb total (length vs) (omega (arith, f.why.1, ap length f.at.noise, length-append b.used f.at.unused, ap length f.why.0)))
       where
         both_not : (x : Bool) {y : Bool} → y ≡ false → (x && y) ≡ false
         both_not true e = e
         both_not false e = refl
-    fed_end wantsDraws b rest vs f =
+    fed_end wants_draws b rest vs f =
         rw (sym (ap (ended G t0) (sym (append-nil b.taken) ∙ ap (λ (ds : List Draw). b.taken ++ ds) (sym f.why.0) ∙ f.at.draws)) ∙ f.why.1)
-    fed_end recordsFull b rest vs f = absurd f.why
+    fed_end records_full b rest vs f = absurd f.why
 
     -- and then the plain run of the tape is written
     pub record Whole (b : Bench G) (vs : List (NoisePair G)) : Type 0 where

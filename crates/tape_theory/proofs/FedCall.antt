@@ -28,7 +28,7 @@ use Rattle.run_call_model.proofs.Counted.{Moved, moved, Counted, counted}
 use Rattle.run_call.specs.declared.State.{State}
 use Rattle.run_call.specs.declared.Answer as Answer
 use Rattle.run_call.specs.StateGenerator.{gen_of}
-use Rattle.run_call.specs.Given.{stopGiven, refusalGiven}
+use Rattle.run_call.specs.Given.{stop_given, refusal_given}
 use Rattle.run_call.specs.MachineModel.{state_of, ran_given, left_given}
 use Rattle.run_call.proofs.RunIsTheModels.{run_is}
 use Rattle.tape_feed.specs.FeedModel.{Fed, feed_after, fed_after, called_of, fed_then, fed_of}
@@ -147,7 +147,7 @@ module _ (T : Tape) where
   -- a run that was fed, where the machine and the bench stand at z and b and the last call stopped with w
   abbrev pub standing : Machine.State G nan → Bench G → Bench.Stop → Held
   standing z b w = record {
-    feed = record { state = state_of state mode_s mode_ac z; taken = length b.taken; records = length (plain_records G b.taken); answer = Answer.TheVariants.Stopped (stopGiven w) };
+    feed = record { state = state_of state mode_s mode_ac z; taken = length b.taken; records = length (plain_records G b.taken); answer = Answer.TheVariants.Stopped (stop_given w) };
     memory = z.memory;
     records = over (plain_lines G b.taken) room;
   }
@@ -210,7 +210,7 @@ module _ (T : Tape) where
     -- a refused one leaves the run as it is, but for its answer
     abbrev pub refused_at : ℕ → Held
     refused_at p = record {
-      feed = record { state = state_of state mode_s mode_ac z; taken = k; records = r; answer = Answer.TheVariants.Refused (refusalGiven (Bench.wrong_noise p)) };
+      feed = record { state = state_of state mode_s mode_ac z; taken = k; records = r; answer = Answer.TheVariants.Refused (refusal_given (Bench.wrong_noise p)) };
       memory = z.memory;
       records = over (plain_lines G b.taken) room;
     }
@@ -222,7 +222,7 @@ module _ (T : Tape) where
     out_of_range p e =
         fed_once (some (Bench.wrong_noise p)) e
         ∙ (λ i. record {
-          feed = record { state = state_of state mode_s mode_ac z; taken = same k (omega (arith, in_tape, few)) i; records = same r (omega (arith, in_tape, few, few_records G b.taken)) i; answer = Answer.TheVariants.Refused (refusalGiven (Bench.wrong_noise p)) };
+          feed = record { state = state_of state mode_s mode_ac z; taken = same k (omega (arith, in_tape, few)) i; records = same r (omega (arith, in_tape, few, few_records G b.taken)) i; answer = Answer.TheVariants.Refused (refusal_given (Bench.wrong_noise p)) };
           memory = z.memory;
           output = c.output;
           records = take-append-drop (66 * r) (over (plain_lines G b.taken) room) i;
@@ -271,7 +271,7 @@ module _ (T : Tape) where
     quiet e =
         ap keep (fed_once none e)
         ∙ (λ i. record {
-          feed = record { state = state_of state mode_s mode_ac rz.state; taken = taken_is i; records = records_is i; answer = Answer.TheVariants.Stopped (stopGiven (kept.stop i)) };
+          feed = record { state = state_of state mode_s mode_ac rz.state; taken = taken_is i; records = records_is i; answer = Answer.TheVariants.Stopped (stop_given (kept.stop i)) };
           memory = rz.state.memory;
           records = buffer_is i;
         })
@@ -344,11 +344,11 @@ module _ (T : Tape) where
         one_chunk c cs (rest_fed cs (cut_on c cs cut).1) cut z b w vs h roomy f.at (after_on z b w c vs h roomy f.at f)
 
     -- from what opening leaves, over one chunk and any others
-    pub all_fed : Bench.first_fault G 0 tape ≡ none → (c : Chunk) (cs : List Chunk) → Cut (c ∷ cs) → P (Machine.opened G nan) (bench0 G) Bench.wantsNoise [] (c ∷ cs)
+    pub all_fed : Bench.first_fault G 0 tape ≡ none → (c : Chunk) (cs : List Chunk) → Cut (c ∷ cs) → P (Machine.opened G nan) (bench0 G) Bench.wants_noise [] (c ∷ cs)
     all_fed clean c cs cut =
         let roomy = (cut_on c cs cut).0 in
-        one_chunk c cs (rest_fed cs (cut_on c cs cut).1) cut (Machine.opened G nan) (bench0 G) Bench.wantsNoise [] (matches_first G laws nan) roomy at
-        (after_first (Machine.opened G nan) (bench0 G) Bench.wantsNoise c [] (matches_first G laws nan) roomy at refl)
+        one_chunk c cs (rest_fed cs (cut_on c cs cut).1) cut (Machine.opened G nan) (bench0 G) Bench.wants_noise [] (matches_first G laws nan) roomy at
+        (after_first (Machine.opened G nan) (bench0 G) Bench.wants_noise c [] (matches_first G laws nan) roomy at refl)
       where
         not_refused : (ds : List G.Draw) → Bench.first_fault G 0 ds ≡ none → Bench.draw_refusal G G.t0 none ds ≡ none
         not_refused [] e = refl

@@ -18,7 +18,7 @@ use Rattle.run_call_model.specs.Machine as Machine
 use Rattle.run_call_model.proofs.FlatLists.{length_draws}
 use Rattle.run_call_model.proofs.InStep.{Matches}
 use Rattle.run_call.specs.declared.State.{State}
-use Rattle.run_call.specs.Given.{stopGiven, refusalGiven}
+use Rattle.run_call.specs.Given.{stop_given, refusal_given}
 use Rattle.refusals.specs.Number.{number_of}
 use Rattle.tape_feed.specs.FeedModel.{Fed}
 use Rattle.tape_verdict.specs.Verdict.{stop_then, answer_then, verdict_of}
@@ -43,7 +43,7 @@ module _ (T : Tape) where
   Ends z b w vs cs = (left : Bool) → fed_ending left (fed_all mode_s mode_ac draws (standing T z b w) cs) ≡ ending (out_of_range_in (G T) (noise_in cs)) (vs ++ pairs (noise_in cs)) left
 
   at_end : (z : Machine.State (G T) nan) (b : Bench (G T)) (w : Bench.Stop) (vs : List (NoisePair (G T))) → Matches (G T) laws nan b z → Stream.Fed (G T) laws (tape T) w b (from T (length b.taken)) vs → Ends z b w vs []
-  unfolding Ends ending verdict fed_all noise_in fed_ending verdict_of answer_then stop_then out_of_range_in ending_by stopGiven
+  unfolding Ends ending verdict fed_all noise_in fed_ending verdict_of answer_then stop_then out_of_range_in ending_by stop_given
   at_end z b w vs h f left = by w f ∙ sym (ap (λ (e : Bool). ending_by (cond e (cond left 11 0) 11) (over (plain_lines (G T) (tape T)) room) (length (plain_records (G T) (tape T))) state.total) end)
     where
       end : (ended (G T) (G T).t0 (tape T) && leb state.total (length (vs ++ []))) ≡ is_done w
@@ -52,14 +52,14 @@ module _ (T : Tape) where
           ∙ Stream.fed_end (G T) laws (tape T) w b (from T (length b.taken)) vs f
 
       by : (w : Bench.Stop) → Stream.Fed (G T) laws (tape T) w b (from T (length b.taken)) vs
-          → ending_by (stop_then left (stopGiven w)) (over (plain_lines (G T) b.taken) room) (length (plain_records (G T) b.taken)) z.written ≡ ending_by (cond (is_done w) (cond left 11 0) 11) (over (plain_lines (G T) (tape T)) room) (length (plain_records (G T) (tape T))) state.total
+          → ending_by (stop_then left (stop_given w)) (over (plain_lines (G T) b.taken) room) (length (plain_records (G T) b.taken)) z.written ≡ ending_by (cond (is_done w) (cond left 11 0) 11) (over (plain_lines (G T) (tape T)) room) (length (plain_records (G T) (tape T))) state.total
       by Bench.done f =
           let a = Stream.fed_done (G T) laws (tape T) b (from T (length b.taken)) vs f in
           λ i. ending_by (cond left 11 0) (over (join (a.records i)) room) (length (a.records i)) ((h.written ∙ a.written) i)
-      by Bench.outputFull f = absurd f.why
-      by Bench.wantsNoise f = refl
-      by Bench.wantsDraws f = refl
-      by Bench.recordsFull f = absurd f.why
+      by Bench.output_full f = absurd f.why
+      by Bench.wants_noise f = refl
+      by Bench.wants_draws f = refl
+      by Bench.records_full f = absurd f.why
 
   module _ (z : Machine.State (G T) nan) (b : Bench (G T)) (w : Bench.Stop) (c : Chunk) (cs : List Chunk) (vs : List (NoisePair (G T))) (h : Matches (G T) laws nan b z) (roomy : Roomy c) (at : Stream.At (G T) laws (tape T) b (from T (length b.taken)) vs) where
     -- whether the chunks are loud, by the first of them
@@ -79,10 +79,10 @@ module _ (T : Tape) where
         fed_is = ap (λ (us : List (NoisePair (G T))). vs ++ us) split ∙ sym (append_assoc vs (pairs c.noise) (pairs (noise_in cs)))
 
     on_out_of_range : (p : ℕ) → first_out_of_range (G T) 0 c.noise ≡ some (Bench.wrong_noise p) → Ends z b w vs (c ∷ cs)
-    unfolding Ends ending verdict fed_all keep lend fed_ending verdict_of answer_then refusalGiven number_of ending_by
+    unfolding Ends ending verdict fed_all keep lend fed_ending verdict_of answer_then refusal_given number_of ending_by
     on_out_of_range p e left =
         ap (λ (f : Fed). fed_ending left (fed_all mode_s mode_ac draws (keep f) cs)) (out_of_range T z b w c vs h roomy at p e)
-        ∙ ap (fed_ending left) (refused_stays mode_s mode_ac draws cs (refusalGiven (Bench.wrong_noise p)) (refused_at T z b w c vs h roomy at p) refl)
+        ∙ ap (fed_ending left) (refused_stays mode_s mode_ac draws cs (refusal_given (Bench.wrong_noise p)) (refused_at T z b w c vs h roomy at p) refl)
         ∙ sym (ap (λ (x : Bool). ending x (vs ++ pairs (noise_in (c ∷ cs))) left) (out_of_range_is (subst (λ (x : Option Bench.Refusal). Reads (G T) x (out_of_range_in (G T) c.noise)) e (out_of_range_read (G T) 0 c.noise))))
 
   -- the text by a verdict, of the plain run's records alone
@@ -92,11 +92,11 @@ module _ (T : Tape) where
   records_alone (suc n) = refl
 
   pub fed_ending_lem : Bench.first_fault (G T) 0 (tape T) ≡ none → (c : Chunk) (cs : List Chunk) → Cut (c ∷ cs)
-      → (left : Bool) → fed_ending left (fed_all mode_s mode_ac draws (standing T (Machine.opened (G T) nan) (bench0 (G T)) Bench.wantsNoise) (c ∷ cs)) ≡ plain_ending state mode_s mode_ac left (tape T) (noise_in (c ∷ cs)) room
+      → (left : Bool) → fed_ending left (fed_all mode_s mode_ac draws (standing T (Machine.opened (G T) nan) (bench0 (G T)) Bench.wants_noise) (c ∷ cs)) ≡ plain_ending state mode_s mode_ac left (tape T) (noise_in (c ∷ cs)) room
   unfolding Ends ending verdict plain_ending plain_verdict plain_done
   fed_ending_lem clean c cs cut left = all_fed T Ends at_end on_in_range on_out_of_range clean c cs cut left
 
   pub fed_text_lem : Bench.first_fault (G T) 0 (tape T) ≡ none → (c : Chunk) (cs : List Chunk) → Cut (c ∷ cs)
-      → (left : Bool) → fed_text left (fed_all mode_s mode_ac draws (standing T (Machine.opened (G T) nan) (bench0 (G T)) Bench.wantsNoise) (c ∷ cs)) ≡ plain_text state mode_s mode_ac left (tape T) (noise_in (c ∷ cs))
+      → (left : Bool) → fed_text left (fed_all mode_s mode_ac draws (standing T (Machine.opened (G T) nan) (bench0 (G T)) Bench.wants_noise) (c ∷ cs)) ≡ plain_text state mode_s mode_ac left (tape T) (noise_in (c ∷ cs))
   unfolding fed_text plain_ending plain_text
   fed_text_lem clean c cs cut left = ap ending_text (fed_ending_lem clean c cs cut left) ∙ records_alone _

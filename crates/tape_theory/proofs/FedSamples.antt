@@ -18,7 +18,7 @@ use Rattle.run_call_model.proofs.Demand3.{samples_prefix}
 use Rattle.refusals.specs.declared.Refusal as Refusal
 use Rattle.run_call.specs.declared.Answer as Answer
 use Rattle.run_steps.specs.declared.Stop as Stop
-use Rattle.run_call.specs.Given.{stopGiven, refusalGiven}
+use Rattle.run_call.specs.Given.{stop_given, refusal_given}
 use Rattle.tape_feed.specs.FeedModel.{Fed, fed_then, fed_of}
 use Rattle.tape_theory.specs.Fed.{Held, Chunk, lend, keep, fed_all, samples_fed}
 use Rattle.tape_theory.specs.PlainTape.{Roomy, Cut, noise_in}
@@ -54,18 +54,18 @@ module _ (T : Tape) where
       noise = sym (append_assoc b.used at.unused us) ∙ ap (λ (xs : List (NoisePair (G T))). xs ++ us) at.noise
 
   at_end : (z : Machine.State (G T) nan) (b : Bench (G T)) (w : Bench.Stop) (vs : List (NoisePair (G T))) → Matches (G T) laws nan b z → Stream.Fed (G T) laws (tape T) w b (from T (length b.taken)) vs → Gives z b w vs []
-  unfolding samples_fed fed_all noise_in stopGiven
+  unfolding samples_fed fed_all noise_in stop_given
   at_end z b w vs h f = record {
     first = subst (λ (xs : List Float). Prefix xs (plain_output (G T) (tape T) (vs ++ []))) (sym (append-nil (plain_output (G T) b.taken b.used))) (written_first b (from T (length b.taken)) vs [] f.at);
     all = λ e. append-nil (plain_output (G T) b.taken b.used) ∙ by w f e ∙ ap (plain_output (G T) (tape T)) (sym (append-nil vs));
   }
     where
-      by : (w : Bench.Stop) → Stream.Fed (G T) laws (tape T) w b (from T (length b.taken)) vs → Answer.TheVariants.Stopped (stopGiven w) ≡ Answer.TheVariants.Stopped Stop.TheVariants.Done → plain_output (G T) b.taken b.used ≡ plain_output (G T) (tape T) vs
+      by : (w : Bench.Stop) → Stream.Fed (G T) laws (tape T) w b (from T (length b.taken)) vs → Answer.TheVariants.Stopped (stop_given w) ≡ Answer.TheVariants.Stopped Stop.TheVariants.Done → plain_output (G T) b.taken b.used ≡ plain_output (G T) (tape T) vs
       by Bench.done f e = ap flatten (Stream.fed_done (G T) laws (tape T) b (from T (length b.taken)) vs f).samples
-      by Bench.outputFull f e = absurd f.why
-      by Bench.wantsNoise f e = let q : ◌≡◌ {A = ℕ} 0 1 = cc in absurd (omega arith)
-      by Bench.wantsDraws f e = let q : ◌≡◌ {A = ℕ} 0 1 = cc in absurd (omega arith)
-      by Bench.recordsFull f e = absurd f.why
+      by Bench.output_full f e = absurd f.why
+      by Bench.wants_noise f e = let q : ◌≡◌ {A = ℕ} 0 1 = cc in absurd (omega arith)
+      by Bench.wants_draws f e = let q : ◌≡◌ {A = ℕ} 0 1 = cc in absurd (omega arith)
+      by Bench.records_full f e = absurd f.why
 
   module _ (z : Machine.State (G T) nan) (b : Bench (G T)) (w : Bench.Stop) (c : Chunk) (cs : List Chunk) (vs : List (NoisePair (G T))) (h : Matches (G T) laws nan b z) (roomy : Roomy c) (at : Stream.At (G T) laws (tape T) b (from T (length b.taken)) vs) where
     on_in_range : pairs (noise_in (c ∷ cs)) ≡ pairs c.noise ++ pairs (noise_in cs) → first_out_of_range (G T) 0 c.noise ≡ none
@@ -95,18 +95,18 @@ module _ (T : Tape) where
     unfolding samples_fed fed_all keep lend
     on_out_of_range p e = record {
       first = subst (λ (xs : List Float). Prefix xs (plain_output (G T) (tape T) (vs ++ pairs (noise_in (c ∷ cs))))) (sym silent) (written_first b (from T (length b.taken)) vs (pairs (noise_in (c ∷ cs))) at);
-      all = λ q. let x : ◌≡◌ {A = Answer.Answer} (Answer.TheVariants.Refused (refusalGiven (Bench.wrong_noise p))) (Answer.TheVariants.Stopped Stop.TheVariants.Done) = sym answer ∙ q in let y : ◌≡◌ {A = ℕ} 0 1 = cc in absurd (omega arith);
+      all = λ q. let x : ◌≡◌ {A = Answer.Answer} (Answer.TheVariants.Refused (refusal_given (Bench.wrong_noise p))) (Answer.TheVariants.Stopped Stop.TheVariants.Done) = sym answer ∙ q in let y : ◌≡◌ {A = ℕ} 0 1 = cc in absurd (omega arith);
     }
       where
-        answer : (fed_all mode_s mode_ac draws (standing T z b w) (c ∷ cs)).feed.answer ≡ Answer.TheVariants.Refused (refusalGiven (Bench.wrong_noise p))
+        answer : (fed_all mode_s mode_ac draws (standing T z b w) (c ∷ cs)).feed.answer ≡ Answer.TheVariants.Refused (refusal_given (Bench.wrong_noise p))
         answer =
             ap (λ (f : Fed). (fed_all mode_s mode_ac draws (keep f) cs).feed.answer) (out_of_range T z b w c vs h roomy at p e)
-            ∙ ap (λ (f : Held). f.feed.answer) (refused_stays mode_s mode_ac draws cs (refusalGiven (Bench.wrong_noise p)) (refused_at T z b w c vs h roomy at p) refl)
+            ∙ ap (λ (f : Held). f.feed.answer) (refused_stays mode_s mode_ac draws cs (refusal_given (Bench.wrong_noise p)) (refused_at T z b w c vs h roomy at p) refl)
 
         silent : plain_output (G T) b.taken b.used ++ samples_fed mode_s mode_ac draws (standing T z b w) (c ∷ cs) ≡ plain_output (G T) b.taken b.used
         silent =
             ap (λ (f : Fed). plain_output (G T) b.taken b.used ++ (take (2 * (f.feed.state.written - z.written)) f.output ++ samples_fed mode_s mode_ac draws (keep f) cs)) (out_of_range T z b w c vs h roomy at p e)
-            ∙ (λ i. plain_output (G T) b.taken b.used ++ (take (none_new i) c.output ++ refused_silent mode_s mode_ac draws cs (refusalGiven (Bench.wrong_noise p)) (refused_at T z b w c vs h roomy at p) refl i))
+            ∙ (λ i. plain_output (G T) b.taken b.used ++ (take (none_new i) c.output ++ refused_silent mode_s mode_ac draws cs (refusal_given (Bench.wrong_noise p)) (refused_at T z b w c vs h roomy at p) refl i))
             ∙ append-nil (plain_output (G T) b.taken b.used)
           where
             none_new : 2 * (z.written - z.written) ≡ 0
@@ -114,16 +114,16 @@ module _ (T : Tape) where
 
   -- from what opening leaves
   pub fed_samples : Bench.first_fault (G T) 0 (tape T) ≡ none → (c : Chunk) (cs : List Chunk) → Cut (c ∷ cs)
-      → Prefix (samples_fed mode_s mode_ac draws (standing T (Machine.opened (G T) nan) (bench0 (G T)) Bench.wantsNoise) (c ∷ cs)) (plain_output (G T) (tape T) (pairs (noise_in (c ∷ cs))))
-      × ((fed_all mode_s mode_ac draws (standing T (Machine.opened (G T) nan) (bench0 (G T)) Bench.wantsNoise) (c ∷ cs)).feed.answer ≡ Answer.TheVariants.Stopped Stop.TheVariants.Done
-      → samples_fed mode_s mode_ac draws (standing T (Machine.opened (G T) nan) (bench0 (G T)) Bench.wantsNoise) (c ∷ cs) ≡ plain_output (G T) (tape T) (pairs (noise_in (c ∷ cs))))
+      → Prefix (samples_fed mode_s mode_ac draws (standing T (Machine.opened (G T) nan) (bench0 (G T)) Bench.wants_noise) (c ∷ cs)) (plain_output (G T) (tape T) (pairs (noise_in (c ∷ cs))))
+      × ((fed_all mode_s mode_ac draws (standing T (Machine.opened (G T) nan) (bench0 (G T)) Bench.wants_noise) (c ∷ cs)).feed.answer ≡ Answer.TheVariants.Stopped Stop.TheVariants.Done
+      → samples_fed mode_s mode_ac draws (standing T (Machine.opened (G T) nan) (bench0 (G T)) Bench.wants_noise) (c ∷ cs) ≡ plain_output (G T) (tape T) (pairs (noise_in (c ∷ cs))))
   fed_samples clean c cs cut = (subst (λ (xs : List Float). Prefix xs (plain_output (G T) (tape T) (pairs (noise_in (c ∷ cs))))) front r.first, λ q. sym front ∙ r.all q)
     where
-      r : Gives (Machine.opened (G T) nan) (bench0 (G T)) Bench.wantsNoise [] (c ∷ cs)
+      r : Gives (Machine.opened (G T) nan) (bench0 (G T)) Bench.wants_noise [] (c ∷ cs)
       r = all_fed T Gives at_end on_in_range on_out_of_range clean c cs cut
 
       given : List Float
-      given = samples_fed mode_s mode_ac draws (standing T (Machine.opened (G T) nan) (bench0 (G T)) Bench.wantsNoise) (c ∷ cs)
+      given = samples_fed mode_s mode_ac draws (standing T (Machine.opened (G T) nan) (bench0 (G T)) Bench.wants_noise) (c ∷ cs)
 
       front : plain_output (G T) [] [] ++ given ≡ given
       front = ap (λ (us : List (NoisePair (G T))). flatten (samples_from (G T) [] 0 us) ++ given) (take-nil (G T).total)

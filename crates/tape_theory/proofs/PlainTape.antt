@@ -27,7 +27,7 @@ use Rattle.run_steps.specs.declared.Stop as Stop
 use Rattle.run_call.specs.declared.State.{State}
 use Rattle.run_call.specs.declared.Answer as Answer
 use Rattle.run_call.specs.StateGenerator.{filters_of, gen_of}
-use Rattle.run_call.specs.Given.{stopGiven}
+use Rattle.run_call.specs.Given.{stop_given}
 use Rattle.run_open_checks.specs.declared.Opened as Opened
 use Rattle.run_open_checks.specs.Opening as Opening
 use Rattle.run_open_checks.proofs.WhatIsOpened.{opened_run_in_range, opened_first}
@@ -131,11 +131,11 @@ module _ (tape : List ℕ) (lent : Opening.OpenBuffers) where
           rooms = room;
         }
 
-    start : (records : List ℕ) (room : 66 * (length (draw_bytes n) / 65) ≤ length records) → begun s (head_of four tape lent).left.memory records ≡ standing (lent_tape records room) (Machine.opened G nan) (Bench.bench0 G) Bench.wantsNoise
-    unfolding begun start_of stopGiven
+    start : (records : List ℕ) (room : 66 * (length (draw_bytes n) / 65) ≤ length records) → begun s (head_of four tape lent).left.memory records ≡ standing (lent_tape records room) (Machine.opened G nan) (Bench.bench0 G) Bench.wants_noise
+    unfolding begun start_of stop_given
     start records room =
         ap (λ (m : List Float). record { feed = start_of s; memory = m; records = records }) memory_is
-        ∙ ap (λ (z : Machine.State G nan). standing (lent_tape records room) z (Bench.bench0 G) Bench.wantsNoise)
+        ∙ ap (λ (z : Machine.State G nan). standing (lent_tape records room) z (Bench.bench0 G) Bench.wants_noise)
         (opened_first (taps_s four tape) (taps_ac four tape) (settings_bytes four tape) lent s opens)
 
     pub plain_tape : PlainTape s mode_s mode_ac (head_of four tape lent).left.memory (draw_bytes n)

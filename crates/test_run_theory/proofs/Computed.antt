@@ -4,7 +4,7 @@ use mathlib.Core.List.{List, [], ◌∷◌}
 use mathlib.Core.Path.{◌≡◌, refl}
 use Prim.Native.Nat.{ℕ}
 use Rattle.run_theory.specs.PlainRun.{plain_added}
-use Rattle.run_theory.specs.PlainBench.{Call, Result, refused, ran, wrong_length, wrong_draw, wrong_noise, done, outputFull, wantsNoise, wantsDraws, recordsFull, bench0, bench_results}
+use Rattle.run_theory.specs.PlainBench.{Call, Result, refused, ran, wrong_length, wrong_draw, wrong_noise, done, output_full, wants_noise, wants_draws, records_full, bench0, bench_results}
 use Rattle.run_theory.specs.Demand3.{bench, plain_output, plain_lines}
 use Rattle.run_call_model.specs.Machine.{runs}
 use Rattle.run_theory.proofs.ListClaim.{all_samples, all_records, all_added}
@@ -32,12 +32,12 @@ calls =
 
 abbrev pub results : List (Result small)
 results =
-    record { answer = ran 2 1 2 1 3 recordsFull; output = (1 ∷ []) ∷ (2 ∷ []) ∷ (99 ∷ []) ∷ (99 ∷ []) ∷ []; records = 2 ∷ 1 ∷ 3 ∷ 7 ∷ [] }
+    record { answer = ran 2 1 2 1 3 records_full; output = (1 ∷ []) ∷ (2 ∷ []) ∷ (99 ∷ []) ∷ (99 ∷ []) ∷ []; records = 2 ∷ 1 ∷ 3 ∷ 7 ∷ [] }
     ∷ record { answer = refused (wrong_draw 1 1); output = (99 ∷ []) ∷ (99 ∷ []) ∷ (99 ∷ []) ∷ (99 ∷ []) ∷ []; records = 7 ∷ 7 ∷ 7 ∷ [] }
     ∷ record { answer = refused (wrong_noise 1); output = (99 ∷ []) ∷ (99 ∷ []) ∷ (99 ∷ []) ∷ (99 ∷ []) ∷ []; records = 7 ∷ 7 ∷ 7 ∷ [] }
     ∷ record { answer = refused wrong_length; output = (99 ∷ []) ∷ (99 ∷ []) ∷ (99 ∷ []) ∷ (99 ∷ []) ∷ []; records = 7 ∷ 7 ∷ 7 ∷ [] }
-    ∷ record { answer = ran 1 1 2 1 3 wantsNoise; output = (10 ∷ 1 ∷ []) ∷ (2 ∷ []) ∷ (99 ∷ []) ∷ (99 ∷ []) ∷ []; records = 3 ∷ 3 ∷ 3 ∷ 7 ∷ 7 ∷ [] }
-    ∷ record { answer = ran 0 2 4 0 0 outputFull; output = (11 ∷ 3 ∷ []) ∷ (4 ∷ []) ∷ (12 ∷ 20 ∷ 5 ∷ []) ∷ (10 ∷ 6 ∷ []) ∷ []; records = 7 ∷ 7 ∷ 7 ∷ [] }
+    ∷ record { answer = ran 1 1 2 1 3 wants_noise; output = (10 ∷ 1 ∷ []) ∷ (2 ∷ []) ∷ (99 ∷ []) ∷ (99 ∷ []) ∷ []; records = 3 ∷ 3 ∷ 3 ∷ 7 ∷ 7 ∷ [] }
+    ∷ record { answer = ran 0 2 4 0 0 output_full; output = (11 ∷ 3 ∷ []) ∷ (4 ∷ []) ∷ (12 ∷ 20 ∷ 5 ∷ []) ∷ (10 ∷ 6 ∷ []) ∷ []; records = 7 ∷ 7 ∷ 7 ∷ [] }
     ∷ record { answer = refused (wrong_draw 0 0); output = (99 ∷ []) ∷ (99 ∷ []) ∷ []; records = 7 ∷ 7 ∷ 7 ∷ [] }
     ∷ record { answer = ran 2 8 16 1 3 done; output = (21 ∷ 7 ∷ []) ∷ (8 ∷ []) ∷ (22 ∷ 40 ∷ 9 ∷ []) ∷ (20 ∷ 10 ∷ []) ∷ (41 ∷ 11 ∷ []) ∷ (12 ∷ []) ∷ (42 ∷ 13 ∷ []) ∷ (40 ∷ 14 ∷ []) ∷ (15 ∷ []) ∷ (16 ∷ []) ∷ (17 ∷ []) ∷ (18 ∷ []) ∷ (19 ∷ []) ∷ (20 ∷ []) ∷ (21 ∷ []) ∷ (22 ∷ []) ∷ (99 ∷ []) ∷ (99 ∷ []) ∷ (99 ∷ []) ∷ (99 ∷ []) ∷ (99 ∷ []) ∷ (99 ∷ []) ∷ (99 ∷ []) ∷ (99 ∷ []) ∷ (99 ∷ []) ∷ (99 ∷ []) ∷ (99 ∷ []) ∷ (99 ∷ []) ∷ (99 ∷ []) ∷ (99 ∷ []) ∷ []; records = 7 ∷ 5 ∷ 3 ∷ 7 ∷ 7 ∷ 7 ∷ 7 ∷ 7 ∷ 7 ∷ [] }
     ∷ record { answer = ran 0 0 0 0 0 done; output = (99 ∷ []) ∷ (99 ∷ []) ∷ []; records = [] }
@@ -86,8 +86,8 @@ pub no_samples : runs (small_of 0) [] (short 0) ≡ record { answer = ran 2 0 0 
 no_samples = refl
 
 -- a run of as many samples as the limit holds no reply at all; one sample more, and it may hold one at 0
-pub at_limit : runs (small_of 3) [] (short 3) ≡ record { answer = ran 2 2 4 0 0 outputFull; output = (1 ∷ []) ∷ (2 ∷ []) ∷ (3 ∷ []) ∷ (4 ∷ []) ∷ []; records = 7 ∷ 7 ∷ 7 ∷ [] } ∷ []
+pub at_limit : runs (small_of 3) [] (short 3) ≡ record { answer = ran 2 2 4 0 0 output_full; output = (1 ∷ []) ∷ (2 ∷ []) ∷ (3 ∷ []) ∷ (4 ∷ []) ∷ []; records = 7 ∷ 7 ∷ 7 ∷ [] } ∷ []
 at_limit = refl
 
-pub above_limit : runs (small_of 4) [] (short 4) ≡ record { answer = ran 2 0 0 1 3 wantsDraws; output = [] ∷ [] ∷ [] ∷ [] ∷ []; records = 1 ∷ 0 ∷ 3 ∷ [] } ∷ []
+pub above_limit : runs (small_of 4) [] (short 4) ≡ record { answer = ran 2 0 0 1 3 wants_draws; output = [] ∷ [] ∷ [] ∷ [] ∷ []; records = 1 ∷ 0 ∷ 3 ∷ [] } ∷ []
 above_limit = refl

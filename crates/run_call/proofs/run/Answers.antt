@@ -10,14 +10,6 @@ use Rattle.run_call.proofs.Refusing.{buffers_refused, draw_refused, noise_refuse
 use borrow.Author.Rules.{rules}
 use Rattle.run_call.proofs.run.Goals as goal
 
-abbrev Right : tie.Else1 → Type 0
-Right z =
-    let a = z.before.before.before.before.before.before.before.before.before.args in
-    (wrong_memory (length a.memory.now) (length a.mode_s.now) (length a.mode_ac.now) || wrong_buffers (length a.output.now) (length a.draws.now)) ≡ false
-
-right : (z : tie.Else1) → Right z
-right z = sym z.before.lengths-wrong.ensures ∙ z.if1.false
-
 pub returns-then-lengths_wrong : goal.returns-then-lengths_wrong
 returns-then-lengths_wrong c =
     let a = c.args in
@@ -26,19 +18,19 @@ returns-then-lengths_wrong c =
 pub returns-in-At : goal.returns-in-At
 returns-in-At c =
     let a = c.args in
-    draw_refused a.s a.mode_s.now a.mode_ac.now a.memory.now a.draws.now a.noise.now a.output.now a.records.now (right c) _ c.check_draws-fault.ensures _ _ c.in-At.is _ c.refused-in-At.ensures
+    draw_refused a.s a.mode_s.now a.mode_ac.now a.memory.now a.draws.now a.noise.now a.output.now a.records.now (sym c.lengths_wrong.ensures ∙ c.if-lengths_wrong.false) _ c.check_draws-fault.ensures _ _ c.in-At.is _ c.refused-in-At.ensures
 
 pub returns-in-At-noise_fault : goal.returns-in-At-noise_fault
 returns-in-At-noise_fault c =
     let a = c.args in
-    noise_refused a.s a.mode_s.now a.mode_ac.now a.memory.now a.draws.now a.noise.now a.output.now a.records.now (right c) _ c.check_draws-fault.ensures c.in_default.is _ c.check_noise-noise_fault.ensures _ c.in-At-noise_fault.is _ c.refused-in-At-noise_fault.ensures
+    noise_refused a.s a.mode_s.now a.mode_ac.now a.memory.now a.draws.now a.noise.now a.output.now a.records.now (sym c.lengths_wrong.ensures ∙ c.if-lengths_wrong.false) _ c.check_draws-fault.ensures c.in_default.is _ c.check_noise-noise_fault.ensures _ c.in-At-noise_fault.is _ c.refused-in-At-noise_fault.ensures
 
 pub steps-requires : goal.steps-requires
 steps-requires c =
     let a = c.args in
-    right_memory (length a.memory.now) (length a.mode_s.now) (length a.mode_ac.now) (length a.output.now) (length a.draws.now) (right c)
+    right_memory (length a.memory.now) (length a.mode_s.now) (length a.mode_ac.now) (length a.output.now) (length a.draws.now) (sym c.lengths_wrong.ensures ∙ c.if-lengths_wrong.false)
 
 pub returns : goal.returns
 returns c =
     let a = c.args in
-    not_refused a.s a.mode_s.now a.mode_ac.now a.memory.now a.draws.now a.noise.now a.output.now a.records.now (right c) _ c.check_draws-fault.ensures c.in_default.is _ c.check_noise-noise_fault.ensures c.in_default-noise_fault.is _ c.steps.ensures
+    not_refused a.s a.mode_s.now a.mode_ac.now a.memory.now a.draws.now a.noise.now a.output.now a.records.now (sym c.lengths_wrong.ensures ∙ c.if-lengths_wrong.false) _ c.check_draws-fault.ensures c.in_default.is _ c.check_noise-noise_fault.ensures c.in_default-noise_fault.is _ c.steps.ensures

@@ -1,37 +1,47 @@
 -- `step` meets its contract: each arm by what its plan says.
+use mathlib.Core.Path.{◌≡◌}
+use mathlib.Core.List.{List}
+use Prim.Native.Nat.{ℕ, ◌-◌, ◌*◌, ◌<◌}
+use lib.Ieee.{Float}
+use Rattle.run_call_model.specs.Plan.{Plan}
+use Rattle.draw.specs.Draw.{draw_at}
+use Rattle.draw.specs.Config.{time_after}
+use Rattle.draw_config.specs.Pending.{pending_of}
+use Rattle.message_config.specs.declared.MessageConfig.{MessageConfig}
+use Rattle.run_call.specs.declared.State.{State}
+use Rattle.run_steps.specs.declared.Progress.{Progress}
+use Rattle.run_steps.specs.declared.Plan as Plan
+use Rattle.run_steps.specs.PlanModel.{plan_read, chosen}
+use Rattle.run_call.specs.StepModel.{Inside}
 use lib.ListN.{length}
 use Rattle.run_call.proofs.Said.{Sized, Planned, halted, drained, dued, skipped, ended_by, added}
 use borrow.Author.Rules.{rules}
 use native.Mathlib.Omega.{arith}
 use Rattle.run_call.proofs.step.Goals as goal
 
-sized : (b : tie.Start) → Sized b.args.s.total b.args.t.taken (length b.args.rest.now) (length b.args.output.now) (length b.args.records.now)
-sized b = record { run_in = b.requires.3; draws_in_lem = b.requires.2; output_in = omega (arith, b); records_in_lem = omega (arith, b) }
-
--- the step with its plan, seen from where its step is made
-
-abbrev planned : tie.After-after-step → Planned
-planned z =
-    let n = z.before.before.before in
-    let b = n.before.before.before.before.before.before.before.before.before.before in
-    let a = b.args in record {
-      s = a.s;
-      mode_s = a.mode_s_lem.now;
-      mode_ac = a.mode_ac_lem.now;
-      noise = a.noise.now;
-      t = a.t;
-      memory = a.memory.now;
-      rest = a.rest.now;
-      output = a.output.now;
-      records = a.records.now;
-      last = n.pending.result;
-      plan = z.before.choose.result;
-      memory_is = b.requires.0;
-      inside = b.requires.1;
-      sized = sized b;
-      next_is = n.pending.ensures;
-      chose = z.before.choose.ensures;
-    }
+-- a step with its plan
+abbrev planned : (s : State) (mode_s mode_ac noise : List Float) (t : Progress) (memory : List Float) (rest : List ℕ) (output : List Float) (records : List ℕ) (last : MessageConfig) (plan : Plan.Plan)
+    → length memory ≡ 2252 → Inside t (length noise) (length output) (length records) → Sized s.total t.taken (length rest) (length output) (length records)
+    → last ≡ pending_of s.distributions (time_after t.time (draw_at rest)) (draw_at rest)
+    → plan_read plan ≡ chosen t.ended t.written s.total s.delays last (length rest) (length output - 2 * t.samples) (length noise - 2 * t.samples) (length records - 66 * t.records) → Planned
+planned s mode_s mode_ac noise t memory rest output records last plan m i z n h = record {
+  s = s;
+  mode_s = mode_s;
+  mode_ac = mode_ac;
+  noise = noise;
+  t = t;
+  memory = memory;
+  rest = rest;
+  output = output;
+  records = records;
+  last = last;
+  plan = plan;
+  memory_is = m;
+  inside = i;
+  sized = z;
+  next_is = n;
+  chose = h;
+}
 
 pub overflow_mul-used : goal.overflow_mul-used
 overflow_mul-used c = omega (arith, c)
@@ -44,24 +54,42 @@ overflow_mul-lines-in-Add c = omega (arith, c)
 
 pub returns-in-Halt : goal.returns-in-Halt
 returns-in-Halt c =
-    halted (planned c) _ c.in-Halt.is _ c.after_step-r.ensures
+    let a = c.args in
+    let z : Sized a.s.total a.t.taken (length a.rest.now) (length a.output.now) (length a.records.now) = record { run_in = c.requires.3; draws_in_lem = c.requires.2; output_in = omega arith; records_in_lem = omega arith } in
+    let p = planned a.s a.mode_s.now a.mode_ac.now a.noise.now a.t a.memory.now a.rest.now a.output.now a.records.now c.pending-last.result c.choose-p.result c.requires.0 c.requires.1 z c.pending-last.ensures c.choose-p.ensures in
+    halted p _ c.in-Halt.is _ c.after_step-r.ensures
 
 pub returns-in-Drain : goal.returns-in-Drain
 returns-in-Drain c =
-    drained (planned c) _ c.in-Drain.is _ _ _ c.after_step-r.ensures c.write_due.ensures
+    let a = c.args in
+    let z : Sized a.s.total a.t.taken (length a.rest.now) (length a.output.now) (length a.records.now) = record { run_in = c.requires.3; draws_in_lem = c.requires.2; output_in = omega arith; records_in_lem = omega arith } in
+    let p = planned a.s a.mode_s.now a.mode_ac.now a.noise.now a.t a.memory.now a.rest.now a.output.now a.records.now c.pending-last.result c.choose-p.result c.requires.0 c.requires.1 z c.pending-last.ensures c.choose-p.ensures in
+    drained p _ c.in-Drain.is _ _ _ c.after_step-r.ensures c.write_due.ensures
 
 pub returns-in-Due : goal.returns-in-Due
 returns-in-Due c =
-    dued (planned c) _ _ c.in-Due.is _ _ _ c.after_step-r.ensures c.write_due-in-Due.ensures
+    let a = c.args in
+    let z : Sized a.s.total a.t.taken (length a.rest.now) (length a.output.now) (length a.records.now) = record { run_in = c.requires.3; draws_in_lem = c.requires.2; output_in = omega arith; records_in_lem = omega arith } in
+    let p = planned a.s a.mode_s.now a.mode_ac.now a.noise.now a.t a.memory.now a.rest.now a.output.now a.records.now c.pending-last.result c.choose-p.result c.requires.0 c.requires.1 z c.pending-last.ensures c.choose-p.ensures in
+    dued p _ _ c.in-Due.is _ _ _ c.after_step-r.ensures c.write_due-in-Due.ensures
 
 pub returns-in-Skip : goal.returns-in-Skip
 returns-in-Skip c =
-    skipped (planned c) _ c.in-Skip.is _ c.after_step-r.ensures
+    let a = c.args in
+    let z : Sized a.s.total a.t.taken (length a.rest.now) (length a.output.now) (length a.records.now) = record { run_in = c.requires.3; draws_in_lem = c.requires.2; output_in = omega arith; records_in_lem = omega arith } in
+    let p = planned a.s a.mode_s.now a.mode_ac.now a.noise.now a.t a.memory.now a.rest.now a.output.now a.records.now c.pending-last.result c.choose-p.result c.requires.0 c.requires.1 z c.pending-last.ensures c.choose-p.ensures in
+    skipped p _ c.in-Skip.is _ c.after_step-r.ensures
 
 pub returns-in-End : goal.returns-in-End
 returns-in-End c =
-    ended_by (planned c) _ c.in-End.is _ c.after_step-r.ensures
+    let a = c.args in
+    let z : Sized a.s.total a.t.taken (length a.rest.now) (length a.output.now) (length a.records.now) = record { run_in = c.requires.3; draws_in_lem = c.requires.2; output_in = omega arith; records_in_lem = omega arith } in
+    let p = planned a.s a.mode_s.now a.mode_ac.now a.noise.now a.t a.memory.now a.rest.now a.output.now a.records.now c.pending-last.result c.choose-p.result c.requires.0 c.requires.1 z c.pending-last.ensures c.choose-p.ensures in
+    ended_by p _ c.in-End.is _ c.after_step-r.ensures
 
 pub returns-in-Add : goal.returns-in-Add
 returns-in-Add c =
-    added (planned c) _ _ c.in-Add.is c.add-count.result (omega (arith, c.add-count.type_inv)) _ _ _ c.after_step.ensures c.add-count.ensures.0 c.add-count.ensures.1 c.add-count.ensures.2
+    let a = c.args in
+    let z : Sized a.s.total a.t.taken (length a.rest.now) (length a.output.now) (length a.records.now) = record { run_in = c.requires.3; draws_in_lem = c.requires.2; output_in = omega arith; records_in_lem = omega arith } in
+    let p = planned a.s a.mode_s.now a.mode_ac.now a.noise.now a.t a.memory.now a.rest.now a.output.now a.records.now c.pending-last.result c.choose-p.result c.requires.0 c.requires.1 z c.pending-last.ensures c.choose-p.ensures in
+    added p _ _ c.in-Add.is c.add-count.result (omega (arith, c.add-count.type_inv)) _ _ _ c.after_step.ensures c.add-count.ensures.0 c.add-count.ensures.1 c.add-count.ensures.2

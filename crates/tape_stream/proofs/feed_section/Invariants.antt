@@ -13,7 +13,7 @@ abbrev pub invariant-loop-turns : goal.invariant-loop-turns
 invariant-loop-turns l =
     (l.want ≤ l.left) × (l.want ≤ 16384) × (length l.memory ≡ length l.initial.memory) × (length l.records ≡ length l.initial.records) × ((l.want ≡ 0) ⊎ (l.want ≡ min l.left 16384))
     × (0 < l.turns → l.short ≡ false) × (l.turns ≡ 0 → l.left ≡ 0)
-    × Going l.mode_s l.mode_ac l.draws (record { feed = l.initial.f; l.memory = l.initial.memory; l.records = l.initial.records }) l.count l.turns l.left l.short (record { feed = l.f; l.memory = l.memory; l.records = l.records })
+    × Going l.mode_s l.mode_ac l.draws (record { feed = l.initial.f; memory = l.initial.memory; records = l.initial.records }) l.count l.turns l.left l.short (record { feed = l.f; memory = l.memory; records = l.records })
 
 abbrev pub decreases-loop-turns : goal.decreases-loop-turns
 decreases-loop-turns l =
