@@ -50,8 +50,8 @@ module _ (G : Generator) where
   pub start_replies : (s : ℕ) → s + limit < total → kind_of G (from s) ≡ reply s
   start_replies s h = rw (lt-leb total (s + limit) h)
 
-  pub wants_draws : (written rest : ℕ) (time : Time) (k : Kind) (room noise bytes : ℕ) → rest < draw_bytes → plan G false written rest time k room noise bytes ≡ stop_at wants_draws
-  wants_draws written rest time k room noise bytes h = rw (lt-ltb rest draw_bytes h)
+  pub wants_draws_lem : (written rest : ℕ) (time : Time) (k : Kind) (room noise bytes : ℕ) → rest < draw_bytes → plan G false written rest time k room noise bytes ≡ stop_at wants_draws
+  wants_draws_lem written rest time k room noise bytes h = rw (lt-ltb rest draw_bytes h)
 
   pub has_draw : (written rest : ℕ) (time : Time) (k : Kind) (room noise bytes : ℕ) → draw_bytes ≤ rest → plan G false written rest time k room noise bytes ≡ plan_draw G written time k room noise bytes
   has_draw written rest time k room noise bytes h = rw (le-ltb rest draw_bytes h)

@@ -99,7 +99,7 @@ module _ (written total : ℕ) (delays : Delays) (last : MessageConfig) (rest ro
 
   pub chose_none : (ended : Bool) → ended ≡ false → rest < 65 → plan_read (Plan.TheVariants.Halt Stop.TheVariants.WantsDraws) ≡ Chosen ended
   unfolding chosen plan_read stop_read
-  chose_none ended e h = sym (ap here e ∙ Laws.wants_draws (counted total) written rest last.time (kind_of (counted total) (start_from (config_start delays last))) room noise bytes h)
+  chose_none ended e h = sym (ap here e ∙ Laws.wants_draws_lem (counted total) written rest last.time (kind_of (counted total) (start_from (config_start delays last))) room noise bytes h)
 
   pub chose_draw : (ended : Bool) → ended ≡ false → 65 ≤ rest → (start : ℤ) → start ≡ config_start delays last
       → Theory.plan_draw (counted total) written last.time (kind_of (counted total) (start_from start)) room noise bytes ≡ Chosen ended
