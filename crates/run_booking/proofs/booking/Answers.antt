@@ -10,31 +10,28 @@ use borrow.Author.Rules.{rules}
 use native.Mathlib.Omega.{arith}
 use Rattle.run_booking.proofs.booking.Goals as goal
 
-abbrev IsOpened : tie.After-prepare → Type 0
-IsOpened z =
-    let a = z.before.before.before.before.before.before.args in
-    z.prepare.result.opened ≡ opened a.taps_s.now a.taps_ac.now a.settings.now
-
-is_opened : (z : tie.After-prepare) → IsOpened z
-unfolding prepared_of
-is_opened z = ap (λ (p : Prepared). p.opened) z.prepare.ensures
-
 pub returns-then-draws-ne0 : goal.returns-then-draws-ne0
 returns-then-draws-ne0 c =
     let a = c.args in
     length_refused a.taps_s.now a.taps_ac.now a.time a.settings.now a.draws.now c.if-draws-ne0.true
 
 pub of_run-requires : goal.of_run-requires
+unfolding prepared_of
 of_run-requires c =
     let a = c.args in
-    (few_samples a.taps_s.now a.taps_ac.now a.settings.now _ (sym (is_opened c) ∙ c.in-Run.is), c.if-draws-ne0.false)
+    let is_opened : c.prepare-prepared.result.opened ≡ opened a.taps_s.now a.taps_ac.now a.settings.now = ap (λ (p : Prepared). p.opened) c.prepare-prepared.ensures in
+    (few_samples a.taps_s.now a.taps_ac.now a.settings.now _ (sym is_opened ∙ c.in-Run.is), c.if-draws-ne0.false)
 
 pub returns-in-Refused : goal.returns-in-Refused
+unfolding prepared_of
 returns-in-Refused c =
     let a = c.args in
-    opening_refused a.taps_s.now a.taps_ac.now a.time a.settings.now a.draws.now c.if-draws-ne0.false _ (is_opened c) _ c.in-Refused.is
+    let is_opened : c.prepare-prepared.result.opened ≡ opened a.taps_s.now a.taps_ac.now a.settings.now = ap (λ (p : Prepared). p.opened) c.prepare-prepared.ensures in
+    opening_refused a.taps_s.now a.taps_ac.now a.time a.settings.now a.draws.now c.if-draws-ne0.false _ is_opened _ c.in-Refused.is
 
 pub returns-in-Run : goal.returns-in-Run
+unfolding prepared_of
 returns-in-Run c =
     let a = c.args in
-    run_booked a.taps_s.now a.taps_ac.now a.time a.settings.now a.draws.now c.if-draws-ne0.false _ (is_opened c) _ _ c.in-Run.is c.of_run.ensures
+    let is_opened : c.prepare-prepared.result.opened ≡ opened a.taps_s.now a.taps_ac.now a.settings.now = ap (λ (p : Prepared). p.opened) c.prepare-prepared.ensures in
+    run_booked a.taps_s.now a.taps_ac.now a.time a.settings.now a.draws.now c.if-draws-ne0.false _ is_opened _ _ c.in-Run.is c.of_run.ensures

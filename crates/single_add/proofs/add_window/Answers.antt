@@ -5,10 +5,5 @@ use Rattle.single_add.proofs.add_window.Goals as goal
 
 pub returns : goal.returns
 returns c =
-    let k2 = c.before.before in
-    let r = k2.before.before.before.before.before in
-    let k1 = r.before.before.before.before in
-    let n = k1.before.before.before in
-    let p = n.before.before.before.before.before in
-    let a = p.args in
-    through_memory _ a.at a.past _ _ _ a.output.now _ _ _ _ n.least.ensures p.requires.1 p.requires.0 k1.copy.ensures r.add-reply.ensures.0 k2.copy2.ensures  -- LEFT
+    let a = c.args in
+    through_memory _ a.at a.past _ _ _ a.output.now _ _ _ _ c.least-len.ensures c.requires.1 c.requires.0 c.copy.ensures c.add_reply.ensures.0 c.copy-2.ensures
