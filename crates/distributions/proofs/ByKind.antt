@@ -1,5 +1,5 @@
 -- The choice by a kind, from what the code's tests say of it.
-use mathlib.Core.Path.{◌≡◌, refl, ◌∙◌, sym}
+use mathlib.Core.Path.{◌≡◌, refl}
 use Prim.Native.Nat.{ℕ, zero, suc}
 use Rattle.distributions.specs.Accepted.{by_kind}
 

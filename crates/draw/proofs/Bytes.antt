@@ -4,10 +4,9 @@ use mathlib.Core.Path.{◌≡◌, refl, sym, ap, ◌∙◌}
 use mathlib.Core.List.{List, ◌∷◌}
 use native.Mathlib.Numerals.{add-one}
 use native.Mathlib.Omega.{arith}
-use lib.Dec.{T}
 use lib.ListN.{length, get_or, take, drop}
 use lib.Seq.{drop-cons}
-use lib.Ieee.{binary32, binary64, fits, of_bits}
+use lib.Ieee.{binary32, binary64, of_bits}
 use lib.Ieee.Bits.{of_bits-fits}
 use Rattle.le_read.specs.LeBytes.{le_at}
 use Rattle.settings.proofs.Inside.{number_there}

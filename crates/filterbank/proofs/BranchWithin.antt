@@ -1,5 +1,5 @@
 -- For a phase from 0 to below 1 the branch is a branch, the whole part of the scaled phase, and tau is from 0 to 1. Until the cast to f32 no operation rounds.
-use Rattle.std.proofs.Common.{◌≡◌, ℕ, zero, suc, ◌+◌, ◌-◌, ◌*◌, ◌/◌, ◌%◌, ◌^◌, ◌<◌, ◌≤◌, min, Bool, true, false, cond, not, T, ltb, ◌⊎◌, pos, negsuc, sym, refl, ap, ◌∙◌, subst, inl, inr, zero-le, le_trans, le_of_eq, lt_of_lt_of_le, lt_of_le_of_lt, le_of_lt, mul-le-mul_right, mod-lt, mul_assoc, mul_comm, div-lt_iff_lt-mul, mul-lt-mul_of_pos_right, one-mul, zero-mul, mul-one, mul_right_comm, div-mul-le_self, arith, lit<, lit≤, pow_pos, pow_mono, pow-add, lt-ltb}
+use Rattle.std.proofs.Common.{◌≡◌, ℕ, ◌+◌, ◌-◌, ◌*◌, ◌/◌, ◌%◌, ◌^◌, ◌<◌, ◌≤◌, min, Bool, true, false, cond, T, pos, sym, refl, ap, ◌∙◌, subst, inl, inr, zero-le, le_trans, le_of_eq, lt_of_lt_of_le, lt_of_le_of_lt, le_of_lt, mul-le-mul_right, mod-lt, mul_assoc, mul_comm, div-lt_iff_lt-mul, mul-lt-mul_of_pos_right, zero-mul, div-mul-le_self, arith, lit<, lit≤, pow_pos, pow-add, lt-ltb}
 use native.Mathlib.Nat.{mod-le, mod-eq-sub-div-mul, mul-mod_left, mul-div-mul_right, mul-sub}
 use lib.Ieee.{Float, nan, inf, fin, binary32, binary64, up, down, round, mul, sub, of_int, to_unsigned, lt, le, fits}
 use lib.Ieee.Fits.{down_pos}

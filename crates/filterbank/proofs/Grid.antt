@@ -1,6 +1,6 @@
 -- The clock on a grid. A step of at least `least` cells and at most a half, on a grid of `cells` to a pulse that the format holds exactly, takes the phase up by that many cells each sample.
 -- So the phase stays from 0 to below 1, and n samples count least * n cells. Rounding keeps order and is exact on the grid: nothing else is used.
-use Rattle.std.proofs.Common.{◌≡◌, ℕ, zero, suc, ◌+◌, ◌-◌, ◌*◌, ◌^◌, ◌<◌, ◌≤◌, Bool, true, false, not, T, pos, sym, refl, ap, ◌∙◌, subst, zero-le, le_trans, le_of_eq, lt_of_lt_of_le, lt_of_le_of_lt, le_of_lt, mul-le-mul_right, mul_assoc, mul_comm, add-mul, lt_of_mul-lt-mul_right, mul-le-mul_left, mul-one, mul-add, add-one, arith, lit<, pow_pos}
+use Rattle.std.proofs.Common.{◌≡◌, ℕ, suc, ◌+◌, ◌-◌, ◌*◌, ◌^◌, ◌<◌, ◌≤◌, Bool, true, false, not, T, pos, sym, refl, ap, ◌∙◌, subst, le_trans, le_of_eq, lt_of_lt_of_le, lt_of_le_of_lt, mul-le-mul_right, mul_comm, add-mul, lt_of_mul-lt-mul_right, mul-le-mul_left, mul-one, mul-add, add-one, arith, lit<, pow_pos}
 use native.Mathlib.Nat.{lt_of_mul-lt-mul_left, mul-sub}
 use lib.Ieee.{Float, fin, binary64, add, sub, le, of_int}
 use lib.Ieee.Scale.{overflow}

@@ -1,5 +1,5 @@
 -- The clock's phase stays from 0 to below 1, at both settings and for every clock error within 0.1.
-use Rattle.std.proofs.Common.{◌≡◌, ℕ, zero, suc, ◌^◌, false, T, pos, refl, subst}
+use Rattle.std.proofs.Common.{ℕ, zero, suc, ◌^◌, false, T, pos, refl}
 use lib.Ieee.{Float, fin, lt, le}
 use Rattle.float_rounding.proofs.More.{lt_from, nonneg}
 use Rattle.constants.specs.declared.SamplesPerPulse.{SamplesPerPulse}

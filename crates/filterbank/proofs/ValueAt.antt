@@ -1,11 +1,10 @@
 -- The code's value at a clock, over padded pulses, is that of `apply_filterbank`, for up to 240 pulses.
-use Rattle.std.proofs.Common.{◌≡◌, ℕ, zero, suc, ◌+◌, ◌≤◌, Bool, true, false, cond, eqb, List, [], ◌∷◌, length, replicate, sym, refl, ap, ◌∙◌, subst, le_of_eq, le_refl}
+use Rattle.std.proofs.Common.{◌≡◌, ℕ, suc, ◌≤◌, Bool, true, false, cond, eqb, List, [], ◌∷◌, length, replicate, refl, ap, ◌∙◌, le_of_eq}
 use lib.Ieee.{Float, binary32, of_bits}
 use Rattle.constants.specs.Rate.{prototype_length}
 use Rattle.pulse_shape.proofs.Whole.{length_values}
 use Rattle.filterbank.specs.declared.Clock.{Clock}
 use Rattle.filterbank.specs.Taps.{branch_of, tau_of, branch, next_branch, between, filter_taps}
-use Rattle.filterbank.specs.PulseSum.{pulse_sum}
 use Rattle.filterbank.specs.PaddedPulsesModel.{pad_pulses, padded_sum}
 use Rattle.filterbank.specs.Apply.{value_at}
 use Rattle.filterbank.proofs.PaddedSum.{padded_sum_lem}

@@ -1,6 +1,6 @@
 -- `ApplyFilterbank`: the values that a sequence of pulses becomes, and their number apart from them.
 -- Fuel makes the recursions total. It is idle for each clock error within 0.1 and first phase from 0 to 2 samples: see proofs/EndsByItself.antt.
-use Rattle.std.specs.Prelude.{ℕ, zero, suc, ◌+◌, ◌*◌, Bool, true, false, cond, List, [], ◌∷◌, length, nat_lt, Float}
+use Rattle.std.specs.Prelude.{ℕ, zero, suc, ◌+◌, ◌*◌, Bool, cond, List, [], ◌∷◌, length, nat_lt, Float}
 use Rattle.filterbank.specs.declared.Clock.{Clock}
 use Rattle.filterbank.specs.Taps.{filter_taps}
 use Rattle.filterbank.specs.PulseSum.{pulse_sum, reach}

@@ -1,5 +1,5 @@
 -- An `f32` in the normal range has the `f64` pattern m + 896 * 2 ^ 23 with 29 zeros after it (`widened`). So an `f64` pattern in that range, rounded to its upper 35 bits, is a value that `f32` holds, and the nearest there (`rounded`).
-use Rattle.std.proofs.Common.{◌≡◌, ℕ, zero, suc, ◌+◌, ◌-◌, ◌*◌, ◌/◌, ◌%◌, ◌^◌, ◌<◌, ◌≤◌, Bool, true, false, cond, not, T, eqb, leb, ◌⊎◌, pos, negsuc, sym, refl, ap, ◌∙◌, subst, inl, inr, lt_irrefl, zero-lt-suc, eq-zero-or-pos, mul-one, mul-div_cancel, arith, le→leb, eqb→eq, leb→le, pow_pos, pow-add}
+use Rattle.std.proofs.Common.{◌≡◌, ℕ, zero, suc, ◌+◌, ◌-◌, ◌*◌, ◌/◌, ◌%◌, ◌^◌, ◌<◌, ◌≤◌, Bool, true, false, cond, not, T, eqb, leb, pos, negsuc, sym, refl, ap, ◌∙◌, subst, inl, inr, lt_irrefl, eq-zero-or-pos, mul-one, mul-div_cancel, arith, le→leb, eqb→eq, leb→le, pow_pos, pow-add}
 use native.Mathlib.Nat.{div-div-eq-div-mul}
 use lib.Dec.{nleb→lt}
 use lib.Arith.{lt→nleb}

@@ -3,13 +3,13 @@ use Prim.Native.Nat.{ℕ, zero, suc, ◌+◌, ◌-◌, ◌*◌, ◌/◌, ◌%◌
 use mathlib.Core.Path.{◌≡◌, refl, sym, ap, ◌∙◌, subst}
 use mathlib.Core.Bool.{Bool, true, false, cond}
 use mathlib.Core.Logic.{◌⊎◌, ⊎_elim}
-use mathlib.Core.List.{List, [], ◌∷◌, ◌++◌, append_assoc}
+use mathlib.Core.List.{List, ◌++◌, append_assoc}
 use native.Mathlib.Nat.{mod-one, add_comm, mul_comm, pow-suc, one-le-pow, mod-eq_of_lt}
 use native.Mathlib.Omega.{arith}
 use lib.Arith.{mod-mul}
-use lib.Dec.{leb, lit<}
+use lib.Dec.{lit<}
 use lib.ListN.{length, take, drop, length-append, length-drop, take-append-drop}
-use lib.Seq.{length-take-le, take_at, drop_at, drop-drop, take-append-le, drop-append-le, take-append_seam}
+use lib.Seq.{length-take-le, drop_at, drop-drop, take-append-le, drop-append-le, take-append_seam}
 use borrow.Author.Tests.{le-leb}
 use Rattle.le_read.specs.LeBytes.{le_of, bytes_of, inside, le_at, read_at, overwritten, put}
 use Rattle.le_read.specs.Reads.{read_u16, read_u32, read_u64}

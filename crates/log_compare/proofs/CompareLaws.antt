@@ -1,15 +1,14 @@
 -- What is shown of a log held against records holds.
-use mathlib.Core.Path.{◌≡◌, refl, sym, ap, ◌∙◌, subst}
+use mathlib.Core.Path.{◌≡◌, refl, sym, ap, subst}
 use mathlib.Core.Bool.{Bool, true, false, cond}
 use mathlib.Core.List.{List}
 use mathlib.Core.Option.{Option, none, some}
-use Prim.Native.Nat.{ℕ, ◌≤◌, ◌<◌}
+use Prim.Native.Nat.{ℕ}
 use native.Mathlib.Omega.{arith}
 use lib.ListN.{length}
 use Rattle.refusals.specs.declared.Refusal.{Refusal}
 use Rattle.refusals.specs.declared.Refusal.TheVariants.{Length, Log}
 use Rattle.record_check.specs.FirstFault.{first_fault, record_refusal}
-use Rattle.log_theory.specs.Pairing.{Logs}
 use Rattle.log_theory.specs.Report.{report_of}
 use Rattle.log_theory.proofs.PairingLaws.{pairing_laws}
 use Rattle.log_entry.specs.Entries.{logs}

@@ -2,14 +2,14 @@
 use mathlib.Core.Path.{◌≡◌, refl, sym, ap, ◌∙◌, subst}
 use mathlib.Core.Bool.{Bool, true, false, cond, ◌&&◌}
 use mathlib.Core.List.{List}
-use mathlib.Core.Option.{Option, none, some}
-use Prim.Native.Nat.{ℕ, ◌-◌, ◌/◌, ◌%◌, ◌≤◌, ◌<◌}
+use mathlib.Core.Option.{none, some}
+use Prim.Native.Nat.{ℕ, ◌/◌, ◌%◌, ◌≤◌}
 use native.Mathlib.Omega.{arith}
 use lib.Dec.{T, eqb, eqb→eq}
 use lib.ListN.{length}
-use Rattle.refusals.specs.Answer.{Answer, accepted, refused}
+use Rattle.refusals.specs.Answer.{refused}
 use Rattle.refusals.specs.declared.Refusal.{Refusal}
-use Rattle.log_theory.specs.Pairing.{Logs, pairs_of, shown}
+use Rattle.log_theory.specs.Pairing.{Logs}
 use Rattle.log_theory.specs.Report.{Lists, report_of}
 use Rattle.log_theory.proofs.PairingLaws.{pairing_laws}
 use Rattle.log_entry.specs.Entries.{logs}
@@ -18,7 +18,7 @@ use Rattle.log_check.specs.declared.Checked.TheVariants.{Accepted, Refused}
 use Rattle.log_check.specs.LogChecks.{lengths_fit, contents_refusal, compare_refusal, checked_of}
 use Rattle.log_pairs.specs.Paired.{paired_of}
 use Rattle.log_pairs.proofs.Marks.{both_fits}
-use Rattle.log_compare.specs.Comparison.{Comparison, counts_of, reported, decided, compared_of}
+use Rattle.log_compare.specs.Comparison.{reported, decided, compared_of}
 
 both_true : (a b : Bool) → (a && b) ≡ true → (a ≡ true) × (b ≡ true)
 both_true true b e = (refl, e)

@@ -4,11 +4,11 @@ use mathlib.Core.Bool.{Bool, true, false, cond}
 use mathlib.Core.List.{List}
 use Prim.Native.Nat.{ℕ, zero, suc, ◌+◌, ◌-◌, ◌*◌, ◌/◌, ◌≤◌, ◌<◌}
 use native.Mathlib.Omega.{arith}
-use lib.Dec.{T, eqb, ltb, leb, eqb→eq, eqb_refl}
+use lib.Dec.{T, eqb, ltb, eqb→eq, eqb_refl}
 use lib.ListN.{length, get_or}
 use borrow.Author.Tests.{eq-eqb, ne_eqb, lt-ltb, le-ltb, lt-leb}
 use Rattle.le_read.specs.LeBytes.{le_at, read_at, number_at}
-use Rattle.log_theory.specs.Pairing.{both, near, Logs, allowed}
+use Rattle.log_theory.specs.Pairing.{both, near, allowed}
 use Rattle.log_theory.specs.PairingLaws.{Orderly}
 use Rattle.log_theory.proofs.Basics.{both_left, both_right, both_in}
 use Rattle.log_entry.specs.Entries.{sample_of, first_of, heard_length, sent_length, same_from, message_alike, alike_of, logs}

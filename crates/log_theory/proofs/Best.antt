@@ -1,6 +1,6 @@
 -- No choice of partners has more of them than the pairing that is reported.
-use mathlib.Core.Path.{◌≡◌, refl, sym, ap, ◌∙◌, subst}
-use mathlib.Core.Bool.{Bool, true, false, cond}
+use mathlib.Core.Path.{◌≡◌, refl, sym, subst}
+use mathlib.Core.Bool.{Bool, true, false}
 use mathlib.Core.List.{List, [], ◌∷◌}
 use Prim.Native.Nat.{ℕ, zero, suc, ◌+◌, ◌≤◌, ◌<◌}
 use native.Mathlib.Omega.{arith}
@@ -8,8 +8,8 @@ use lib.Dec.{T, eqb, eqb→eq}
 use lib.ListN.{length}
 use Rattle.log_theory.specs.declared.Partner.{Partner}
 use Rattle.log_theory.specs.declared.Partner.TheVariants.{Alone as alone, With as partner}
-use Rattle.log_theory.specs.Pairing.{both, Logs, allowed, without, cand, earliest, taking, greedy, one, count}
-use Rattle.log_theory.proofs.Basics.{without_free, without_other, without_swap, Near, near, allow, cand_free, cand_allowed, cand_in, cand_without, cand_other, same_or_not}
+use Rattle.log_theory.specs.Pairing.{Logs, allowed, without, cand, earliest, taking, greedy, one, count}
+use Rattle.log_theory.proofs.Basics.{without_other, without_swap, near, allow, cand_free, cand_allowed, cand_in, cand_without, cand_other}
 use Rattle.log_theory.specs.PairingLaws.{Orderly, Before, Earliest}
 use Rattle.log_theory.proofs.Picks.{found}
 

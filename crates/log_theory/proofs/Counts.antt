@@ -1,16 +1,16 @@
 -- The three counts, and each record's entry.
 use mathlib.Core.Path.{◌≡◌, refl, sym, ap, ◌∙◌, subst}
 use mathlib.Core.Bool.{Bool, true, false, cond}
-use mathlib.Core.Logic.{◌⊎◌, inl, inr}
+use mathlib.Core.Logic.{inl, inr}
 use mathlib.Core.List.{List, [], ◌∷◌}
 use Prim.Native.Nat.{ℕ, zero, suc, ◌+◌, ◌≤◌, ◌<◌}
 use native.Mathlib.Omega.{arith}
-use lib.Dec.{T, eqb, eqb→eq, eqb_refl}
+use lib.Dec.{T}
 use lib.ListN.{length}
 use Rattle.log_theory.specs.declared.Partner.{Partner}
 use Rattle.log_theory.specs.declared.Partner.TheVariants.{Alone as alone, With as partner}
-use Rattle.log_theory.specs.Pairing.{both, Logs, allowed, Pair, All, Apart, Distinct, Pairing, without, cand, taking, greedy, every, shown, one, count, pairs_of}
-use Rattle.log_theory.specs.Report.{entry_of, In, lone, unsent, left, tally}
+use Rattle.log_theory.specs.Pairing.{Logs, Pair, All, Apart, Distinct, without, every, shown, count, pairs_of}
+use Rattle.log_theory.specs.Report.{entry_of, In, unsent, left, tally}
 use Rattle.log_theory.proofs.Basics.{true_at, same_or_not, without_other, cand_free}
 use Rattle.log_theory.proofs.Best.{Fits, equal_or_not, greedy_fits}
 use Rattle.log_theory.proofs.Lists.{greedy_long, pairs_many}

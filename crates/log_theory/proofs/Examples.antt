@@ -5,9 +5,8 @@ use Prim.Native.Nat.{ℕ}
 use native.Mathlib.Omega.{arith}
 use lib.Dec.{eqb, lit<}
 use lib.ListN.{length, get_or}
-use Rattle.log_theory.specs.declared.Partner.{Partner}
 use Rattle.log_theory.specs.declared.Partner.TheVariants.{Alone as alone, With as partner}
-use Rattle.log_theory.specs.Pairing.{Logs, Pair, Pairing, earliest, shown}
+use Rattle.log_theory.specs.Pairing.{Logs, Pairing, earliest, shown}
 
 -- samples and messages heard, first samples and messages sent, and the tolerance
 abbrev given : List ℕ → List ℕ → List ℕ → List ℕ → ℕ → Logs

@@ -1,6 +1,6 @@
 -- Pairings as lists of indices, and partners entry by entry.
 use mathlib.Core.Path.{◌≡◌, refl, sym, ap, ◌∙◌, subst}
-use mathlib.Core.Bool.{Bool, true, false, cond}
+use mathlib.Core.Bool.{Bool, true, false}
 use mathlib.Core.Logic.{◌⊎◌, inl, inr}
 use mathlib.Core.List.{List, [], ◌∷◌}
 use Prim.Native.Nat.{ℕ, zero, suc, ◌+◌, ◌≤◌, ◌<◌}
@@ -9,10 +9,10 @@ use lib.Dec.{T, eqb, eqb→eq}
 use lib.ListN.{length}
 use Rattle.log_theory.specs.declared.Partner.{Partner}
 use Rattle.log_theory.specs.declared.Partner.TheVariants.{Alone as alone, With as partner}
-use Rattle.log_theory.specs.Pairing.{both, Logs, allowed, Pair, All, Apart, Distinct, May, Pairing, without, cand, earliest, taking, greedy, every, shown, one, count, push, pairs_of}
+use Rattle.log_theory.specs.Pairing.{Logs, Pair, All, Apart, Distinct, May, Pairing, without, cand, earliest, taking, greedy, every, shown, count, pairs_of}
 use Rattle.log_theory.specs.PairingLaws.{Orderly}
 use Rattle.log_theory.proofs.Basics.{cand_allowed, cand_without, cand_other}
-use Rattle.log_theory.proofs.Best.{Fits, equal_or_not, greedy_fits, most}
+use Rattle.log_theory.proofs.Best.{Fits, greedy_fits, most}
 
 pub all_map : (Q R : Pair → Type 0) → ((x : Pair) → Q x → R x) → (ps : List Pair) → All Q ps → All R ps
 all_map Q R f [] a = tt

@@ -1,12 +1,10 @@
 -- What is shown of the pairing holds.
-use mathlib.Core.Path.{◌≡◌, refl, sym, ap, subst}
+use mathlib.Core.Path.{◌≡◌, subst}
 use mathlib.Core.Bool.{Bool}
-use mathlib.Core.List.{List, [], ◌∷◌}
-use Prim.Native.Nat.{ℕ, zero, suc, ◌+◌, ◌≤◌, ◌<◌}
+use Prim.Native.Nat.{ℕ, zero, suc, ◌+◌, ◌<◌}
 use native.Mathlib.Omega.{arith}
-use lib.ListN.{length, take, get_or}
-use Rattle.log_theory.specs.declared.Partner.{Partner}
-use Rattle.log_theory.specs.declared.Partner.TheVariants.{Alone as alone, With as partner}
+use lib.ListN.{take, get_or}
+use Rattle.log_theory.specs.declared.Partner.TheVariants.{Alone as alone}
 use Rattle.log_theory.specs.Pairing.{Logs, earliest, taking, greedy, every, shown}
 use Rattle.log_theory.specs.Report.{left}
 use Rattle.log_theory.specs.PairingLaws.{Earliest, pairs, PairingLaws}

@@ -1,6 +1,6 @@
 -- The scan finds the earliest free and allowed record, of equal ones the first in the records' order; and only one record is that.
-use mathlib.Core.Path.{◌≡◌, refl, sym, ap, ◌∙◌, subst}
-use mathlib.Core.Bool.{Bool, true, false, not, cond}
+use mathlib.Core.Path.{◌≡◌, refl, sym, ap, subst}
+use mathlib.Core.Bool.{Bool, true, false, cond}
 use mathlib.Core.Logic.{◌⊎◌, inl, inr}
 use Prim.Native.Nat.{ℕ, zero, suc, ◌+◌, ◌≤◌, ◌<◌}
 use native.Mathlib.Omega.{arith}
@@ -8,7 +8,7 @@ use native.Mathlib.Nat.{eq-or-lt_of_le, le_of_suc-le-suc}
 use lib.Dec.{T, ltb, ltb→lt, nltb→le, not_T}
 use Rattle.log_theory.specs.declared.Partner.{Partner}
 use Rattle.log_theory.specs.declared.Partner.TheVariants.{Alone as alone, With as partner}
-use Rattle.log_theory.specs.Pairing.{both, Logs, allowed, cand, better, scan, earliest}
+use Rattle.log_theory.specs.Pairing.{both, Logs, cand, better, scan, earliest}
 use Rattle.log_theory.specs.PairingLaws.{Before, Earliest}
 use Rattle.log_theory.proofs.Basics.{both_left, both_right, both_in}
 

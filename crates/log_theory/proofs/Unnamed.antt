@@ -1,15 +1,15 @@
 -- As many numbers of each list name nobody as entries or records are left over.
-use mathlib.Core.Path.{◌≡◌, refl, sym, ap, ◌∙◌, subst}
+use mathlib.Core.Path.{◌≡◌, refl, sym, ap, ◌∙◌}
 use mathlib.Core.Bool.{Bool, true, false, cond}
 use mathlib.Core.List.{List, [], ◌∷◌}
-use Prim.Native.Nat.{ℕ, zero, suc, ◌+◌, ◌≤◌, ◌<◌}
+use Prim.Native.Nat.{ℕ, zero, suc, ◌+◌, ◌≤◌}
 use native.Mathlib.Omega.{arith}
-use lib.Dec.{T, eqb}
+use lib.Dec.{eqb}
 use lib.ListN.{length}
 use borrow.Author.Tests.{ne_eqb, eq-eqb}
 use Rattle.log_theory.specs.declared.Partner.{Partner}
 use Rattle.log_theory.specs.declared.Partner.TheVariants.{Alone as alone, With as partner}
-use Rattle.log_theory.specs.Pairing.{Logs, without, taking, greedy, every, shown, pairs_of}
+use Rattle.log_theory.specs.Pairing.{Logs, without, every, shown, pairs_of}
 use Rattle.log_theory.specs.Report.{nobody, index, indices, entry_of, entries_from, unnamed, left, tally, unsent}
 use Rattle.log_theory.proofs.Basics.{same_or_not, true_at, without_other}
 use Rattle.log_theory.proofs.Best.{Fits, equal_or_not, greedy_fits}

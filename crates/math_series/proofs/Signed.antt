@@ -5,7 +5,7 @@ use native.Mathlib.Nat.{le_refl, le_trans, le_of_eq, le_antisymm, mul-one, one-m
 use native.Mathlib.Omega.{arith}
 use mathlib.Core.Bool.{true}
 use lib.Dec.{T, leb, leb→le}
-use Rattle.math_series.specs.Fraction.{Fraction, over, nought, one, opposite, ◌⊕◌, ◌⊗◌, ◌⊑◌, Within, signed}
+use Rattle.math_series.specs.Fraction.{Fraction, nought, one, opposite, ◌⊕◌, ◌⊗◌, ◌⊑◌, Within}
 
 ruleset ring = (add-mul, mul-add, mul_assoc, mul_comm, mul_left_comm, add_assoc, add_comm, add_left_comm)
 

@@ -19,7 +19,7 @@ use Rattle.message.specs.declared.TypeFound.TheVariants.{Of, Unknown}
 use Rattle.message.specs.Types.{type_number}
 use Rattle.message.specs.Making.{formats, reply_of, field_fault}
 use Rattle.message_classify.specs.declared.Class.{Class}
-use Rattle.message_classify.specs.declared.Class.TheVariants.{OfType, TisB, NoClass}
+use Rattle.message_classify.specs.declared.Class.TheVariants.{TisB}
 use Rattle.message_classify.specs.Classing.{
   listed,
   tis_b_controls,

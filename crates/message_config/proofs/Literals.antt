@@ -1,5 +1,5 @@
 -- The numbers that the definitions name are those written in the code, computed.
-use Rattle.std.proofs.Common.{◌≡◌, pos, refl}
+use Rattle.std.proofs.Common.{◌≡◌, refl}
 use lib.Ieee.{binary64, of_bits, of_int, div}
 use Rattle.pulse_shape.specs.GroupDelay.{mode_ac_ratio}
 use Rattle.message_config.specs.Timing.{one}

@@ -3,7 +3,7 @@ use mathlib.Core.Path.{◌≡◌, refl, sym, ap, ◌∙◌}
 use mathlib.Core.List.{List, [], ◌∷◌}
 use Prim.Native.Nat.{ℕ, zero, suc, ◌+◌, ◌-◌, ◌*◌, ◌/◌, ◌%◌, ◌^◌, ◌≤◌, ◌<◌}
 use native.Mathlib.Omega.{arith}
-use lib.ListN.{length, get_or, take, length-append, length-take, length-drop}
+use lib.ListN.{length, get_or, length-append, length-take, length-drop}
 use lib.Bits.{bit_xor, xor_lt}
 use Rattle.mode_s.specs.Formats.{short_ap_formats}
 use Rattle.mode_s.specs.Parity.{parity_of, parity_bytes, with_parity}
@@ -25,7 +25,7 @@ use Rattle.message.specs.Making.{formats, format_of, byte0, later, message_bytes
 use Rattle.message.proofs.InRange.{short_ap_format, overlay_below}
 use Rattle.message_classify.proofs.MadeClassed.{byte0_format}
 use Rattle.message_interrogator.specs.declared.Interrogator.TheVariants.{Ii, Si, Unassigned, NoReading}
-use Rattle.message_interrogator.specs.Interrogators.{within, code_of, last_three, overlay_of, interrogator_of}
+use Rattle.message_interrogator.specs.Interrogators.{code_of, last_three, overlay_of, interrogator_of}
 use Rattle.message_interrogator.specs.InterrogatorLaws.{three_bytes, overlaid_with, InterrogatorLaws}
 use Rattle.message_interrogator.proofs.Readings.{inside, before, behind, ii_code, si_code, no_code, reading, another_format, another_length}
 

@@ -1,5 +1,5 @@
 -- Theorem `places-of-the-base`: the positions by rule are those that the base lists, compared once, by computation.
-use mathlib.Core.Path.{◌≡◌, refl, sym, ◌∙◌}
+use mathlib.Core.Path.{refl, sym, ◌∙◌}
 use mathlib.Core.Bool.{Bool}
 use Prim.Native.Nat.{ℕ, ◌≤◌}
 use native.Mathlib.Decide.{dec_lt}

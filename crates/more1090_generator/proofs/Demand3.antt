@@ -20,9 +20,8 @@ use Rattle.run_call.specs.Buffers.{Left, CallBuffers}
 use Rattle.run_call.specs.CallModel.{run_left}
 use Rattle.run_call.specs.Calls.{runs_left}
 use Rattle.run_theorem.specs.Seen.{Numbered, stopped, refused, Seen, answer_seen, seen_left, counts_of, answer_of, seen_result}
-use Rattle.run_theorem.specs.OpenedRuns.{Run, Opens, calls, gen, results, samples_added, total_added, record_counts, CountsAdded, last_state, Demand3}
+use Rattle.run_theorem.specs.OpenedRuns.{Run, Opens, calls, gen, results, samples_added, total_added, record_counts, CountsAdded, last_state}
 use Rattle.run_theorem.proofs.Demand3.{opened_runs}
-use Rattle.more1090_generator.specs.declared.FlatState.{FlatState}
 use Rattle.more1090_generator.specs.declared.FlatAnswer.{FlatAnswer}
 use Rattle.more1090_generator.specs.States.{flat_of}
 use Rattle.refusal_values.specs.Flat.{values_flat}

@@ -16,7 +16,6 @@ use Rattle.run_steps.specs.declared.Stop.{Stop}
 use Rattle.run_call.specs.declared.Counts.{Counts}
 use Rattle.run_call.specs.declared.Answer as Answer
 use Rattle.run_call.specs.declared.Ran.{Ran}
-use Rattle.run_call.specs.Buffers.{Left}
 use Rattle.run_call.specs.Given.{stop_number}
 use Rattle.run_call.specs.CallModel.{run_left}
 use Rattle.more1090_generator.specs.declared.FlatDistribution.{FlatDistribution}

@@ -1,5 +1,5 @@
 -- A refusal changes neither state nor any buffer (SPECIFICATION 3.3), for callers in C: of a state that a call returned (`refused-run`), and of opening (`refused-opening`).
-use mathlib.Core.Path.{◌≡◌, refl, ap, subst}
+use mathlib.Core.Path.{◌≡◌, refl}
 use mathlib.Core.List.{List}
 use mathlib.Core.Option.{Option, none, some}
 use Prim.Native.Nat.{ℕ}
@@ -9,9 +9,8 @@ use Rattle.run_theory.specs.PlainBench as Bench
 use Rattle.run_open_checks.specs.declared.Opened as Opened
 use Rattle.run_open_checks.specs.Opening as Opening
 use Rattle.run_call.specs.declared.State.{State}
-use Rattle.run_call.specs.Buffers.{Left}
 use Rattle.run_call.specs.CallModel.{left_by, call_left, refused_by, run_by, call_refusal, run_left}
-use Rattle.more1090_generator.specs.States.{flat_of, state_from}
+use Rattle.more1090_generator.specs.States.{flat_of}
 use Rattle.more1090_generator.specs.Answers.{opened_flat, flat_answer, answered, ran_flat, FlatLeft, left_flat, flat_run_left}
 use Rattle.more1090_generator.proofs.StateBack.{state_back}
 

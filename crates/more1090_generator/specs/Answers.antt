@@ -1,6 +1,5 @@
 -- What opening a run and a run call answer, as C has it: the numbers and values of refusals (SPECIFICATION 3.1), a number for each stop (9.2), and what a call leaves in the buffers.
 use Rattle.std.specs.Prelude.{ℕ, List, [], ◌∷◌, Float}
-use Rattle.refusals.specs.declared.Refusal.{Refusal}
 use Rattle.refusals.specs.Number.{number_of}
 use Rattle.run_open_checks.specs.declared.Opened as Opened
 use Rattle.run_call.specs.declared.Counts.{Counts}

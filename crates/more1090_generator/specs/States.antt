@@ -1,5 +1,5 @@
 -- A run's state as C has it, plain numbers: out of a state and back into one. Any numbers whatever are read as a state.
-use Rattle.std.specs.Prelude.{ℕ, Bool, cond, not, eqb, Float}
+use Rattle.std.specs.Prelude.{ℕ, cond, not, eqb, Float}
 use Rattle.std.specs.Float.{binary64}
 use Rattle.std.specs.Float.Ieee.{of_bits}
 use Rattle.distributions.specs.declared.CarrierOffset as Carrier

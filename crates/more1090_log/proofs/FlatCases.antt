@@ -2,12 +2,11 @@
 use mathlib.Core.Path.{◌≡◌, sym, ap, ◌∙◌}
 use mathlib.Core.List.{List}
 use Prim.Native.Nat.{ℕ}
-use Rattle.refusals.specs.Answer.{Answer}
 use Rattle.refusals.specs.Number.{number_of}
 use Rattle.refusals.specs.declared.Refusal.{Refusal}
 use Rattle.log_compare.specs.declared.Compared.{Compared}
 use Rattle.log_compare.specs.declared.Compared.TheVariants as Case
-use Rattle.log_compare.specs.Comparison.{Counts, Comparison, answer_of, compared_of}
+use Rattle.log_compare.specs.Comparison.{Counts, answer_of, compared_of}
 use Rattle.more1090_log.specs.declared.FlatCompared.{FlatCompared}
 use Rattle.more1090_log.specs.LogInC.{value_of, flat_of, FlatComparison, flat_left, flat_comparison}
 

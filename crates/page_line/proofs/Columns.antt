@@ -1,11 +1,9 @@
 -- The columns of a number, put from the last to the first; and blanks.
-use Prim.Native.Nat.{ℕ, zero, suc, ◌+◌, ◌-◌, ◌/◌, ◌%◌, ◌^◌, ◌≤◌, ◌<◌}
-use mathlib.Core.Path.{◌≡◌, refl, sym, ap, ◌∙◌, subst}
+use Prim.Native.Nat.{ℕ, zero, suc, ◌+◌, ◌-◌, ◌/◌, ◌≤◌, ◌<◌}
+use mathlib.Core.Path.{◌≡◌, sym, ap, ◌∙◌}
 use mathlib.Core.List.{List, [], ◌∷◌, ◌++◌, append_assoc, append-nil}
-use native.Mathlib.Numerals.{add-one}
-use native.Mathlib.Nat.{add-zero}
 use native.Mathlib.Omega.{arith}
-use lib.ListN.{length, set, length-replicate, length-set, replicate-append-replicate}
+use lib.ListN.{length, set, length-replicate, replicate-append-replicate}
 use Rattle.le_read.specs.LeBytes.{overwritten}
 use Rattle.le_read.proofs.Halves.{overwritten_one}
 use Rattle.le_read.proofs.RoundTrip.{length_overwritten}

@@ -1,5 +1,5 @@
 -- What a line of the record on paper shows (SPECIFICATION 11.6). A column is counted from 0.
-use Rattle.std.specs.Prelude.{ℕ, zero, suc, ◌+◌, ◌-◌, ◌*◌, Bool, true, false, cond, ◌&&◌, List, [], ◌∷◌, ◌++◌, eqb, leb, ltb, length, get_or, take, drop, replicate}
+use Rattle.std.specs.Prelude.{ℕ, zero, suc, ◌+◌, ◌-◌, ◌*◌, Bool, true, false, cond, List, [], ◌∷◌, ◌++◌, eqb, ltb, length, get_or, take, drop, replicate}
 use Rattle.record_check.specs.Accepted.{type_length}
 use Rattle.page_read.specs.declared.LineFields.{LineFields}
 

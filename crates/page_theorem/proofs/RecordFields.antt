@@ -1,10 +1,10 @@
 -- The fields of a record's bytes, with other bytes behind them, are those that it was made of; and the length of a message is its type's (`type-sized`).
-use Prim.Native.Nat.{ℕ, zero, suc, ◌+◌, ◌%◌, ◌^◌, ◌≤◌, ◌<◌}
+use Prim.Native.Nat.{ℕ, zero, suc, ◌+◌, ◌^◌, ◌≤◌, ◌<◌}
 use mathlib.Core.Path.{◌≡◌, refl, sym, ap, ◌∙◌}
 use mathlib.Core.List.{List, [], ◌∷◌, ◌++◌, append_assoc}
 use native.Mathlib.Nat.{mod-eq_of_lt}
 use native.Mathlib.Omega.{arith}
-use lib.ListN.{length, get_or, take, drop, length-append}
+use lib.ListN.{length, get_or, take, length-append}
 use lib.Seq.{take_at, drop_at, get_or_at}
 use Rattle.le_read.specs.LeBytes.{le_of, bytes_of, le_at}
 use Rattle.le_read.proofs.Halves.{length_bytes}

@@ -1,5 +1,5 @@
 -- `RunRecordsAccepted` holds: each record is of a reply of a draw in range, which starts below 2^52 and adds to at most 1,094 samples.
-use Prim.Native.Nat.{ℕ, zero, suc, ◌+◌, ◌*◌, ◌/◌, ◌%◌, ◌^◌, ◌≤◌, ◌<◌}
+use Prim.Native.Nat.{ℕ, suc, ◌+◌, ◌*◌, ◌/◌, ◌%◌, ◌^◌, ◌≤◌}
 use mathlib.Core.Path.{◌≡◌, refl, sym, ap, ◌∙◌, subst}
 use mathlib.Core.Bool.{Bool, true, cond}
 use mathlib.Core.List.{List, [], ◌∷◌, ◌++◌, map}
@@ -10,17 +10,15 @@ use lib.ListN.{length, drop, length-append}
 use lib.Seq.{drop_at}
 use native.Mathlib.Nat.{le_trans}
 use lib.Dec.{lit≤}
-use Rattle.constants.specs.Rate.{four, reply_limit}
+use Rattle.constants.specs.Rate.{reply_limit}
 use Rattle.constants.specs.Setting.{per_pulse}
 use Rattle.constants.specs.declared.SamplesPerPulse.{SamplesPerPulse}
 use Rattle.constants.specs.declared.SamplesPerPulse.TheVariants.{Four, Eight}
-use Rattle.pulse_shape.specs.Prototype.{mode_s_prototype, mode_ac_prototype}
 use Rattle.run_theory.specs.Generator.{Generator}
 use Rattle.run_theory.specs.PlainRun.{reply, Reply, kind, reply_of, replies}
 use Rattle.run_theory.specs.PlainBench as Bench
 use Rattle.run_theory.specs.Laws.{Laws, AllInRange}
 use Rattle.run_theory.specs.Demand3.{plain_lines}
-use Rattle.run_theory.proofs.Times.{GoodTime}
 use Rattle.run_theory.proofs.Reach.{all_replies}
 use Rattle.run_call_model.proofs.Demand3 as Model
 use Rattle.run_generator.specs.Instance.{Filters, RepresentableDraw, draws, instance_of}
@@ -33,16 +31,14 @@ use Rattle.message.specs.Types.{type_numbered}
 use Rattle.message.specs.Making.{kind_of}
 use Rattle.reply_record.specs.Record.{message_length, record_bytes}
 use Rattle.reply_record.proofs.RecordLength.{record_length_lem}
-use Rattle.run_call.specs.declared.State.{State}
-use Rattle.run_call.specs.StateGenerator.{filters_of, gen_of}
+use Rattle.run_call.specs.StateGenerator.{filters_of}
 use Rattle.run_call.specs.Buffers.{CallBuffers}
 use Rattle.run_open_checks.specs.Opening as Opening
 use Rattle.run_open_checks.proofs.WhatIsOpened.{opened_run_in_range}
-use Rattle.run_theorem.specs.OpenedRuns.{Run, Opens, gen, bench, bench_calls, draws_taken, records_written}
+use Rattle.run_theorem.specs.OpenedRuns.{Run, Opens, gen, bench, bench_calls, records_written}
 use Rattle.run_theorem.proofs.Demand3.{opened_runs}
 use Rattle.record_check.specs.Accepted.{accepted}
 use Rattle.record_check.specs.FirstFault.{fault_from, first_fault}
-use Rattle.record_check.specs.declared.RecordFault.{RecordFault}
 use Rattle.record_check.specs.declared.RecordFault.TheVariants.{NoFault, At}
 use Rattle.record_check.proofs.Accepting.{accepts_in_range}
 use Rattle.page_theorem.specs.RunRecords.{RunRecordsAccepted}

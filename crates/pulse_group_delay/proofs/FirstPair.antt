@@ -1,6 +1,5 @@
 -- The finder finds the first pair (`finds`): by induction over what is left of the list.
-use Rattle.std.proofs.Common.{◌≡◌, ℕ, zero, suc, ◌+◌, ◌<◌, Bool, true, false, ◌&&◌, T, List, [], ◌∷◌, length, get_or, sym, refl, ap, ◌∙◌, subst, add-zero, zero-add, arith}
-use mathlib.Core.Bool.{false≢true}
+use Rattle.std.proofs.Common.{◌≡◌, ℕ, zero, suc, ◌+◌, ◌<◌, Bool, true, false, ◌&&◌, T, List, [], ◌∷◌, get_or, sym, refl, ap, ◌∙◌, subst, add-zero, zero-add, arith}
 use lib.Ieee.{Float, nan, lt, le}
 use lib.Ieee.Fits.{and_i, and_l, and_r}
 use Rattle.pulse_shape.specs.declared.Crossing.{Crossing}

@@ -1,6 +1,5 @@
 -- Theorem `pulses-of-the-base`: the pulse maps and lengths of Mode A/C are those of the base. Of the positions only this is used: each is the one that the base lists.
 use mathlib.Core.Path.{◌≡◌, refl, ap}
-use mathlib.Core.Bool.{Bool}
 use mathlib.Core.List.{List, ◌∷◌, ◌++◌}
 use Prim.Native.Nat.{ℕ, zero, suc}
 use Rattle.mode_ac.specs.Data.{bit_of}

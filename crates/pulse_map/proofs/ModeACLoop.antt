@@ -9,7 +9,7 @@ use lib.ListN.{set, replicate}
 use Rattle.mode_ac.specs.Data.{bit_of}
 use Rattle.mode_ac.specs.Positions.{position_of}
 use Rattle.pulse_map.specs.Map.{map_of}
-use Rattle.pulse_map.specs.ModeAC.{only_if, data_positions, mode_ac_positions, mode_ac_pulses, mode_ac_length}
+use Rattle.pulse_map.specs.ModeAC.{data_positions, mode_ac_positions, mode_ac_pulses, mode_ac_length}
 use Rattle.pulse_map.proofs.Marked.{mark, mark_append, marked, left_suc}
 
 -- the map before the first step

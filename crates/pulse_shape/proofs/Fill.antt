@@ -1,5 +1,5 @@
 -- A loop that stores f j at each index j of an array makes the list of the values of f.
-use Rattle.std.proofs.Common.{◌≡◌, ℕ, zero, suc, ◌+◌, ◌-◌, ◌<◌, ◌≤◌, List, [], ◌∷◌, ◌++◌, length, take, set, sym, refl, ap, ◌∙◌, append-nil, add-one, arith, length-set, take_all, take-suc-set}
+use Rattle.std.proofs.Common.{◌≡◌, ℕ, zero, suc, ◌+◌, ◌-◌, ◌<◌, ◌≤◌, List, ◌++◌, length, take, set, sym, ap, ◌∙◌, append-nil, add-one, arith, length-set, take_all, take-suc-set}
 use native.Mathlib.Nat.{sub-zero}
 use lib.Seq.{append_snoc}
 use lib.Ieee.{Float}

@@ -1,5 +1,5 @@
 -- Each value of a prototype is an f32's, whatever the lowpass holds.
-use Rattle.std.proofs.Common.{ℕ, zero, suc, ◌+◌, ◌-◌, min, T, List, [], ◌∷◌, length, get_or}
+use Rattle.std.proofs.Common.{ℕ, zero, suc, ◌+◌, ◌-◌, min, T, List, length, get_or}
 use lib.Ieee.{Float, nan, binary32, fits, of_bits, add, mul}
 use lib.Ieee.Fits.{add-fits, nan-fits}
 use lib.Ieee.Bits.{of_bits-fits}

@@ -1,5 +1,5 @@
 -- For a lowpass of the right length the prototype is the whole convolution.
-use Rattle.std.proofs.Common.{◌≡◌, ℕ, zero, suc, ◌+◌, ◌-◌, List, length, sym, refl, ap, ◌∙◌, arith}
+use Rattle.std.proofs.Common.{◌≡◌, ℕ, zero, suc, ◌+◌, ◌-◌, List, length, sym, refl, ap}
 use lib.Ieee.{Float}
 use Rattle.constants.specs.Rate.{four, prototype_length, mode_s_pulse, mode_ac_pulse, mode_s_taps, mode_ac_taps}
 use Rattle.pulse_shape.specs.Values.{values_from, values}

@@ -1,10 +1,10 @@
 -- Laws of silent and scaled lists: their lengths, their first parts and what is behind these.
-use mathlib.Core.List.{List, [], ◌∷◌, ◌++◌, map}
+use mathlib.Core.List.{List, [], ◌∷◌, ◌++◌}
 use mathlib.Core.Path.{◌≡◌, refl, sym, ap, ◌∙◌}
 use Prim.Native.Nat.{ℕ, zero, suc, ◌+◌, ◌-◌, min}
 use native.Mathlib.Omega.{arith}
 use lib.Ieee.{Float, binary32, mul}
-use lib.ListN.{length, take, drop, length-append, length-map, length-replicate}
+use lib.ListN.{length, take, drop, length-map, length-replicate}
 use lib.Seq.{take-nil}
 use Rattle.rack.specs.Feeds.{nought, silent, scaled}
 

@@ -1,12 +1,12 @@
 -- Loops that write a stretch of a buffer: one number more each turn, and two stretches as one.
 use mathlib.Core.List.{List, [], ◌∷◌, ◌++◌, append_assoc}
-use mathlib.Core.Path.{◌≡◌, refl, sym, ap, ◌∙◌}
+use mathlib.Core.Path.{◌≡◌, sym, ap, ◌∙◌}
 use Prim.Native.Nat.{ℕ, suc, ◌+◌, ◌-◌, ◌≤◌, ◌<◌}
 use native.Mathlib.Numerals.{add-one}
 use native.Mathlib.Omega.{arith}
 use lib.Ieee.{Float, nan, binary32, mul}
 use lib.ListN.{length, get_or, set, take, drop, length-append, length-drop, take-append-drop, replicate-append-replicate}
-use lib.Seq.{length-take-le, take-suc, take_all, take_at, drop-cons, drop-drop, drop-append-add, get_or-append-add, get_or-drop, set_at, append_snoc}
+use lib.Seq.{length-take-le, take-suc, take_all, take_at, drop-cons, drop-drop, drop-append-add, get_or-append-add, get_or-drop, set_at}
 use Rattle.rack.specs.Feeds.{nought, silent, scaled}
 use Rattle.rack.proofs.Lists.{length_silent, length_scaled, scaled_append}
 use Rattle.rack.proofs.Rows.{copied_next}

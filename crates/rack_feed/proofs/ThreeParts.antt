@@ -1,14 +1,14 @@
 -- A feed written in three stretches is the feed of the definition.
 use mathlib.Core.Bool.{Bool, true, false}
-use mathlib.Core.List.{List, [], ◌∷◌, ◌++◌, append_assoc}
+use mathlib.Core.List.{List, ◌++◌, append_assoc}
 use mathlib.Core.Path.{◌≡◌, refl, sym, ap, subst, ◌∙◌}
-use Prim.Native.Nat.{ℕ, zero, suc, ◌+◌, ◌-◌, ◌*◌, ◌≤◌, ◌<◌, min}
+use Prim.Native.Nat.{ℕ, ◌+◌, ◌-◌, ◌*◌, ◌≤◌, ◌<◌, min}
 use native.Mathlib.Omega.{arith}
 use borrow.Author.Tests.{leb-true, leb-false}
 use lib.Dec.{leb}
-use lib.Ieee.{Float, nan}
-use lib.ListN.{length, get_or, take, drop, length-append, length-take, length-drop}
-use lib.Seq.{length-take-le, take_all, take_at, drop-drop, drop-append-le}
+use lib.Ieee.{Float}
+use lib.ListN.{length, take, drop, length-append, length-drop}
+use lib.Seq.{length-take-le, take_all, drop-drop, drop-append-le}
 use Rattle.rack.specs.Feeds.{silent, scaled}
 use Rattle.rack.proofs.Lists.{take_append, length_silent, take_silent, drop_silent, length_scaled, scaled_append, take_scaled, drop_scaled}
 use Rattle.rack.specs.WrittenModel.{overwritten}

@@ -8,7 +8,6 @@ use lib.ListN.{length}
 use Rattle.refusals.specs.declared.Refusal.TheVariants.{Length}
 use Rattle.refusals.specs.Number.{number_of}
 use Rattle.rack.specs.declared.Rack.{Rack}
-use Rattle.rack.specs.declared.Answered.{Answered}
 use Rattle.rack.specs.Memory.{held_after}
 use Rattle.rack_run.specs.Calls.{feed_count, lengths_fit, feeds_up_to, rack_after, Call, Left, run_left}
 

@@ -2,15 +2,14 @@
 use mathlib.Core.Bool.{Bool, true, cond, ◌&&◌}
 use mathlib.Core.List.{List, [], ◌∷◌, ◌++◌, map, append-nil}
 use mathlib.Core.Path.{◌≡◌, refl, sym, ap, ◌∙◌}
-use Prim.Native.Nat.{ℕ, zero, suc, ◌+◌, ◌*◌, ◌%◌, ◌<◌}
+use Prim.Native.Nat.{ℕ, suc, ◌+◌, ◌*◌, ◌%◌, ◌<◌}
 use native.Mathlib.Omega.{arith}
 use borrow.Author.Tests.{eq-eqb}
 use lib.Dec.{eqb}
 use lib.Ieee.{Float, nan}
 use lib.ListN.{length, get_or, take, drop, length-append}
-use Rattle.run_theory.specs.Demand3.{Prefix, plain_output}
+use Rattle.run_theory.specs.Demand3.{Prefix}
 use Rattle.run_call.specs.Buffers.{Left, CallBuffers}
-use Rattle.run_open_checks.specs.Opening as Opening
 use Rattle.run_theorem.specs.OpenedRuns as Runs
 use Rattle.run_theorem.proofs.Demand3.{opened_runs}
 use Rattle.rack.specs.Feeds.{delayed}

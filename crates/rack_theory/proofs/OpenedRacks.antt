@@ -1,14 +1,13 @@
 -- `opened-racks`: the claim on every list of calls on an opened rack, by one induction over the calls (`over-calls`).
 use mathlib.Core.Bool.{Bool, true, false, cond, ◌&&◌, true≢false}
-use mathlib.Core.List.{List, [], ◌∷◌, ◌++◌, map, append-nil}
+use mathlib.Core.List.{List, [], ◌∷◌, ◌++◌, map}
 use mathlib.Core.Path.{◌≡◌, refl, sym, ap, subst, ◌∙◌}
-use Prim.Native.Nat.{ℕ, zero, suc, ◌+◌, ◌-◌, ◌*◌, ◌/◌, ◌%◌, ◌≤◌, ◌<◌, min}
+use Prim.Native.Nat.{ℕ, zero, suc, ◌+◌, ◌-◌, ◌*◌, ◌/◌, ◌≤◌, ◌<◌, min}
 use native.Mathlib.Omega.{arith}
 use borrow.Author.Tests.{eqb-true, eqb-false, leb-true}
 use lib.Dec.{eqb, leb}
 use lib.Ieee.{Float, nan}
 use lib.ListN.{length, get_or, take, drop, length-append, drop_of_length-le}
-use lib.Seq.{take-nil}
 use Rattle.refusals.specs.Number.{number_of}
 use Rattle.rack.specs.declared.Rack.{Rack}
 use Rattle.rack.specs.Feeds.{silent, delayed}
@@ -19,7 +18,7 @@ use Rattle.rack.specs.Memory.{held_after}
 use Rattle.rack_run.specs.Calls.{feed_count, lengths_fit, feeds_up_to, rack_after, Call, Left, run_left, runs_left}
 use Rattle.rack_run.proofs.Lengths as Lengths
 use Rattle.rack_theory.specs.PlainRack as Plain
-use Rattle.rack_theory.specs.OpenedRacks.{Opened, Opens, calls, is_accepted, all_taken, part_of, all_of_feed, samples_taken, feed_written, seen_of, Fed, OpenedRacks}
+use Rattle.rack_theory.specs.OpenedRacks.{Opened, Opens, calls, is_accepted, all_taken, part_of, all_of_feed, samples_taken, feed_written, seen_of, OpenedRacks}
 use Rattle.rack_theory.proofs.Delayed.{length_delayed, length_new, joined, part}
 use Rattle.rack_theory.proofs.Remembered.{Remembers, remembers_more, all_new}
 

@@ -1,12 +1,11 @@
 -- What a rack remembers: the last 4,095 of the samples taken, as far as there are any. So a call's feeds are the new parts of the delayed lists.
-use mathlib.Core.List.{List, [], ◌∷◌, ◌++◌}
+use mathlib.Core.List.{List, ◌++◌}
 use mathlib.Core.Path.{◌≡◌, refl, sym, ap, ◌∙◌}
 use Prim.Native.Nat.{ℕ, zero, suc, ◌+◌, ◌-◌, ◌*◌, ◌/◌, ◌%◌, ◌≤◌, ◌<◌, min}
 use native.Mathlib.Omega.{arith}
 use lib.Ieee.{Float, nan}
 use lib.ListN.{length, get_or, take, drop, length-append, length-drop, get_or-append}
 use lib.Seq.{drop-drop, drop-append-le}
-use Rattle.rack.specs.declared.Rack.{Rack}
 use Rattle.rack.specs.Feeds.{silent, scaled, delayed}
 use Rattle.rack.specs.Opening.{delay_row, gain_row}
 use Rattle.rack.proofs.Lists.{drop_silent, drop_scaled}

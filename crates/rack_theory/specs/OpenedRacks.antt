@@ -3,7 +3,7 @@ use Rattle.std.specs.Prelude.{Bool, cond, List, [], ◌∷◌, ◌++◌, map, �
 use Rattle.std.specs.Float.{nan}
 use Rattle.rack.specs.declared.Rack.{Rack}
 use Rattle.rack.specs.Feeds.{delayed}
-use Rattle.rack.specs.Opening.{OpenLeft, open_left}
+use Rattle.rack.specs.Opening.{open_left}
 use Rattle.rack_run.specs.Calls.{Call, Left, runs_left}
 use Rattle.rack_theory.specs.PlainRack.{Seen, plain_calls}
 

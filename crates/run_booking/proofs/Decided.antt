@@ -1,17 +1,15 @@
 -- Each answer of the code is what the definition gives.
 use Prim.Native.Nat.{ℕ, ◌*◌, ◌/◌, ◌%◌}
 use mathlib.Core.Path.{◌≡◌, refl, sym, ap, ◌∙◌}
-use mathlib.Core.Bool.{Bool, true, false, cond}
 use mathlib.Core.List.{List, []}
 use mathlib.Core.Option.{Option, none, some}
 use native.Mathlib.Omega.{arith}
-use lib.Dec.{eqb}
 use lib.ListN.{length, take}
 use lib.Seq.{take_all}
 use lib.Ieee.{Float}
 use borrow.Author.Tests.{eq-eqb, ne_eqb}
 use Rattle.refusals.specs.declared.Refusal as Refusal
-use Rattle.refusals.specs.Answer.{Answer, accepted, refused, unless}
+use Rattle.refusals.specs.Answer.{accepted, unless}
 use Rattle.draw.specs.declared.DrawFault as DrawFault
 use Rattle.draw.specs.Fault.{first_fault}
 use Rattle.run_theory.specs.Generator.{Generator}
@@ -24,10 +22,9 @@ use Rattle.run_call.specs.Given.{refusal_given}
 use Rattle.run_open_checks.specs.declared.Opened as Opened
 use Rattle.run_booking_walk.specs.declared.Walked.{Walked}
 use Rattle.run_booking_walk.specs.Walk as Walk
-use Rattle.run_booking_walk.specs.Answered.{walk_generator, end_read, walked_read}
+use Rattle.run_booking_walk.specs.Answered.{walk_generator, walked_read}
 use Rattle.run_booking.specs.declared.Booked as Booked
-use Rattle.run_booking.specs.declared.Figures as Code
-use Rattle.run_booking.specs.Booking.{Figures, figures_of, given, draws_then, opened_then, opened, booking_of}
+use Rattle.run_booking.specs.Booking.{figures_of, given, draws_then, opened_then, opened, booking_of}
 use Rattle.run_booking.specs.Booked.{figures_read, booked_read}
 
 module _ (s : State) (mode_s mode_ac : List Float) (time : Float) (draws : List ℕ) where

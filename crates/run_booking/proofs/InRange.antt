@@ -1,8 +1,8 @@
 -- What a booking opens is what opening opens, given buffers of the right lengths; so a run has at most 2^52 samples.
 use Prim.Native.Nat.{ℕ, ◌^◌, ◌≤◌}
-use mathlib.Core.Path.{◌≡◌, refl, sym, ap, ◌∙◌}
+use mathlib.Core.Path.{◌≡◌, ◌∙◌}
 use mathlib.Core.List.{List}
-use lib.ListN.{length, replicate, length-replicate}
+use lib.ListN.{replicate, length-replicate}
 use lib.Ieee.{Float}
 use Rattle.constants.specs.Rate.{four, prototype_length, working_memory}
 use Rattle.run_theory.specs.FloatGenerator.{nought}

@@ -1,18 +1,18 @@
 -- What a list of calls on the plain bench counts in all is what the bench took and used; and the draws that it took end at the end draw, if that is among them.
 use Prim.Native.Nat.{ℕ, zero, suc, ◌+◌, ◌-◌, ◌*◌, ◌≤◌}
-use mathlib.Core.Bool.{true, false}
+use mathlib.Core.Bool.{false}
 use mathlib.Core.List.{List, [], ◌∷◌, ◌++◌}
 use mathlib.Core.Option.{Option, none, some}
 use mathlib.Core.Path.{◌≡◌, refl, sym, ap, ◌∙◌}
 use native.Mathlib.Omega.{arith}
 use lib.ListN.{length, length-append}
 use Rattle.run_theory.specs.Generator.{Generator, NoisePair}
-use Rattle.run_theory.specs.PlainRun.{Kind, ignored, ends, reply, Reply, kind, time_of, ended, push, replies}
+use Rattle.run_theory.specs.PlainRun.{Kind, ignored, ends, reply, kind, time_of, ended, push, replies}
 use Rattle.run_theory.specs.PlainBench.{Refusal, Call, Result, Remaining, remaining_of, Step, halt, drain, due, taking, latest, Bench, Benched, bench_step, bench_on, bench_steps, fuel, result_of, refusal_of, bench_call, bench_run, bench_results, bench_after}
 use Rattle.run_theory.proofs.PlainFacts.{length_snoc, replies_append}
-use Rattle.run_theory.proofs.StepFacts.{used_slots, Says, step_says, Takes}
+use Rattle.run_theory.proofs.StepFacts.{used_slots, Says, step_says}
 use Rattle.run_theory.proofs.ListClaim.{draws_taken, samples_written, noise_used, records_written}
-use Rattle.run_booking_walk.specs.Walk.{Walk, by_kind, at_draw, ran_out, walk_from, walk_of}
+use Rattle.run_booking_walk.specs.Walk.{Walk, by_kind, at_draw, walk_from, walk_of}
 use Rattle.run_booking_theorem.proofs.Walked.{walk_on}
 
 module _ (G : Generator) where

@@ -1,5 +1,5 @@
 -- The draws of bytes one after the other, the first of them whole draws.
-use Prim.Native.Nat.{ℕ, zero, suc, ◌+◌, ◌-◌, ◌*◌, ◌/◌, ◌%◌, ◌≤◌, ◌<◌}
+use Prim.Native.Nat.{ℕ, zero, suc, ◌+◌, ◌-◌, ◌*◌, ◌≤◌, ◌<◌}
 use mathlib.Core.List.{List, [], ◌∷◌, ◌++◌}
 use mathlib.Core.Path.{◌≡◌, refl, sym, ap, ◌∙◌}
 use native.Mathlib.Omega.{arith}
@@ -8,11 +8,10 @@ use lib.ListN.{length, get_or, take, drop, length-append, length-drop, get_or-ap
 use lib.Seq.{take-append-le, drop-append-le}
 use lib.Ieee.{binary32, binary64, of_bits}
 use Rattle.le_read.specs.LeBytes.{le_of, le_at}
-use Rattle.draw.specs.declared.Draw.{Draw}
 use Rattle.draw.specs.Draw.{draw_at}
 use Rattle.draw.proofs.Bytes.{whole_draw, whole}
 use Rattle.run_theory.specs.PlainBench.{draws_of}
-use Rattle.run_call_model.proofs.FlatLists.{draws_none, draws_cons}
+use Rattle.run_call_model.proofs.FlatLists.{draws_cons}
 use Rattle.run_generator.specs.Instance.{Filters, RepresentableDraw, instance_of}
 use Rattle.run_generator.proofs.SameDraw.{same_draw}
 

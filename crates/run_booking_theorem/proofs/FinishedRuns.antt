@@ -1,5 +1,5 @@
 -- A finished run uses exactly what its booking says: `finished-runs`, at the end.
-use Prim.Native.Nat.{ℕ, suc, ◌+◌, ◌*◌, ◌^◌, ◌≤◌}
+use Prim.Native.Nat.{ℕ, suc, ◌+◌, ◌*◌}
 use mathlib.Core.Bool.{true}
 use mathlib.Core.List.{List, [], ◌∷◌, ◌++◌, map, append-nil}
 use mathlib.Core.Path.{◌≡◌, refl, sym, ap, ◌∙◌, subst}
@@ -15,7 +15,7 @@ use Rattle.run_theory.specs.Zeros.{zeros}
 use Rattle.run_theory.specs.Generator.{Generator}
 use Rattle.run_theory.specs.PlainRun.{ended, replies}
 use Rattle.run_theory.specs.PlainBench as Bench
-use Rattle.run_theory.specs.Laws.{Laws, AllInRange}
+use Rattle.run_theory.specs.Laws.{AllInRange}
 use Rattle.run_theory.proofs.ListClaim as Theory
 use Rattle.run_call_model.proofs.Demand3.{reached}
 use Rattle.run_generator.specs.Instance.{RepresentableDraw}
@@ -30,10 +30,9 @@ use Rattle.run_theorem.specs.Seen.{Seen, seen_left, counts_of, seen_result}
 use Rattle.run_theorem.specs.OpenedRuns.{Run, Opens, calls, gen, bench_calls, results, bench, draws_taken, ReachesDone, Demand3}
 use Rattle.run_theorem.proofs.Demand3.{opened_runs}
 use Rattle.run_booking_walk.specs.Walk.{Walk, at_draw, walk_of, walk_from}
-use Rattle.run_booking.specs.Booking.{Figures, booking_of, figures_of}
 use Rattle.run_booking_theorem.specs.FinishedRuns.{Totals, added, in_all, Follows, Finished, FinishedRuns}
 use Rattle.run_booking_theorem.proofs.Walked.{walk_ends}
-use Rattle.run_booking_theorem.proofs.BenchCounts.{AllTaken, sum_taken, sum_samples, sum_noise, sum_records, Sums, sums}
+use Rattle.run_booking_theorem.proofs.BenchCounts.{sum_taken, sum_samples, sum_noise, sum_records, Sums, sums}
 use Rattle.run_booking_theorem.proofs.OpenedBooking.{both_in_range, opened_so, booked}
 
 -- ---- counts of calls are those of the plain bench

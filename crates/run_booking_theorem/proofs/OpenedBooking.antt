@@ -2,17 +2,17 @@
 use Prim.Native.Nat.{ℕ, suc, ◌%◌}
 use mathlib.Core.Bool.{Bool, true, false, cond, ◌&&◌}
 use mathlib.Core.List.{List, [], ◌∷◌, ◌++◌}
-use mathlib.Core.Option.{Option, none, some}
-use mathlib.Core.Path.{◌≡◌, refl, sym, ap, ◌∙◌}
+use mathlib.Core.Option.{Option, none}
+use mathlib.Core.Path.{◌≡◌, refl, ap, ◌∙◌}
 use native.Mathlib.Omega.{arith}
 use lib.Dec.{eqb}
 use lib.ListN.{length}
 use lib.Ieee.{Float}
 use borrow.Author.Tests.{eq-eqb}
-use Rattle.constants.specs.Rate.{four, prototype_length, working_memory}
+use Rattle.constants.specs.Rate.{four}
 use Rattle.pulse_shape.specs.Prototype.{mode_s_prototype, mode_ac_prototype}
 use Rattle.refusals.specs.declared.Refusal as Refusal
-use Rattle.refusals.specs.Answer.{Answer, accepted, unless}
+use Rattle.refusals.specs.Answer.{accepted, unless}
 use Rattle.run_theory.specs.Generator.{Generator}
 use Rattle.run_theory.specs.PlainBench as Bench
 use Rattle.run_theory.specs.Laws.{AllInRange}
@@ -21,7 +21,7 @@ use Rattle.run_call.specs.declared.State.{State}
 use Rattle.run_call.specs.StateGenerator.{gen_of}
 use Rattle.run_open_checks.specs.declared.Opened as Opened
 use Rattle.run_open_checks.specs.Opening.{OpenBuffers, buffers_fit, opened_for, opened_of}
-use Rattle.run_booking.specs.Booking.{Figures, figures_of, given, draws_then, opened, opened_then, booking_of}
+use Rattle.run_booking.specs.Booking.{figures_of, given, draws_then, opened, opened_then, booking_of}
 
 -- ---- draws in range
 module _ (G : Generator) where

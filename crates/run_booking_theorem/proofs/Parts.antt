@@ -4,12 +4,10 @@ use mathlib.Core.Bool.{Bool, true, false, cond}
 use mathlib.Core.List.{List, [], ◌∷◌, ◌++◌, append-nil}
 use mathlib.Core.Option.{Option, none, some}
 use mathlib.Core.Path.{◌≡◌, refl, sym, ap, ◌∙◌, subst}
-use native.Mathlib.Nat.{zero-add}
 use native.Mathlib.Omega.{arith}
 use lib.Dec.{eqb}
 use lib.ListN.{length}
 use lib.Ieee.{Float}
-use borrow.Author.Tests.{eqb-true}
 use Rattle.constants.specs.Rate.{four}
 use Rattle.pulse_shape.specs.Prototype.{mode_s_prototype, mode_ac_prototype}
 use Rattle.refusals.specs.declared.Refusal as Refusal
@@ -25,9 +23,9 @@ use Rattle.run_generator.specs.Instance.{RepresentableDraw}
 use Rattle.run_call.specs.declared.State.{State}
 use Rattle.run_call.specs.StateGenerator.{filters_of, gen_of}
 use Rattle.run_open_checks.specs.declared.Opened as Opened
-use Rattle.run_booking_walk.specs.Walk.{Walk, End, at_draw, ran_out, by_kind, walk_from, walk_of}
+use Rattle.run_booking_walk.specs.Walk.{Walk, End, at_draw, by_kind, walk_from, walk_of}
 use Rattle.run_booking.specs.Booking.{Figures, figures_of, given, draws_then, opened, opened_then, booking_of}
-use Rattle.run_booking_theorem.specs.Parts.{behind, added, added_to, go_on, and_then, in_parts, WholeDraws, Parts}
+use Rattle.run_booking_theorem.specs.Parts.{behind, added_to, go_on, and_then, in_parts, WholeDraws, Parts}
 use Rattle.run_booking_theorem.proofs.Walked.{walk_on, walk_out, walk_ends}
 use Rattle.run_booking_theorem.proofs.OpenedBooking.{booked}
 use Rattle.run_booking_theorem.proofs.DrawsJoined.{draws_joined}

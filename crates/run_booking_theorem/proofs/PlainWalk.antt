@@ -1,12 +1,12 @@
 -- The walk is the plain run's.
 use Prim.Native.Nat.{◌+◌}
 use mathlib.Core.Bool.{Bool, true, false}
-use mathlib.Core.List.{List, [], ◌++◌, append-nil}
+use mathlib.Core.List.{List, [], append-nil}
 use mathlib.Core.Path.{◌≡◌, refl, sym, ap, ◌∙◌, subst}
 use native.Mathlib.Nat.{zero-add}
 use lib.ListN.{length, length-map}
 use Rattle.run_theory.specs.Generator.{Generator}
-use Rattle.run_theory.specs.PlainRun.{Reply, ended, replies, plain_records}
+use Rattle.run_theory.specs.PlainRun.{ended, replies, plain_records}
 use Rattle.run_booking_walk.specs.Walk.{Walk, walk_of, walk_from}
 use Rattle.run_booking_theorem.specs.PlainWalk.{EndIs, PlainWalk}
 use Rattle.run_booking_theorem.proofs.Walked.{walk_out, walk_ends}

@@ -1,13 +1,13 @@
 -- Laws of the walk over draws: of draws one after the other, with an end draw among the first of them or not.
 use Prim.Native.Nat.{ℕ, suc, ◌+◌}
-use mathlib.Core.Bool.{Bool, true, false, true≢false, false≢true}
+use mathlib.Core.Bool.{true, false, true≢false, false≢true}
 use mathlib.Core.List.{List, [], ◌∷◌, ◌++◌, append-nil}
-use mathlib.Core.Path.{◌≡◌, refl, sym, ap, ◌∙◌}
+use mathlib.Core.Path.{◌≡◌, sym, ap, ◌∙◌}
 use native.Mathlib.Omega.{arith}
 use lib.ListN.{length}
 use Rattle.run_theory.specs.Generator.{Generator}
 use Rattle.run_theory.specs.PlainRun.{Kind, ignored, ends, reply, kind, time_of, ends_by, ended, push, replies}
-use Rattle.run_booking_walk.specs.Walk.{Walk, End, at_draw, ran_out, by_kind, walk_from}
+use Rattle.run_booking_walk.specs.Walk.{at_draw, ran_out, by_kind, walk_from}
 
 module _ (G : Generator) where
   open G use {Draw, Time, after}

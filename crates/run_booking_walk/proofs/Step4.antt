@@ -1,6 +1,6 @@
 -- What step 4 makes of a draw, by its start, test by test as the code meets it.
 use mathlib.Core.Path.{◌≡◌, refl, sym, ap, ◌∙◌}
-use mathlib.Core.Bool.{Bool, true, false, true≢false}
+use mathlib.Core.Bool.{true, true≢false}
 use Prim.Native.Nat.{ℕ, ◌+◌, ◌≤◌, ◌<◌}
 use lib.IntN.{ℤ, pos, negsuc}
 use Rattle.run_theory.specs.Generator.{from, start_from}

@@ -1,6 +1,6 @@
 -- The code's loop: one draw more, and its ends.
 use Prim.Native.Nat.{ℕ, suc, ◌+◌, ◌-◌, ◌<◌, ◌≤◌}
-use mathlib.Core.Path.{◌≡◌, refl, sym, ap, ◌∙◌}
+use mathlib.Core.Path.{◌≡◌, sym, ap, ◌∙◌}
 use mathlib.Core.Bool.{Bool, true, false, true≢false, false≢true}
 use mathlib.Core.List.{List, ◌∷◌}
 use native.Mathlib.Nat.{add-zero}
@@ -26,7 +26,6 @@ use Rattle.draw_config.specs.Pending.{pending_of}
 use Rattle.run_booking_walk.specs.declared.End as End
 use Rattle.run_booking_walk.specs.declared.Kind as Kind
 use Rattle.run_booking_walk.specs.declared.Progress.{Progress}
-use Rattle.run_booking_walk.specs.declared.Walked.{Walked}
 use Rattle.run_booking_walk.specs.Walk as Walk
 use Rattle.run_booking_walk.specs.Answered.{walk_generator, end_read, walked_read}
 use Rattle.run_booking_walk.specs.WalkModel.{kind_seen, progress_after}

@@ -5,7 +5,7 @@ use Prim.Native.Nat.{ℕ, ◌+◌, ◌-◌, ◌*◌, ◌/◌, ◌%◌, ◌≤◌
 use native.Mathlib.Nat.{mod-lt}
 use native.Mathlib.Numerals.{add-one}
 use native.Mathlib.Omega.{arith}
-use lib.ListN.{length, get_or, set, take, drop, length-set, length-drop, length-replicate, take-append-drop}
+use lib.ListN.{length, get_or, set, take, drop, length-drop, length-replicate, take-append-drop}
 use lib.Seq.{drop-drop, length-take-le}
 use Rattle.run_theory.specs.PlainBench.{pairs, flatten}
 use Rattle.run_call_model.specs.Batch.{written, cleared}

@@ -25,7 +25,7 @@ use Rattle.settings.specs.Accepted.{accepted_of}
 use Rattle.run_open_checks.specs.declared.Opened.{Opened}
 use Rattle.run_open_checks.specs.declared.Opened.TheVariants.{Run, Refused}
 use Rattle.run_open_checks.specs.FirstCause.{Fits}
-use Rattle.run_open_checks.specs.Opening.{OpenBuffers, first_state, buffers_fit, mode_s_delay, mode_ac_delay, delays_given, delays_then, delays_of, taps_of, settings_then, opened_for, prepared_of, is_run}
+use Rattle.run_open_checks.specs.Opening.{first_state, buffers_fit, mode_s_delay, mode_ac_delay, delays_given, delays_then, delays_of, taps_of, settings_then, opened_for, prepared_of, is_run}
 
 -- the lengths, from facts and to facts
 pub fits_if : (settings mode_s mode_ac memory : ℕ) → Fits settings mode_s mode_ac memory → true ≡ buffers_fit four settings mode_s mode_ac memory

@@ -1,13 +1,13 @@
 -- Refusals 9, 1 to 4, 14, 5 and 6 of opening are each given for their cause only, and for the first cause in the order of SPECIFICATION 3.2: opening's answer is one that `Answered` of specs/ allows (`answered`), and no other (`only`).
 -- So a run is opened exactly where none has a cause (`opens`).
-use Prim.Native.Nat.{ℕ, zero, suc, ◌+◌, ◌<◌}
+use Prim.Native.Nat.{ℕ, zero, suc, ◌+◌}
 use mathlib.Core.Path.{◌≡◌, refl, sym, ◌∙◌}
 use mathlib.Core.Bool.{Bool, true, false, ◌&&◌, cond, false≢true}
 use mathlib.Core.List.{List, [], ◌∷◌}
 use native.Mathlib.Omega.{arith}
 use lib.Dec.{eqb}
-use lib.ListN.{length, get_or}
-use lib.Ieee.{Float, nan}
+use lib.ListN.{length}
+use lib.Ieee.{Float}
 use borrow.Author.Tests.{eqb-true, eq-eqb}
 use Rattle.constants.specs.Rate.{four, mode_s_taps, mode_ac_taps}
 use Rattle.pulse_shape.specs.declared.Crossing.{Crossing}
@@ -15,7 +15,6 @@ use Rattle.pulse_shape.specs.declared.Crossing.TheVariants.{At, None}
 use Rattle.pulse_shape.specs.Prototype.{mode_s_prototype, mode_ac_prototype}
 use Rattle.pulse_shape.specs.Accepted.{within16, all_within16, mode_s_taps_accepted, mode_ac_taps_accepted}
 use Rattle.pulse_shape.specs.GroupDelay.{crosses, delay_at, choose, delay_from, group_delay, mode_ac_ratio, over, mode_ac_group_delay, crossing_answer}
-use Rattle.refusals.specs.declared.Refusal.{Refusal}
 use Rattle.refusals.specs.declared.Refusal.TheVariants as Cause
 use Rattle.run_call.specs.declared.State.{State}
 use Rattle.settings.specs.declared.Distributions.{Distributions}
@@ -26,7 +25,7 @@ use Rattle.settings.specs.FirstCause as Settings
 use Rattle.settings.proofs.FirstCause as SettingsCause
 use Rattle.run_open_checks.specs.declared.Opened.{Opened}
 use Rattle.run_open_checks.specs.declared.Opened.TheVariants.{Run, Refused}
-use Rattle.run_open_checks.specs.Opening.{OpenBuffers, first_state, buffers_fit, mode_s_delay, mode_ac_delay, delays_given, delays_then, delays_of, taps_of, settings_then, opened_for, opened_of}
+use Rattle.run_open_checks.specs.Opening.{OpenBuffers, buffers_fit, mode_s_delay, mode_ac_delay, delays_given, delays_then, delays_of, taps_of, settings_then, opened_for, opened_of}
 use Rattle.run_open_checks.specs.FirstCause.{Fits, AllWithin16, GoodTaps, Crosses, GoodPrototype, BuffersFit, NoEarlierCause, BothTaps, BothPrototypes, level_of, Answered, refused_9, refused_settings, refused_5, refused_6, accepted}
 use Rattle.run_open_checks.proofs.Decided.{fits_if, fits_for, mode_s_delay_of, mode_ac_delay_of, no_mode_s, no_mode_ac, both_found, mode_s_taps_refused, mode_ac_taps_refused, taps_pass, buffers_refused, settings_refused, settings_pass}
 

@@ -1,5 +1,5 @@
 -- The progress that `after_samples` and `after_draw` make of their sums, and that `after_step` makes by its plan.
-use Rattle.std.proofs.Common.{◌≡◌, ℕ, ◌+◌, ◌*◌, ◌/◌, ◌%◌, ◌^◌, Bool, sym, ap, ◌∙◌, arith}
+use Rattle.std.proofs.Common.{◌≡◌, ℕ, ◌+◌, ◌/◌, ◌%◌, ◌^◌, Bool, sym, ap, ◌∙◌, arith}
 use Rattle.run_theory.specs.Added.{high_half, low_half, whole_of}
 use lib.Ieee.{Float}
 use Rattle.run_steps.specs.declared.Plan.{Plan}

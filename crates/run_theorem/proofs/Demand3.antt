@@ -18,7 +18,6 @@ use Rattle.run_theory.specs.PlainBench as Bench
 use Rattle.run_theory.specs.Demand3.{Prefix, plain_output, plain_lines, Reach}
 use Rattle.run_call_model.specs.Machine as Machine
 use Rattle.run_call_model.proofs.FlatLists.{pairs_flatten}
-use Rattle.run_call_model.proofs.InStep.{Matches}
 use Rattle.run_theory.proofs.ListClaim as Theory
 use Rattle.run_call_model.proofs.Demand3.{matched}
 use Rattle.run_generator.specs.Instance.{RepresentableDraw}

@@ -19,7 +19,7 @@ use Rattle.settings.specs.declared.Checked.{Checked}
 use Rattle.settings.specs.declared.BadRate.TheVariants.{None, At}
 use Rattle.settings.specs.declared.Checked.TheVariants.{Accepted, Refused}
 use Rattle.settings.specs.Settings.{rates_of}
-use Rattle.settings.specs.Accepted.{first_bad_rate, total_of, total_fits, with_clock, with_phase, with_offset, distributions_of, total_then, rates_then, duration_then, values_of, level_in_range, level_then, accepted_of}
+use Rattle.settings.specs.Accepted.{first_bad_rate, total_of, total_fits, with_clock, with_phase, with_offset, distributions_of, total_then, rates_then, duration_then, values_of, level_in_range, level_then}
 
 module _ (sps : ℕ) (s : Settings) where
   pub duration_refused : (k : ℕ) → duration_of sps s.seconds s.nanoseconds ≡ refusal k → values_of sps s ≡ Refused Refusal.Duration

@@ -1,13 +1,13 @@
 -- Refusals 1 to 4 and 14 are each given for their cause only, and for the first cause in the order of SPECIFICATION 3.2: the answer to settings is one that `Answered` of specs/ allows (`answered`), and no other (`only`).
 -- So settings with no cause are accepted, and settings with a cause are refused.
-use Prim.Native.Nat.{ℕ, ◌≤◌, ◌<◌}
+use Prim.Native.Nat.{ℕ, ◌≤◌}
 use mathlib.Core.Path.{◌≡◌, refl, sym, ap, ◌∙◌, subst}
 use mathlib.Core.Bool.{Bool, true, false, cond}
 use native.Mathlib.Nat.{zero-add}
 use native.Mathlib.Omega.{arith}
 use lib.Dec.{leb, ltb}
 use borrow.Author.Tests.{ltb-false}
-use Rattle.distributions.specs.Accepted.{finite_not_negative, carrier_offset, carrier_phase, clock_error, offset_answer, phase_answer, clock_answer}
+use Rattle.distributions.specs.Accepted.{carrier_offset, carrier_phase, clock_error, offset_answer, phase_answer, clock_answer}
 use Rattle.distributions.specs.declared.CarrierOffset.{CarrierOffset}
 use Rattle.distributions.specs.declared.CarrierPhase.{CarrierPhase}
 use Rattle.distributions.specs.declared.OffsetAnswer as Offset
@@ -23,8 +23,8 @@ use Rattle.settings.specs.declared.BadRate.TheVariants.{None, At}
 use Rattle.settings.specs.declared.Checked.{Checked}
 use Rattle.settings.specs.declared.Checked.TheVariants.{Accepted, Refused}
 use Rattle.settings.specs.Settings.{rates_of, rate_of}
-use Rattle.settings.specs.Accepted.{first_bad_rate, total_of, total_fits, with_clock, with_phase, with_offset, distributions_of, total_then, rates_then, duration_then, values_of, level_in_range, level_then, accepted_of}
-use Rattle.settings.specs.FirstCause.{Lasts, good_rate, GoodRates, good_total, NoEarlierCause, GoodDistributions, Answered, refused_1, refused_2, refused_3, refused_4_0, refused_4_1, refused_4_2, refused_14, accepted}
+use Rattle.settings.specs.Accepted.{first_bad_rate, with_clock, with_phase, with_offset, distributions_of, total_then, rates_then, duration_then, values_of, level_in_range, level_then, accepted_of}
+use Rattle.settings.specs.FirstCause.{Lasts, GoodRates, good_total, NoEarlierCause, GoodDistributions, Answered, refused_1, refused_2, refused_3, refused_4_0, refused_4_1, refused_4_2, refused_14, accepted}
 use Rattle.settings.proofs.Decided.{duration_refused, duration_passes, rate_refused, total_refused, rates_pass, offset_refused, phase_refused, clock_refused, all_accepted, values_refused, level_refused, level_passes}
 use Rattle.settings.proofs.Rates.{Found, found, finds_none, finds}
 

@@ -2,7 +2,7 @@
 use Prim.Native.Nat.{ℕ, ◌+◌, ◌-◌}
 use mathlib.Core.Path.{◌≡◌, refl}
 use mathlib.Core.List.{List, [], ◌∷◌, ◌++◌}
-use lib.Ieee.{binary32, binary64, of_bits, of_int, add, lt, le, eq}
+use lib.Ieee.{binary64, of_bits, of_int, add, lt, le, eq}
 use lib.Ieee.Scale.{finite}
 use Rattle.constants.specs.Rate.{four}
 use Rattle.float_narrow.specs.Range.{abs, within}

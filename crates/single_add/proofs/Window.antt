@@ -1,13 +1,13 @@
 -- A reply of at most as many samples as working memory has slots, added by way of memory, is the reply added from its start on (`window-is`); and so is one whose start is past the end, of any number of samples (`window-past`).
 use Prim.Native.Nat.{ℕ, zero, suc, ◌+◌, ◌-◌, ◌*◌, ◌/◌, ◌≤◌, ◌<◌, min}
-use mathlib.Core.Path.{◌≡◌, refl, sym, ap, ◌∙◌, subst}
-use mathlib.Core.Bool.{Bool, true, false, cond, ◌&&◌}
+use mathlib.Core.Path.{◌≡◌, refl, sym, ap, ◌∙◌}
+use mathlib.Core.Bool.{Bool, cond, ◌&&◌}
 use mathlib.Core.Logic.{inl, inr}
 use mathlib.Core.List.{List, [], ◌∷◌, ◌++◌, append-nil, append_assoc}
 use native.Mathlib.Omega.{arith}
 use borrow.Author.Tests.{eq-eqb, lt-ltb, le-ltb, le-leb, lt-leb}
-use lib.Dec.{eqb, ltb, leb}
-use lib.IntN.{ℤ, pos, negsuc}
+use lib.Dec.{leb}
+use lib.IntN.{ℤ}
 use lib.ListN.{length, get_or, set, take, drop, length-drop, length-append, length-replicate, take-append-drop}
 use lib.Seq.{take_all, take-append_seam, drop-append_seam, length-take-le, take-nil, drop-nil, drop-drop, get_or-append-add, set-append_seam, get_or-append_seam, append_snoc, drop-length}
 use lib.Ieee.{Float, nan, binary32, add}
@@ -15,7 +15,6 @@ use Rattle.constants.specs.Rate.{working_memory}
 use Rattle.filterbank.proofs.Padded.{le_or_lt}
 use Rattle.run_theory.specs.FloatGenerator.{nought}
 use Rattle.run_theory.specs.Zeros.{zeros}
-use Rattle.run_call_model.specs.Buffers.{overwritten}
 use Rattle.run_call_model.proofs.FlatLists.{length_overwritten}
 use Rattle.reply_samples.specs.declared.Sample.{Sample}
 use Rattle.reply_samples.specs.RingModel.{ring_slots, added_at, next_slot, added_from, added_reply}

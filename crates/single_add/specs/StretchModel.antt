@@ -1,5 +1,5 @@
 -- A model of code: the part of the samples that a reply reaches goes to working memory, the reply is added there from slot 0 on, and the part comes back. `with_reply` says the same without memory. `sps` is the samples per pulse.
-use Rattle.std.specs.Prelude.{ℕ, ◌-◌, ◌*◌, ◌/◌, min, Bool, cond, ◌&&◌, List, eqb, leb, ltb, ℤ, length, take, drop, Float}
+use Rattle.std.specs.Prelude.{ℕ, ◌-◌, ◌*◌, ◌/◌, min, cond, ◌&&◌, List, eqb, leb, ltb, ℤ, length, take, drop, Float}
 use Rattle.constants.specs.Rate.{working_memory}
 use Rattle.run_theory.specs.Zeros.{zeros}
 use Rattle.run_call_model.specs.Buffers.{overwritten}

@@ -4,7 +4,7 @@ use mathlib.Core.Path.{◌≡◌, refl, sym, ap, ◌∙◌}
 use mathlib.Core.Bool.{Bool, true, false, cond, not, ◌&&◌, ◌||◌}
 use mathlib.Core.List.{List}
 use mathlib.Core.Logic.{◌≢◌}
-use mathlib.Core.Option.{Option, none, some}
+use mathlib.Core.Option.{some}
 use native.Mathlib.Nat.{zero-add, zero-mul, mul-le-mul_left}
 use native.Mathlib.Omega.{arith}
 use borrow.Author.Tests.{eq-eqb, ne_eqb, eqb-true, eqb-false, leb-true, leb-false}
@@ -16,12 +16,11 @@ use Rattle.constants.specs.declared.SamplesPerPulse.TheVariants.{Four, Eight}
 use Rattle.constants.specs.Setting.{per_pulse}
 use Rattle.refusals.specs.declared.Refusal as Refusal
 use Rattle.settings_duration.specs.declared.InSamples as InSamples
-use Rattle.settings_duration.specs.Duration.{Answer, answer_of, samples_of, duration_of}
+use Rattle.settings_duration.specs.Duration.{answer_of, samples_of, duration_of}
 use Rattle.settings.specs.declared.Settings.{Settings}
 use Rattle.settings.specs.Settings.{settings_of}
 use Rattle.draw.specs.declared.DrawFault as DrawFault
 use Rattle.draw.specs.Fault.{first_fault}
-use Rattle.run_theory.specs.PlainBench as Bench
 use Rattle.run_call_checks.specs.declared.NoiseFault as NoiseFault
 use Rattle.run_call_checks.specs.NoiseModel.{out_of_range_from, noise_fault_read}
 use Rattle.run_call.specs.declared.State.{State}

@@ -1,6 +1,6 @@
 -- What the functions answer and leave, from what their calls give.
 use Prim.Native.Nat.{ℕ}
-use mathlib.Core.Path.{◌≡◌, refl, sym, ap, ◌∙◌}
+use mathlib.Core.Path.{◌≡◌, sym, ap, ◌∙◌}
 use mathlib.Core.List.{List}
 use lib.ListN.{length, get_or}
 use lib.Ieee.{Float, binary32, binary64, of_bits}
@@ -16,7 +16,6 @@ use Rattle.draw.specs.Draw.{picks_at, draw_at}
 use Rattle.draw.specs.Config.{time_after, config_of}
 use Rattle.draw_config.specs.Pending.{pending_of, completed_by}
 use Rattle.draw_config.proofs.Message.{completed_is}
-use Rattle.pulse_shape.specs.Prototype.{mode_s_prototype, mode_ac_prototype}
 use Rattle.pulse_shape.proofs.Whole.{length_prototype}
 use Rattle.reply_samples.specs.Samples.{reply_samples}
 use Rattle.run_theory.specs.FloatGenerator.{nought}

@@ -2,11 +2,11 @@
 use Prim.Native.Nat.{ℕ, zero, suc, ◌+◌, ◌-◌, ◌*◌, ◌/◌, ◌≤◌, ◌<◌}
 use native.Mathlib.Omega.{arith}
 use mathlib.Core.Path.{◌≡◌, refl, sym, ap, ◌∙◌, subst}
-use mathlib.Core.Bool.{Bool, true, false, cond}
+use mathlib.Core.Bool.{Bool, cond}
 use mathlib.Core.List.{List, [], ◌∷◌, ◌++◌, map}
 use mathlib.Core.Logic.{◌≢◌}
 use borrow.Author.Tests.{le-leb, lt-leb}
-use lib.Dec.{T, leb}
+use lib.Dec.{T}
 use lib.IntN.{ℤ, pos, negsuc}
 use lib.ListN.{length, take, drop}
 use lib.Seq.{take_all, take-nil, drop-nil}
@@ -14,21 +14,18 @@ use lib.Ieee.{Float, binary32, binary64, add, mul, fits}
 use lib.Ieee.Fits.{mul-fits}
 use Rattle.math.specs.Phase.{phase_wrap_once}
 use Rattle.message_config.specs.declared.MessageConfig.{MessageConfig}
-use Rattle.message_config.specs.Config.{config_start, config_clock_phase, config_clock_error, config_rate, config_phase}
-use Rattle.filterbank.specs.Apply.{apply_filterbank}
-use Rattle.reply_pulses.specs.ReplyPulses.{positions_of}
+use Rattle.message_config.specs.Config.{config_start}
 use Rattle.reply_samples.specs.declared.Sample.{Sample}
-use Rattle.reply_samples.specs.Samples.{sample_at, rotated, samples_by, prototype_of, reply_samples}
-use Rattle.draw.specs.Config.{time_after, config_of, start_at}
+use Rattle.reply_samples.specs.Samples.{sample_at, rotated, samples_by, reply_samples}
+use Rattle.draw.specs.Config.{time_after, config_of}
 use Rattle.run_theory.specs.Each.{Each}
 use Rattle.run_theory.specs.Generator.{Generator, Pair, from, start_from}
-use Rattle.run_theory.specs.PlainRun.{Kind, Reply, reply, kind, replies, push, reply_of, add_nth, hit, samples_from, plain_samples}
+use Rattle.run_theory.specs.PlainRun.{Kind, Reply, replies, push, reply_of, add_nth, hit, samples_from}
 use Rattle.run_theory.specs.PlainBench.{pairs, flatten}
-use Rattle.run_theory.specs.Demand3.{plain_output}
 use Rattle.run_theory.specs.FloatGenerator.{nought, noise_scale}
 use Rattle.run_theory.proofs.StepFacts.{reply_start}
 use Rattle.run_call_model.proofs.FlatLists.{length_pairs, flatten_pairs}
-use Rattle.run_generator.specs.Instance.{pair_of, Filters, RepresentableDraw, pulse_samples, instance_of}
+use Rattle.run_generator.specs.Instance.{pair_of, Filters, pulse_samples, instance_of}
 use Rattle.single_add.specs.Stretch.{laid, numbers_of, added_to, first_reached, passed_over, with_reply}
 use Rattle.single_theory.specs.Single.{single_samples}
 use Rattle.single_theorem.specs.Agreement.{minus_zero, Agreement}

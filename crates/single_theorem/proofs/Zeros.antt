@@ -1,6 +1,6 @@
 -- Sums with zeros, of floats that their format holds: 0.0 and a number that is not -0.0 are that number (`zero-plus`); any number and -0.0 are that number (`plus-minus-zero`). So a number added to 0.0, and then another that is not -0.0, are the second and the first (`either_way`).
 use Prim.Native.Nat.{ℕ, zero, suc, ◌+◌, ◌-◌, ◌*◌, ◌%◌, ◌^◌, ◌≤◌, ◌<◌, zero-le}
-use native.Mathlib.Nat.{mul-one, one-mul, zero-mul, zero-add, add-zero, sub-zero, mul_assoc, mul_comm, mul_left_comm, mul_right_comm, mul-pos, lt_of_lt_of_le, pow-succ', pow-suc, zero-lt-suc, lt_irrefl, eq_of_mul-eq-mul_right}
+use native.Mathlib.Nat.{mul-one, one-mul, zero-mul, zero-add, add-zero, sub-zero, mul_assoc, mul_left_comm, mul-pos, lt_of_lt_of_le, pow-succ', pow-suc, zero-lt-suc, lt_irrefl, eq_of_mul-eq-mul_right}
 use native.Mathlib.Omega.{arith}
 use mathlib.Core.Path.{◌≡◌, refl, sym, ap, ◌∙◌, subst}
 use mathlib.Core.Bool.{Bool, true, false, not, cond, ◌&&◌}
@@ -8,9 +8,9 @@ use mathlib.Core.Logic.{◌≢◌, ◌⊎◌, inl, inr}
 use borrow.Author.Tests.{le-ltb}
 use lib.IntN.{ℤ, pos, negsuc}
 use lib.Dec.{T, eqb, leb, ltb, eqb→eq, leb→le, ltb→lt, lt→ltb}
-use lib.Pow.{pow-add, pow_pos, pow-lt, pow_mono, shl_lt}
+use lib.Pow.{pow-add, pow_pos, pow_mono, shl_lt}
 use lib.Ieee.{Float, nan, inf, fin, Format, binary32, binary64, prec, emax, low, up, down, round, sum, add, fits}
-use lib.Ieee.Bits.{is_true, is_false}
+use lib.Ieee.Bits.{is_true}
 use lib.Ieee.Exact.{HasValue, round_exact}
 use lib.Ieee.Fits.{up_pos, down_pos, and_l, and_r, round-fits}
 use Rattle.float_rounding.proofs.Pattern.{pow_le_back}

@@ -2,9 +2,9 @@
 use mathlib.Core.Path.{◌≡◌, refl, sym, ap, ◌∙◌, subst}
 use mathlib.Core.Logic.{inl, inr}
 use Prim.Native.Nat.{ℕ, zero, suc, ◌+◌, ◌-◌, ◌*◌, ◌/◌, ◌^◌, ◌≤◌, ◌<◌, min}
-use native.Mathlib.Nat.{le_trans, le_of_eq, lt_of_le_of_lt, one-mul, zero-mul, mul-one, zero-div, mul_comm, mul-le-mul, mul-le-mul_right, mul_right_comm, sub-le, div-mul-le_self, lt-div-mul-add, div-lt_iff_lt-mul, suc-mul}
+use native.Mathlib.Nat.{le_trans, le_of_eq, lt_of_le_of_lt, one-mul, zero-mul, mul-one, zero-div, mul-le-mul, mul-le-mul_right, mul_right_comm, sub-le, div-mul-le_self, lt-div-mul-add, div-lt_iff_lt-mul, suc-mul}
 use native.Mathlib.Omega.{arith}
-use mathlib.Core.Bool.{Bool, true, false, not, false≢true, true≢false}
+use mathlib.Core.Bool.{Bool, true, false, false≢true, true≢false}
 use lib.IntN.{ℤ, pos, negsuc, neg_ℤ}
 use lib.Dec.{T, lit<, lit≤}
 use lib.Pow.{pow_pos}
@@ -21,7 +21,7 @@ use Rattle.float_rounding.proofs.Units.{G, G-le, Units}
 use Rattle.float_rounding.proofs.More.{sub_all, mul_all, nonneg, sub_is}
 use Rattle.float_rounding.proofs.Val.{Val, val_units, neg_val}
 use Rattle.float_rounding.proofs.Size.{Within, units_within, le_or_lt}
-use Rattle.float_narrow.specs.Ceil.{ceil_signed, upward}
+use Rattle.float_narrow.specs.Ceil.{ceil_signed}
 use Rattle.math.proofs.InRange.{tests_of_within}
 use Rattle.message_config.specs.declared.Delays.{Delays}
 use Rattle.message_config.specs.declared.MessageConfig.{MessageConfig}

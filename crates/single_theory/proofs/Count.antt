@@ -1,6 +1,6 @@
 -- A reply of a draw in range, by filters in range, has at most as many samples as the limit says where it starts before sample 2^52 (`few-or-late`); so the samples made by way of working memory are those of the definition (`single-is`), for every stretch that is accepted (`accepted-is`).
 use Prim.Native.Nat.{ℕ, ◌+◌, ◌*◌, ◌/◌, ◌%◌, ◌^◌, ◌≤◌, ◌<◌}
-use native.Mathlib.Nat.{le_trans, le_of_eq, le_of_lt}
+use native.Mathlib.Nat.{le_trans, le_of_eq}
 use native.Mathlib.Omega.{arith}
 use mathlib.Core.Path.{◌≡◌, refl, sym, ap, ◌∙◌, subst}
 use mathlib.Core.Bool.{Bool, true, false, cond, not, ◌||◌, ◌&&◌, true≢false}
@@ -8,10 +8,10 @@ use mathlib.Core.List.{List}
 use mathlib.Core.Logic.{◌⊎◌, inl, inr, ◌≢◌}
 use mathlib.Core.Option.{Option, none, some}
 use borrow.Author.Tests.{eqb-true, ltb-false}
-use lib.Dec.{T, eqb, ltb, leb, lit≤, lit<}
+use lib.Dec.{T, eqb, ltb, leb, lit<}
 use lib.IntN.{ℤ, pos, negsuc}
 use lib.ListN.{length, length-replicate}
-use lib.Ieee.{Float, fin, binary64, fits}
+use lib.Ieee.{Float, binary64, fits}
 use Rattle.constants.specs.declared.SamplesPerPulse.{SamplesPerPulse}
 use Rattle.constants.specs.declared.SamplesPerPulse.TheVariants.{Four, Eight}
 use Rattle.constants.specs.Setting.{per_pulse}
@@ -29,7 +29,6 @@ use Rattle.settings.specs.declared.Distributions.{Distributions}
 use Rattle.settings.specs.declared.MessagesPerSecond.{MessagesPerSecond}
 use Rattle.settings.specs.Settings.{settings_of}
 use Rattle.settings_duration.specs.Duration.{Answer, samples, refusal, samples_of, pick, duration_of}
-use Rattle.draw.specs.declared.Draw.{Draw}
 use Rattle.draw.specs.declared.DrawFault as DrawFault
 use Rattle.draw.specs.Draw.{draw_at}
 use Rattle.draw.specs.Fault.{draw_fault, fault_at, fault_from, first_fault}
@@ -43,7 +42,7 @@ use Rattle.reply_samples.proofs.Counts.{ClockInRange, samples_counted, count_mos
 use Rattle.run_theory.specs.FloatGenerator.{nought}
 use Rattle.run_theory.specs.PlainBench as Bench
 use Rattle.run_theory.specs.Zeros.{zeros}
-use Rattle.run_theory.proofs.Times.{GoodTime, good_on}
+use Rattle.run_theory.proofs.Times.{good_on}
 use Rattle.run_generator.specs.Instance.{Filters, RepresentableDraw, pulse_samples, fault_of}
 use Rattle.run_generator.proofs.DrawInRange.{gap_of, message_error}
 use Rattle.run_generator.proofs.FiltersInRange.{FiltersInRange}
@@ -55,7 +54,7 @@ use Rattle.run_open_checks.specs.declared.Opened.{Opened}
 use Rattle.run_open_checks.specs.declared.Opened.TheVariants.{Run, Refused}
 use Rattle.run_open_checks.specs.Opening.{OpenBuffers, opened_for, opened_of}
 use Rattle.run_open_checks.proofs.WhatIsOpened.{opened_run_in_range}
-use Rattle.single_add.specs.Stretch.{laid, first_reached, with_reply}
+use Rattle.single_add.specs.Stretch.{first_reached}
 use Rattle.single_add.specs.StretchModel.{stretch_of}
 use Rattle.single_add.proofs.Window.{stretch_is, stretch_past}
 use Rattle.single_theory.specs.Single.{single_samples, samples_asked, wrong_lengths, wrong_stretch, noise_then, draw_then, opened_then, duration_then, checked_of, single_run, left_in}

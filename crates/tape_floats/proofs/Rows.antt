@@ -4,7 +4,7 @@ use mathlib.Core.Path.{◌≡◌, refl, sym, ap, ◌∙◌}
 use mathlib.Core.List.{List, [], ◌∷◌, ◌++◌, append_assoc, append-nil}
 use native.Mathlib.Omega.{arith}
 use native.Mathlib.Numerals.{add-one}
-use lib.ListN.{length, get_or, take, drop, set, length-append, length-drop}
+use lib.ListN.{length, get_or, take, drop, set, length-append}
 use lib.Seq.{drop-drop, drop-cons, set_at, take-suc, length-take-le}
 use lib.Ieee.{Float, binary32, of_bits, to_bits}
 use Rattle.le_read.specs.LeBytes.{le_at, number_at, bytes_of, overwritten, put}

@@ -1,10 +1,9 @@
 -- A message put, or not, by whether it fits.
 use Prim.Native.Nat.{ℕ, ◌+◌, ◌≤◌, ◌<◌}
-use mathlib.Core.Path.{◌≡◌, refl, sym, ap, ◌∙◌}
+use mathlib.Core.Path.{◌≡◌, sym, ap, ◌∙◌}
 use mathlib.Core.Bool.{Bool, true, false, cond, ◌&&◌}
 use mathlib.Core.List.{List}
 use lib.ListN.{length}
-use lib.Dec.{leb}
 use borrow.Author.Tests.{le-leb, lt-leb}
 use Rattle.le_read.specs.LeBytes.{inside, overwritten}
 use Rattle.tape_text.specs.Text.{message_of, hex_line, message_fits, message_at, message_end, Put}

@@ -1,7 +1,7 @@
 -- The samples of a tape whose noise is fed in chunks, however it is cut: they are a first part of the plain run on all its draws and noise, and all of it where the run is Done (`fed-samples`).
 use Prim.Native.Nat.{ℕ, ◌-◌, ◌*◌}
 use mathlib.Core.List.{List, [], ◌∷◌, ◌++◌, append-nil, append_assoc}
-use mathlib.Core.Option.{Option, none, some}
+use mathlib.Core.Option.{none, some}
 use mathlib.Core.Path.{◌≡◌, refl, sym, ap, ◌∙◌, subst}
 use native.Mathlib.Omega.{arith}
 use lib.ListN.{length, take}

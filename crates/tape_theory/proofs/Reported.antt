@@ -17,7 +17,7 @@ use Rattle.run_call_model.proofs.FlatLists.{length_draws}
 use Rattle.run_call.specs.declared.State.{State}
 use Rattle.run_call.specs.StateGenerator.{gen_of}
 use Rattle.run_open_checks.specs.declared.Opened as Opened
-use Rattle.run_open_checks.specs.Opening.{OpenBuffers, left_by}
+use Rattle.run_open_checks.specs.Opening.{left_by}
 use Rattle.run_open_checks.specs.FirstCause.{BuffersFit}
 use Rattle.settings.specs.Settings.{settings_length}
 use Rattle.tape_head.specs.declared.Beginning as Beginning
@@ -27,7 +27,7 @@ use Rattle.tape_verdict.specs.declared.Feed.{Feed}
 use Rattle.tape_verdict.specs.declared.Outcome as Outcome
 use Rattle.tape_verdict.specs.Verdict.{start_of, verdict_of, judged_of, outcome_of, outcome_done}
 use Rattle.tape_theory.specs.Fed.{Held, begun}
-use Rattle.tape_theory.specs.PlainTape.{Ending, done, refused, ending_by, ending_text, plain_ending, plain_text, fed_ending, fed_text, FedCut}
+use Rattle.tape_theory.specs.PlainTape.{Ending, ending_by, ending_text, plain_ending, fed_ending, fed_text, FedCut}
 use Rattle.tape_theory.specs.TapeText.{lent_by_program, draws_section}
 use Rattle.tape_theory.specs.Reported.{mode_s_of, mode_ac_of, head_read, memory_left, records_lent, records_left, Reported, head_refused, run, Says, outcome_text, PlainlyReported, number_refused, not_taken, cut_short, plain}
 use Rattle.tape_theory.proofs.FedCall.{few_records}

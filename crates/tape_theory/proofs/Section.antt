@@ -1,5 +1,5 @@
 -- Chunks fed one after the other: while more are to come each has an even number of values, so that with the last one the noise is cut as `PlainTape` asks (`going_end`); and so it is as a program reads it, 16,384 values at a time (`next-step`).
-use Prim.Native.Nat.{ℕ, ◌+◌, ◌-◌, ◌*◌, ◌/◌, ◌%◌, ◌≤◌, ◌<◌, min}
+use Prim.Native.Nat.{ℕ, ◌+◌, ◌-◌, ◌*◌, ◌%◌, ◌≤◌, ◌<◌, min}
 use mathlib.Core.Bool.{Bool, true, false, cond, true≢false}
 use mathlib.Core.Logic.{◌⊎◌, inl, inr}
 use mathlib.Core.List.{List, [], ◌∷◌, ◌++◌}

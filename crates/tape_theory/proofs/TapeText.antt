@@ -2,7 +2,7 @@
 use Prim.Native.Nat.{ℕ, ◌*◌, ◌/◌, ◌≤◌, ◌<◌}
 use mathlib.Core.Bool.{Bool, true, false, cond}
 use mathlib.Core.List.{List, ◌∷◌}
-use mathlib.Core.Path.{◌≡◌, refl, sym, ap, ◌∙◌}
+use mathlib.Core.Path.{◌≡◌, sym, ap, ◌∙◌}
 use native.Mathlib.Omega.{arith}
 use lib.Dec.{ltb}
 use lib.ListN.{length, take, drop, length-take}
@@ -15,7 +15,7 @@ use Rattle.tape_text.specs.Text.{refused_text}
 use Rattle.tape_head.specs.declared.Beginning as Beginning
 use Rattle.tape_head.specs.Head.{taps_s, taps_ac, head_of}
 use Rattle.tape_head.proofs.Within.{head_within}
-use Rattle.tape_theory.specs.Fed.{Held, Chunk, begun, fed_all}
+use Rattle.tape_theory.specs.Fed.{Chunk, begun, fed_all}
 use Rattle.tape_theory.specs.PlainTape.{plain_text, fed_text, Cut}
 use Rattle.tape_theory.specs.TapeText.{lent_by_program, Parts, draws_section, behind_count, section_text, head_text, tape_text}
 use Rattle.tape_theory.proofs.PlainTape.{plain_tape}

@@ -5,7 +5,7 @@ use mathlib.Core.List.{List, [], ◌∷◌, ◌++◌, append_assoc}
 use mathlib.Core.Path.{◌≡◌, refl, sym, ap, ◌∙◌}
 use native.Mathlib.Omega.{arith}
 use lib.Dec.{eqb, lit<}
-use lib.ListN.{length, get_or, take, drop, length-append, length-drop, get_or-append}
+use lib.ListN.{length, get_or, take, drop, length-drop, get_or-append}
 use lib.Seq.{drop_at, take-append-le, drop-append-le}
 use Rattle.le_read.specs.LeBytes.{le_of, le_at}
 use Rattle.run_theory.specs.PlainBench.{join, over}

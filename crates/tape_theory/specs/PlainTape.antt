@@ -1,5 +1,5 @@
 -- How a tape ends whose head is accepted, and its text: by the plain run on the tape's draws and all its noise, which knows no chunks (`plain_ending`, `plain_text`); of a run that was fed its noise in chunks (`fed_ending`, `fed_text`); and the claim that they are the same (`PlainTape`).
-use Rattle.std.specs.Prelude.{ℕ, zero, suc, ◌*◌, ◌/◌, ◌%◌, ◌≤◌, ◌<◌, Bool, true, false, cond, ◌&&◌, ◌||◌, ◌≡◌, List, [], ◌∷◌, ◌++◌, leb, length, Float}
+use Rattle.std.specs.Prelude.{ℕ, zero, suc, ◌*◌, ◌/◌, ◌%◌, ◌≤◌, ◌<◌, Bool, false, cond, ◌&&◌, ◌||◌, ◌≡◌, List, [], ◌∷◌, ◌++◌, leb, length, Float}
 use Rattle.run_theory.specs.Generator.{Generator}
 use Rattle.run_theory.specs.PlainRun.{ended, plain_records}
 use Rattle.run_theory.specs.PlainBench.{pairs, over, draws_of}

@@ -1,5 +1,5 @@
 -- The bench checks marked P in SPECIFICATION 12: what the definitions give, beside what it says.
-use Rattle.std.specs.Prelude.{ℕ, ◌+◌, ◌*◌, ◌^◌, Bool, true, false, List, [], ◌∷◌, ◌++◌}
+use Rattle.std.specs.Prelude.{ℕ, ◌+◌, ◌*◌, ◌^◌, true, false, List, [], ◌∷◌, ◌++◌}
 use Rattle.constants.specs.Rate.{four, required_samples}
 use Rattle.settings_duration.specs.Duration.{duration_of}
 use Rattle.settings_duration.specs.Duration as duration

@@ -3,7 +3,6 @@ use Prim.Native.Nat.{ℕ, ◌≤◌}
 use mathlib.Core.List.{List}
 use mathlib.Core.Path.{◌≡◌, ap}
 use native.Mathlib.Omega.{arith}
-use borrow.Author.Rules.{rules}
 use Rattle.tape_verdict.specs.declared.Outcome as Outcome
 use Rattle.tape_theory.specs.Reported.{Reported}
 use Rattle.tape_theory.proofs.Reported.{records_in, few_reported}

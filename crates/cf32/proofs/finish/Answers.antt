@@ -1,5 +1,4 @@
 -- `cf32::finish` is safe.
-use borrow.Author.Rules.{rules}
 use native.Mathlib.Omega.{arith}
 use lib.ListN.{length-take}
 use Rattle.cf32.proofs.finish.Goals as goal

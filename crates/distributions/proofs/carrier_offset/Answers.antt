@@ -1,5 +1,4 @@
 -- `distributions::carrier_offset` meets its contract.
-use borrow.Author.Rules.{rules}
 use Rattle.distributions.specs.Accepted.{clamped_normal, carrier_offset}
 use Rattle.distributions.proofs.ByKind.{kind_0, kind_1, kind_other}
 use Rattle.distributions.proofs.Literals.{offset_limit_is}

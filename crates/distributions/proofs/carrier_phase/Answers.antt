@@ -1,5 +1,4 @@
 -- `distributions::carrier_phase` meets its contract.
-use borrow.Author.Rules.{rules}
 use Rattle.distributions.specs.Accepted.{carrier_phase}
 use Rattle.distributions.proofs.ByKind.{kind_0, kind_1, kind_other}
 use mathlib.Core.Path.{◌≡◌, refl}

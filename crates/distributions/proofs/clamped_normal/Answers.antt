@@ -1,7 +1,6 @@
 -- `distributions::clamped_normal` meets its contract.
 use mathlib.Core.Path.{◌≡◌}
 use lib.Ieee.{binary64, of_bits}
-use borrow.Author.Rules.{rules}
 use Rattle.distributions.specs.Accepted.{up_to, clamped_normal}
 use Rattle.distributions.proofs.Literals.{offset_limit_is}
 use Rattle.distributions.proofs.clamped_normal.Goals as goal

@@ -1,5 +1,4 @@
 -- `distributions::clock_error` meets its contract.
-use borrow.Author.Rules.{rules}
 use Rattle.distributions.specs.Accepted.{clock_error}
 use Rattle.distributions.proofs.ByKind.{kind_0, kind_1, kind_other}
 use Rattle.distributions.proofs.Literals.{tenth_is}

@@ -2,7 +2,6 @@
 use mathlib.Core.Bool.{Bool, ◌&&◌}
 use mathlib.Core.Path.{◌≡◌, sym, ap, ◌∙◌}
 use lib.Ieee.Scale.{finite}
-use borrow.Author.Rules.{rules}
 use Rattle.distributions.specs.Accepted.{finite_not_negative}
 use Rattle.distributions.proofs.finite_not_negative.Goals as goal
 

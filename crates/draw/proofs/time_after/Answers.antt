@@ -1,5 +1,4 @@
 -- `draw::time_after` meets its contract.
-use borrow.Author.Rules.{rules}
 use mathlib.Core.Path.{ap}
 use lib.Ieee.{binary64, add}
 use Rattle.draw.specs.Draw.{draw_at}

@@ -1,5 +1,4 @@
 -- `draw_config::completed` meets its contract.
-use borrow.Author.Rules.{rules}
 use Rattle.draw_config.proofs.Joined.{completed_by_lem}
 use Rattle.draw_config.proofs.completed.Goals as goal
 

@@ -1,5 +1,4 @@
 -- `draw_config::pending` meets its contract.
-use borrow.Author.Rules.{rules}
 use Rattle.draw_config.proofs.Joined.{pending_is}
 use Rattle.draw_config.proofs.pending.Goals as goal
 

@@ -1,5 +1,4 @@
 -- `draw_config::type_drawn` meets its contract.
-use borrow.Author.Rules.{rules}
 use mathlib.Core.Path.{sym, ap, ◌∙◌}
 use Rattle.draw.specs.Config.{type_drawn}
 use Rattle.draw_config.proofs.type_drawn.Goals as goal

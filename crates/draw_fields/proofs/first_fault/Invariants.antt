@@ -1,11 +1,8 @@
 -- `draw_fields::first_fault` meets its contract. The loop's invariant: the draws passed are counted, and the first fault of the rest is that of all.
 use Prim.Native.Nat.{◌+◌, ◌*◌, ◌/◌}
-use mathlib.Core.Path.{◌≡◌, refl, sym, ap, ◌∙◌}
-use native.Mathlib.Omega.{arith}
-use lib.ListN.{length, length-drop}
-use borrow.Author.Rules.{rules}
-use Rattle.draw.specs.Fault.{draw_fault, fault_from, first_fault}
-use Rattle.draw_fields.proofs.Scan.{part_is, goes_on, stops, ends}
+use mathlib.Core.Path.{◌≡◌}
+use lib.ListN.{length}
+use Rattle.draw.specs.Fault.{fault_from, first_fault}
 use Rattle.draw_fields.proofs.first_fault.Given as goal
 
 abbrev pub invariant-loop-rest : goal.invariant-loop-rest

@@ -1,5 +1,4 @@
 -- `draw_fields::message_bytes` meets its contract.
-use borrow.Author.Rules.{rules}
 use Rattle.draw_fields.proofs.Fields.{bytes_are}
 use Rattle.draw_fields.proofs.message_bytes.Goals as goal
 

@@ -1,5 +1,4 @@
 -- `draw_fields::picks` meets its contract.
-use borrow.Author.Rules.{rules}
 use Rattle.draw_fields.proofs.Fields.{picks_are}
 use Rattle.draw_fields.proofs.picks.Goals as goal
 

@@ -1,5 +1,4 @@
 -- `draw_fields::read` meets its contract.
-use borrow.Author.Rules.{rules}
 use Rattle.draw_fields.proofs.Fields.{draw_is}
 use Rattle.draw_fields.proofs.read.Goals as goal
 

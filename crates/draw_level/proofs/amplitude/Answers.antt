@@ -1,7 +1,6 @@
 -- `draw_level::amplitude` meets its contract.
-use Prim.Native.Nat.{◌+◌, ◌*◌, ◌/◌, ◌≤◌}
+use Prim.Native.Nat.{◌+◌, ◌*◌, ◌/◌}
 use Rattle.draw_level.proofs.Significand.{product_of, divisor, q_small, made, no_nan}
-use borrow.Author.Rules.{rules}
 use native.Mathlib.Omega.{arith}
 use Rattle.draw_level.proofs.amplitude.Goals as goal
 

@@ -1,8 +1,6 @@
 -- `draw_level::halvings` meets its contract.
-use mathlib.Core.Path.{◌≡◌}
-use Prim.Native.Nat.{◌*◌, ◌-◌, ◌^◌, ◌≤◌}
+use Prim.Native.Nat.{◌-◌}
 use Rattle.draw_level.proofs.Powers.{double, room}
-use borrow.Author.Rules.{rules}
 use native.Mathlib.Omega.{arith}
 use Rattle.draw_level.proofs.halvings.Goals as goal
 

@@ -2,7 +2,6 @@
 use native.Mathlib.Nat.{mod-le, div-le_self}
 use native.Mathlib.Omega.{arith}
 use Rattle.float_rounding.proofs.Half.{closest_down, closest_up, closest_tie}
-use borrow.Author.Rules.{rules}
 use Rattle.draw_level.proofs.nearest_even.Goals as goal
 
 pub overflow_mul-twice : goal.overflow_mul-twice

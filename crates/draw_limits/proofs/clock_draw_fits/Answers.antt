@@ -1,6 +1,5 @@
 -- `draw_limits::clock_draw_fits` meets its contract.
 use mathlib.Core.Path.{◌≡◌, sym, ap, ◌∙◌}
-use borrow.Author.Rules.{rules}
 use Rattle.distributions.specs.declared.ClockError.{ClockError}
 use Rattle.distributions.specs.declared.ClockError.TheVariants.{Uniform}
 use Rattle.distributions.specs.Drawn.{clock_draw_fits}

@@ -1,7 +1,6 @@
 -- `draw_limits::offset_draw_fits` meets its contract.
 use mathlib.Core.Path.{◌≡◌, sym, ap, ◌∙◌}
 use lib.Ieee.Scale.{finite}
-use borrow.Author.Rules.{rules}
 use Rattle.distributions.specs.declared.CarrierOffset.{CarrierOffset}
 use Rattle.distributions.specs.Drawn.{offset_draw_fits}
 use Rattle.draw_limits.proofs.offset_draw_fits.Goals as goal

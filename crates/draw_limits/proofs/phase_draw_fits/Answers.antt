@@ -1,6 +1,5 @@
 -- `draw_limits::phase_draw_fits` meets its contract.
 use mathlib.Core.Path.{sym, ap}
-use borrow.Author.Rules.{rules}
 use Rattle.distributions.specs.declared.CarrierPhase.{CarrierPhase}
 use Rattle.distributions.specs.Drawn.{phase_draw_fits}
 use Rattle.draw_limits.proofs.phase_draw_fits.Goals as goal

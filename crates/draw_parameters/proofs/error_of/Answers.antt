@@ -1,6 +1,5 @@
 -- `draw_parameters::error_of` meets its contract.
 use mathlib.Core.Path.{sym, ap}
-use borrow.Author.Rules.{rules}
 use Rattle.distributions.specs.declared.ClockError.{ClockError}
 use Rattle.distributions.specs.Drawn.{error_of}
 use Rattle.draw_parameters.proofs.error_of.Goals as goal

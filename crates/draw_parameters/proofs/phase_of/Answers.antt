@@ -1,6 +1,5 @@
 -- `draw_parameters::phase_of` meets its contract.
 use mathlib.Core.Path.{sym, ap}
-use borrow.Author.Rules.{rules}
 use Rattle.distributions.specs.declared.CarrierPhase.{CarrierPhase}
 use Rattle.distributions.specs.Drawn.{phase_of}
 use Rattle.draw_parameters.proofs.phase_of.Goals as goal

@@ -1,5 +1,4 @@
 -- `draw_ranges::clock_fits` meets its contract.
-use borrow.Author.Rules.{rules}
 use mathlib.Core.Path.{sym, ap, ◌∙◌}
 use Rattle.draw.specs.Fault.{mode_ac_limit}
 use Rattle.draw.proofs.Decided.{draw_fits, draw_wide}

@@ -1,5 +1,4 @@
 -- `draw_ranges::field_fault` meets its contract.
-use borrow.Author.Rules.{rules}
 use Rattle.draw.specs.Fault.{draw_fault}
 use Rattle.draw_ranges.proofs.field_fault.Goals as goal
 

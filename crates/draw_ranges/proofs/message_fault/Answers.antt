@@ -1,5 +1,4 @@
 -- `draw_ranges::message_fault` meets its contract.
-use borrow.Author.Rules.{rules}
 use mathlib.Core.Path.{sym, ap, ◌∙◌}
 use Rattle.message.specs.declared.TypeFound.{TypeFound}
 use Rattle.draw.specs.Fault.{message_fault}

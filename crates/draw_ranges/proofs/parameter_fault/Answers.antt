@@ -1,5 +1,4 @@
 -- `draw_ranges::parameter_fault` meets its contract.
-use borrow.Author.Rules.{rules}
 use Rattle.draw.specs.Fault.{parameter_fault}
 use Rattle.draw_ranges.proofs.parameter_fault.Goals as goal
 

@@ -1,6 +1,5 @@
 -- `draw_ranges::type_fits` meets its contract.
 use mathlib.Core.Path.{refl}
-use borrow.Author.Rules.{rules}
 use Rattle.draw.specs.Fault.{type_fits}
 use Rattle.draw_ranges.proofs.type_fits.Goals as goal
 

@@ -1,6 +1,5 @@
 -- `draw_ranges::within_limit` meets its contract.
 use native.Mathlib.Omega.{arith}
-use borrow.Author.Rules.{rules}
 use mathlib.Core.Path.{◌≡◌, sym, ◌∙◌}
 use Rattle.distributions.proofs.Literals.{tenth_is}
 use Rattle.draw.proofs.Decided.{limited, unlimited}

@@ -1,5 +1,5 @@
 -- `at_bank_end` meets its contract.
-use Rattle.std.proofs.Common.{ℕ, ◌-◌, ap, rules}
+use Rattle.std.proofs.Common.{ℕ, ◌-◌, ap}
 use Rattle.constants.specs.Setting.{per_pulse}
 use Rattle.filterbank.proofs.Literals.{rolled_taps}
 use Rattle.filterbank.proofs.at_bank_end.Goals as goal

@@ -1,5 +1,5 @@
 -- `branch_of` meets its contract.
-use Rattle.std.proofs.Common.{arith, rules}
+use Rattle.std.proofs.Common.{rules}
 use Rattle.filterbank.proofs.Literals.{branch_own, branch_none}
 use Rattle.filterbank.proofs.branch_of.Goals as goal
 

@@ -1,5 +1,4 @@
 -- `scaled_phase` meets its contract.
-use Rattle.std.proofs.Common.{rules}
 use Rattle.filterbank.proofs.Literals.{scaled_is}
 use Rattle.filterbank.proofs.scaled_phase.Goals as goal
 

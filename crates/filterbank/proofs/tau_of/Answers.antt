@@ -1,5 +1,4 @@
 -- `tau_of` meets its contract.
-use Rattle.std.proofs.Common.{rules}
 use Rattle.filterbank.proofs.Literals.{tau_is}
 use Rattle.filterbank.proofs.tau_of.Goals as goal
 

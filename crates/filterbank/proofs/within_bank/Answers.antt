@@ -1,7 +1,6 @@
 -- `within_bank` meets its contract.
 use Rattle.constants.specs.Setting.{per_pulse}
 use Rattle.filterbank.proofs.Literals.{seven_taps}
-use Rattle.std.proofs.Common.{rules}
 use Rattle.filterbank.proofs.within_bank.Goals as goal
 
 pub returns : goal.returns

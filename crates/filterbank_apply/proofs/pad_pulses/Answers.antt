@@ -1,10 +1,8 @@
 -- `pad_pulses` meets its contract: each step copies one pulse more.
 use borrow.Author.Rules.{rules}
-use Prim.Native.Nat.{◌≤◌, ◌-◌}
-use mathlib.Core.Path.{◌≡◌}
-use lib.ListN.{length, length-set}
-use lib.Seq.{paste}
-use Rattle.filterbank.proofs.Padded.{off, pad_first, pad_step, pad_end}
+use Prim.Native.Nat.{◌-◌}
+use lib.ListN.{length-set}
+use Rattle.filterbank.proofs.Padded.{pad_first, pad_step, pad_end}
 use Rattle.filterbank_apply.proofs.pad_pulses.Goals as goal
 
 pub loop-j-init : goal.loop-j-init

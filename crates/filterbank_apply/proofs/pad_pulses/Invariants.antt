@@ -1,10 +1,9 @@
 -- `pad_pulses` meets its contract: each step copies one pulse more.
-use borrow.Author.Rules.{rules}
 use Prim.Native.Nat.{◌≤◌, ◌-◌}
 use mathlib.Core.Path.{◌≡◌}
-use lib.ListN.{length, length-set}
+use lib.ListN.{length}
 use lib.Seq.{paste}
-use Rattle.filterbank.proofs.Padded.{off, pad_first, pad_step, pad_end}
+use Rattle.filterbank.proofs.Padded.{off}
 use Rattle.filterbank_apply.proofs.pad_pulses.Given as goal
 
 abbrev pub invariant-loop-j : goal.invariant-loop-j

@@ -1,7 +1,5 @@
 -- `pulse_sum` meets its contract.
 use borrow.Author.Rules.{rules}
-use mathlib.Core.Path.{◌≡◌}
-use lib.ListN.{length}
 use Rattle.filterbank.proofs.Literals.{sum_past, sum_seven}
 use Rattle.filterbank_apply.proofs.pulse_sum.Goals as goal
 

@@ -1,5 +1,4 @@
 -- `clock_step` meets its contract.
-use Rattle.std.proofs.Common.{rules}
 use Rattle.filterbank.proofs.Literals.{step_is}
 use Rattle.filterbank_clock.proofs.clock_step.Goals as goal
 

@@ -1,5 +1,4 @@
 -- `start_clock` meets its contract.
-use Rattle.std.proofs.Common.{rules}
 use Rattle.filterbank.proofs.Literals.{start_is}
 use Rattle.filterbank_clock.proofs.start_clock.Goals as goal
 

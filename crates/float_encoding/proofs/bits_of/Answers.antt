@@ -1,7 +1,6 @@
 -- `float_encoding::bits_of` meets its contract.
 use mathlib.Core.Path.{sym, ap}
 use lib.Ieee.{binary64, to_bits}
-use borrow.Author.Rules.{rules}
 use Rattle.float_narrow.proofs.Nan.{is_nan_lem, not_nan}
 use Rattle.float_encoding.proofs.bits_of.Goals as goal
 

@@ -1,7 +1,6 @@
 -- `float_encoding::f32_of` meets its contract.
 use native.Mathlib.Omega.{arith}
 use lib.Ieee.{binary32, of_bits, div}
-use borrow.Author.Rules.{rules}
 use Rattle.float_narrow.proofs.Nan.{nan_above, no_nan_bits}
 use Rattle.float_encoding.proofs.f32_of.Goals as goal
 

@@ -1,5 +1,5 @@
 -- `float_narrow::magnitude` meets its contract: below the normal range by `narrow_small`, and above it by `in-range`.
-use Rattle.std.proofs.Common.{◌+◌, ◌-◌, ◌/◌, ◌%◌, refl, arith, rules}
+use Rattle.std.proofs.Common.{◌+◌, ◌-◌, ◌/◌, ◌%◌, refl, arith}
 use Rattle.float_narrow.proofs.Narrowing.{in_range}
 use Rattle.float_narrow.proofs.magnitude.Goals as goal
 

@@ -1,6 +1,6 @@
 -- `float_narrow::narrow` meets its contract.
 -- what owning an `f64` says: the format holds it
-use Rattle.std.proofs.Common.{true, ◌≡◌, T, sym, ap, ◌∙◌, subst, rules}
+use Rattle.std.proofs.Common.{true, ◌≡◌, T, sym, ap, ◌∙◌, subst}
 use lib.Ieee.{Float, binary64, fits}
 use lib.Ieee.Bits.{of_bits-to_bits}
 use Rattle.float_narrow.specs.Narrow.{narrow}

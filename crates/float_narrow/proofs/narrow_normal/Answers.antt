@@ -1,5 +1,5 @@
 -- `float_narrow::narrow_normal` meets its contract, by `rounded`.
-use Rattle.std.proofs.Common.{◌%◌, ◌<◌, Bool, not, T, subst, arith, rules}
+use Rattle.std.proofs.Common.{Bool, not, T, subst, arith}
 use lib.Ieee.{binary32, binary64, fits, is_nan, of_bits}
 use lib.Ieee.Bits.{nan_bits_is}
 use lib.Ieee.Fits.{and_i}

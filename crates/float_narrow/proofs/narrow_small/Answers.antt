@@ -1,5 +1,5 @@
 -- `float_narrow::narrow_small` meets its contract.
-use Rattle.std.proofs.Common.{◌/◌, arith, rules}
+use Rattle.std.proofs.Common.{◌/◌, arith}
 use Rattle.float_narrow.proofs.Narrowing.{half_shl, subnormal_pattern, zero_pattern}
 use Rattle.float_narrow.proofs.narrow_small.Goals as goal
 

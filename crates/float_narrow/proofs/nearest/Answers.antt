@@ -1,5 +1,5 @@
 -- `float_narrow::nearest` meets its contract: one division does it (`closest-half`).
-use Rattle.std.proofs.Common.{arith, rules}
+use Rattle.std.proofs.Common.{arith}
 use Rattle.float_rounding.proofs.Half.{closest_half}
 use Rattle.float_narrow.proofs.nearest.Goals as goal
 

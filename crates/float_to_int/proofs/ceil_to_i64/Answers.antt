@@ -1,5 +1,5 @@
 -- `ceil_to_i64` meets its contract: each branch is a case of `proofs/Ceiling.antt`.
-use Rattle.std.proofs.Common.{◌≡◌, Bool, true, false, not, T, ℤ, sym, ap, ◌∙◌, subst, to_z-of_z, w64, to_z, of_z, rules}
+use Rattle.std.proofs.Common.{◌≡◌, Bool, true, false, not, T, ℤ, sym, ap, ◌∙◌, subst, to_z-of_z, w64, to_z, of_z}
 use lib.Ieee.{Float, binary64, fits, of_bits, neg, to_signed}
 use lib.Ieee.Casts.{to_signed_in}
 use Rattle.float_to_int.proofs.Ceiling.{pos_above_min, nonpos_below_max, large, huge, nonpos, low_end, no_number_lem}

@@ -1,5 +1,5 @@
 -- `to_u64` meets its contract: each branch is a case of `proofs/Truncation.antt`.
-use Rattle.std.proofs.Common.{Bool, not, T, sym, subst, rules}
+use Rattle.std.proofs.Common.{Bool, not, T, sym, subst}
 use lib.Ieee.{of_bits}
 use Rattle.float_to_int.proofs.Truncation.{above_minus_one, at_the_top, below_one}
 use Rattle.float_to_int.proofs.to_u64.Goals as goal

@@ -1,7 +1,6 @@
 -- `eight` meets its contract. Two numbers of four bytes are the halves of one.
 use Rattle.le_read.proofs.Halves.{joined}
 use native.Mathlib.Omega.{arith}
-use borrow.Author.Rules.{rules}
 use Rattle.le_read.proofs.eight.Goals as goal
 
 pub returns : goal.returns

@@ -2,7 +2,6 @@
 use mathlib.Core.Path.{sym, ap, ◌∙◌}
 use Rattle.le_read.specs.declared.ReadU16.TheVariants.{Value, OutOfBounds}
 use Rattle.le_read.proofs.Decided.{there, read_there, read_past}
-use borrow.Author.Rules.{rules}
 use Rattle.le_read.proofs.le_u16.Goals as goal
 
 pub two-requires : goal.two-requires

@@ -2,7 +2,6 @@
 use mathlib.Core.Path.{sym, ap, ◌∙◌}
 use Rattle.le_read.specs.declared.ReadU64.TheVariants.{Value, OutOfBounds}
 use Rattle.le_read.proofs.Decided.{there, read_there, read_past}
-use borrow.Author.Rules.{rules}
 use Rattle.le_read.proofs.le_u64.Goals as goal
 
 pub eight-requires : goal.eight-requires

@@ -1,6 +1,5 @@
 -- `f32_at` meets its contract: the float of the number at the offset.
 use mathlib.Core.Path.{refl}
-use borrow.Author.Rules.{rules}
 use Rattle.le_read_floats.proofs.f32_at.Goals as goal
 
 pub returns : goal.returns

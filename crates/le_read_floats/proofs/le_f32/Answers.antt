@@ -1,7 +1,6 @@
 -- `le_f32` meets its contract: its answer is made of the number's.
 use mathlib.Core.Path.{sym, ap, ◌∙◌}
 use Rattle.le_read_floats.proofs.Answers.{made32, answer32}
-use borrow.Author.Rules.{rules}
 use Rattle.le_read_floats.proofs.le_f32.Goals as goal
 
 pub returns-in-Value : goal.returns-in-Value

@@ -1,7 +1,6 @@
 -- `le_f64` meets its contract: its answer is made of the number's.
 use mathlib.Core.Path.{sym, ap, ◌∙◌}
 use Rattle.le_read_floats.proofs.Answers.{made64, answer64}
-use borrow.Author.Rules.{rules}
 use Rattle.le_read_floats.proofs.le_f64.Goals as goal
 
 pub returns-in-Value : goal.returns-in-Value

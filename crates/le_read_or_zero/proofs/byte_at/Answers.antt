@@ -1,6 +1,5 @@
 -- `byte_at` meets its contract.
 use native.Mathlib.Omega.{arith}
-use borrow.Author.Rules.{rules}
 use mathlib.Core.Path.{refl, sym}
 use lib.ListN.{get_or-eq_default}
 use Rattle.le_read_or_zero.proofs.byte_at.Goals as goal

@@ -1,7 +1,6 @@
 -- `u16_at` meets its contract: its answer is made of `le_u16`'s.
 use mathlib.Core.Path.{sym, ap, ◌∙◌}
 use Rattle.le_read.proofs.Numbers.{number16, is_number16}
-use borrow.Author.Rules.{rules}
 use Rattle.le_read_or_zero.proofs.u16_at.Goals as goal
 
 pub returns-in-Value : goal.returns-in-Value

@@ -1,7 +1,6 @@
 -- `u32_at` meets its contract: its answer is made of `le_u32`'s.
 use mathlib.Core.Path.{sym, ap, ◌∙◌}
 use Rattle.le_read.proofs.Numbers.{number32, is_number32}
-use borrow.Author.Rules.{rules}
 use Rattle.le_read_or_zero.proofs.u32_at.Goals as goal
 
 pub returns-in-Value : goal.returns-in-Value

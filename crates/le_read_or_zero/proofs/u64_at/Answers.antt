@@ -1,7 +1,6 @@
 -- `u64_at` meets its contract: its answer is made of `le_u64`'s.
 use mathlib.Core.Path.{sym, ap, ◌∙◌}
 use Rattle.le_read.proofs.Numbers.{number64, is_number64}
-use borrow.Author.Rules.{rules}
 use Rattle.le_read_or_zero.proofs.u64_at.Goals as goal
 
 pub returns-in-Value : goal.returns-in-Value

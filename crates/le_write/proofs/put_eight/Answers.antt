@@ -4,7 +4,6 @@ use Prim.Native.Nat.{ℕ, ◌+◌, ◌/◌}
 use mathlib.Core.List.{List}
 use Rattle.le_read.specs.LeBytes.{overwritten, bytes_of}
 use Rattle.le_read.proofs.Halves.{overwritten_eight}
-use borrow.Author.Rules.{rules}
 use Rattle.le_write.proofs.put_eight.Goals as goal
 
 pub returns : goal.returns

@@ -1,7 +1,6 @@
 -- `put_f32` meets its contract. The bytes of its pattern.
 use mathlib.Core.Path.{ap, ◌∙◌}
 use Rattle.le_read.specs.LeBytes.{put}
-use borrow.Author.Rules.{rules}
 use Rattle.le_write.proofs.put_f32.Goals as goal
 
 pub returns : goal.returns

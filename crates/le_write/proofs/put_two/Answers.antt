@@ -1,7 +1,6 @@
 -- `put_two` meets its contract. Two bytes stored are two bytes written.
 use lib.ListN.{length-set}
 use Rattle.le_read.proofs.Halves.{overwritten_two}
-use borrow.Author.Rules.{rules}
 use native.Mathlib.Omega.{arith}
 use Rattle.le_write.proofs.put_two.Goals as goal
 

@@ -1,7 +1,6 @@
 -- `put_u32` meets its contract. The test decides which case of the definition holds.
 use mathlib.Core.Path.{sym, ◌∙◌}
 use Rattle.le_read.proofs.Decided.{there, put_there, put_past}
-use borrow.Author.Rules.{rules}
 use Rattle.le_write.proofs.put_u32.Goals as goal
 
 pub put_four-requires : goal.put_four-requires

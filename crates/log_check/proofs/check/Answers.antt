@@ -2,11 +2,6 @@
 use Rattle.log_check.proofs.Accepting.{length_refused, lengths_accepted}
 use mathlib.Core.Path.{sym, ◌∙◌}
 use Rattle.log_check.specs.LogChecks.{checked_of}
-use borrow.Author.Rules.{rules}
-use native.Mathlib.Omega.{arith}
-use Rattle.log_check.proofs.check.Reads as reads
-use Rattle.log_check.proofs.contents.Reads as contents-reads
-use Rattle.log_check.proofs.lengths_fit.Reads as lengths-fit-reads
 use Rattle.log_check.proofs.check.Goals as goal
 
 pub returns-then-lengths_fit : goal.returns-then-lengths_fit

@@ -3,11 +3,6 @@ use Rattle.log_check.proofs.Accepting.{record_refused, log_decides}
 use mathlib.Core.Bool.{true, false}
 use mathlib.Core.Path.{sym, ◌∙◌}
 use Rattle.log_check.specs.LogChecks.{checked_of}
-use borrow.Author.Rules.{rules}
-use native.Mathlib.Omega.{arith}
-use Rattle.log_check.proofs.contents.Reads as reads
-use Rattle.log_check.proofs.log_accepts.Reads as log-accepts-reads
-use Rattle.record_check.proofs.first_fault.Reads as first-fault-reads
 use Rattle.log_check.proofs.contents.Goals as goal
 
 pub returns-in-At : goal.returns-in-At

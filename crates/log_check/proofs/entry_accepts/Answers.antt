@@ -1,12 +1,6 @@
 -- `log_check::entry_accepts` meets its contract.
 use Rattle.log_check.proofs.Accepting.{entry_unknown, entry_first, entry_after}
 use mathlib.Core.Path.{sym, ◌∙◌}
-use borrow.Author.Rules.{rules}
-use native.Mathlib.Omega.{arith}
-use Rattle.log_check.proofs.entry_accepts.Reads as reads
-use Rattle.le_read.proofs.wide.Reads as wide-reads
-use Rattle.log_check.proofs.known_length.Reads as known-length-reads
-use Rattle.log_entry.proofs.sample_at.Reads as sample-at-reads
 use Rattle.log_check.proofs.entry_accepts.Goals as goal
 
 pub returns-then-i-eq0 : goal.returns-then-i-eq0

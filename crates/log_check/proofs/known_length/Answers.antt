@@ -1,8 +1,5 @@
 -- `log_check::known_length` meets its contract.
 use Rattle.log_check.proofs.Accepting.{known_2, known_7, known_14}
-use borrow.Author.Rules.{rules}
-use native.Mathlib.Omega.{arith}
-use Rattle.log_check.proofs.known_length.Reads as reads
 use Rattle.log_check.proofs.known_length.Goals as goal
 
 pub returns-then-n-eq-MODE_AC_LEN : goal.returns-then-n-eq-MODE_AC_LEN

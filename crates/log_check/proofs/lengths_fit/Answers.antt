@@ -1,8 +1,6 @@
 -- `log_check::lengths_fit` meets its contract.
 use Rattle.log_check.proofs.Accepting.{not_entries, not_records, not_partners, all_fit}
-use borrow.Author.Rules.{rules}
 use native.Mathlib.Omega.{arith}
-use Rattle.log_check.proofs.lengths_fit.Reads as reads
 use Rattle.log_check.proofs.lengths_fit.Goals as goal
 
 pub returns-then-log-ne0 : goal.returns-then-log-ne0

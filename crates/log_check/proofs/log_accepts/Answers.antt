@@ -1,13 +1,9 @@
 -- `log_check::log_accepts` meets its contract.
 use Rattle.log_check.proofs.Accepting.{accepted_start, accepted_on, accepted_off, accepted_end}
-use mathlib.Core.Path.{◌≡◌, refl, sym, ◌∙◌}
-use Prim.Native.Nat.{ℕ, ◌-◌, ◌/◌, ◌≤◌, ◌<◌}
+use mathlib.Core.Path.{refl, sym, ◌∙◌}
+use Prim.Native.Nat.{◌-◌, ◌/◌}
 use lib.ListN.{length}
-use Rattle.log_check.specs.LogChecks.{accepted_from, log_accepted}
 use borrow.Author.Rules.{rules}
-use native.Mathlib.Omega.{arith}
-use Rattle.log_check.proofs.log_accepts.Reads as reads
-use Rattle.log_check.proofs.entry_accepts.Reads as entry-accepts-reads
 use Rattle.log_check.proofs.log_accepts.Goals as goal
 
 pub loop-k-init : goal.loop-k-init

@@ -2,11 +2,7 @@
 use Rattle.log_compare.proofs.Decisions.{refusal_is, report_is, pairs_few}
 use Rattle.log_theory.proofs.Turns.{lists}
 use Rattle.log_compare.specs.Comparison.{answer_of, counts_of, reported}
-use borrow.Author.Rules.{rules}
 use native.Mathlib.Omega.{arith}
-use Rattle.log_compare.proofs.compare_log.Reads as reads
-use Rattle.log_check.proofs.check.Reads as check-reads
-use Rattle.log_pairs.proofs.pair_up.Reads as pair-up-reads
 use Rattle.log_compare.proofs.compare_log.Goals as goal
 
 pub returns-in-Refused : goal.returns-in-Refused

@@ -1,13 +1,6 @@
 -- `log_entry::allowed` meets its contract.
 use Rattle.log_entry.proofs.Bytes.{near_is, no_entry, no_record, too_far, in_reach}
 use mathlib.Core.Bool.{true, false}
-use borrow.Author.Rules.{rules}
-use native.Mathlib.Omega.{arith}
-use Rattle.log_entry.proofs.allowed.Reads as reads
-use Rattle.log_entry.proofs.first_at.Reads as first-at-reads
-use Rattle.log_entry.proofs.message_alike.Reads as message-alike-reads
-use Rattle.log_entry.proofs.sample_at.Reads as sample-at-reads
-use Rattle.log_tolerance.proofs.near.Reads as near-reads
 use Rattle.log_entry.proofs.allowed.Goals as goal
 
 pub returns-then-i-log : goal.returns-then-i-log

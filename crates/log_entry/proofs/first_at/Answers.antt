@@ -1,10 +1,7 @@
 -- `log_entry::first_at` meets its contract.
 use Rattle.log_entry.specs.Entries.{first_of}
 use Rattle.log_entry.proofs.Bytes.{first_past}
-use borrow.Author.Rules.{rules}
 use native.Mathlib.Omega.{arith}
-use Rattle.log_entry.proofs.first_at.Reads as reads
-use Rattle.le_read_or_zero.proofs.u64_at.Reads as u64-at-reads
 use Rattle.log_entry.proofs.first_at.Goals as goal
 
 pub returns-then-j-lt-TOO_MANY_RECORDS : goal.returns-then-j-lt-TOO_MANY_RECORDS

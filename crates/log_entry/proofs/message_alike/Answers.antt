@@ -1,10 +1,6 @@
 -- `log_entry::message_alike` meets its contract.
 use Rattle.log_entry.proofs.Bytes.{alike_no, alike_yes}
-use borrow.Author.Rules.{rules}
 use native.Mathlib.Omega.{arith}
-use Rattle.log_entry.proofs.message_alike.Reads as reads
-use Rattle.le_read.proofs.wide.Reads as wide-reads
-use Rattle.log_entry.proofs.same_bytes.Reads as same-bytes-reads
 use Rattle.log_entry.proofs.message_alike.Goals as goal
 
 pub returns-then-n-m : goal.returns-then-n-m

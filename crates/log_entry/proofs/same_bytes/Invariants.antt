@@ -1,12 +1,7 @@
 -- `log_entry::same_bytes` meets its contract.
-use mathlib.Core.Path.{◌≡◌, sym, ◌∙◌}
+use mathlib.Core.Path.{◌≡◌}
 use Prim.Native.Nat.{◌+◌, ◌-◌, ◌≤◌}
 use Rattle.log_entry.specs.Entries.{same_from}
-use Rattle.log_entry.proofs.Bytes.{same_start, same_on, same_off, same_end}
-use borrow.Author.Rules.{rules}
-use native.Mathlib.Omega.{arith}
-use Rattle.log_entry.proofs.same_bytes.Reads as reads
-use Rattle.le_read_or_zero.proofs.byte_at.Reads as byte-at-reads
 use Rattle.log_entry.proofs.same_bytes.Given as goal
 
 abbrev pub invariant-loop-k : goal.invariant-loop-k

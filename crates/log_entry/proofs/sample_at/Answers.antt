@@ -1,10 +1,7 @@
 -- `log_entry::sample_at` meets its contract.
 use Rattle.log_entry.specs.Entries.{sample_of}
 use Rattle.log_entry.proofs.Bytes.{sample_past}
-use borrow.Author.Rules.{rules}
 use native.Mathlib.Omega.{arith}
-use Rattle.log_entry.proofs.sample_at.Reads as reads
-use Rattle.le_read_or_zero.proofs.u64_at.Reads as u64-at-reads
 use Rattle.log_entry.proofs.sample_at.Goals as goal
 
 pub returns-then-i-lt-TOO_MANY_ENTRIES : goal.returns-then-i-lt-TOO_MANY_ENTRIES

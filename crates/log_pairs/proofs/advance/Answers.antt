@@ -1,16 +1,12 @@
 -- `log_pairs::advance` meets its contract.
-use mathlib.Core.Path.{◌≡◌, sym, ◌∙◌}
-use Prim.Native.Nat.{ℕ, ◌+◌, ◌-◌, ◌≤◌, ◌<◌}
-use lib.ListN.{length}
+use mathlib.Core.Path.{sym, ◌∙◌}
+use Prim.Native.Nat.{◌+◌, ◌-◌}
 use Rattle.log_entry.specs.Entries.{first_of}
-use Rattle.log_theory.specs.PairsModel.{free_in, Past}
+use Rattle.log_theory.specs.PairsModel.{free_in}
 use Rattle.log_theory.proofs.Window.{past_more}
 use Rattle.log_pairs.proofs.Marks.{mark_le, mark_past, gone_says}
 use borrow.Author.Rules.{rules}
 use native.Mathlib.Omega.{arith}
-use Rattle.log_pairs.proofs.advance.Reads as reads
-use Rattle.log_pairs.proofs.gone.Reads as gone-reads
-use Rattle.log_pairs.proofs.mark.Reads as mark-reads
 use Rattle.log_pairs.proofs.advance.Goals as goal
 
 pub loop-k-init : goal.loop-k-init

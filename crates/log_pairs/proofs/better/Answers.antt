@@ -3,11 +3,7 @@ use mathlib.Core.Path.{sym, ◌∙◌}
 use Rattle.log_entry.specs.Entries.{logs}
 use Rattle.log_theory.specs.PairsModel.{free_in}
 use Rattle.log_theory.proofs.Choices.{better_no, better_first, better_earlier, better_later}
-use borrow.Author.Rules.{rules}
 use native.Mathlib.Omega.{arith}
-use Rattle.log_pairs.proofs.better.Reads as reads
-use Rattle.log_entry.proofs.first_at.Reads as first-at-reads
-use Rattle.log_pairs.proofs.candidate.Reads as candidate-reads
 use Rattle.log_pairs.proofs.better.Goals as goal
 
 pub returns-in-Alone : goal.returns-in-Alone

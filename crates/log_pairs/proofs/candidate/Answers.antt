@@ -1,10 +1,7 @@
 -- `log_pairs::candidate` meets its contract.
 use Rattle.log_entry.specs.Entries.{logs}
 use Rattle.log_theory.proofs.Choices.{cand_taken, cand_free_is}
-use borrow.Author.Rules.{rules}
 use native.Mathlib.Omega.{arith}
-use Rattle.log_pairs.proofs.candidate.Reads as reads
-use Rattle.log_entry.proofs.allowed.Reads as allowed-reads
 use Rattle.log_pairs.proofs.candidate.Goals as goal
 
 pub returns-then-owners-j : goal.returns-then-owners-j

@@ -1,12 +1,9 @@
 -- `log_pairs::fill` meets its contract.
-use mathlib.Core.Path.{◌≡◌}
-use Prim.Native.Nat.{ℕ, ◌+◌, ◌-◌, ◌≤◌, ◌<◌}
-use lib.ListN.{length, take, replicate, length-set}
-use Rattle.log_theory.specs.Report.{nobody}
+use Prim.Native.Nat.{◌-◌}
+use lib.ListN.{length-set}
 use Rattle.log_theory.proofs.Turns.{filled, all_filled}
 use borrow.Author.Rules.{rules}
 use native.Mathlib.Omega.{arith}
-use Rattle.log_pairs.proofs.fill.Reads as reads
 use Rattle.log_pairs.proofs.fill.Goals as goal
 
 pub loop-k-smaller : goal.loop-k-smaller

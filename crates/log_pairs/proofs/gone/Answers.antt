@@ -4,10 +4,6 @@ use lib.Dec.{ltb}
 use Prim.Native.Nat.{◌+◌}
 use Rattle.log_pairs.proofs.Marks.{gone_taken, gone_early}
 use borrow.Author.Rules.{rules}
-use native.Mathlib.Omega.{arith}
-use Rattle.log_pairs.proofs.gone.Reads as reads
-use Rattle.log_entry.proofs.first_at.Reads as first-at-reads
-use Rattle.log_tolerance.proofs.sum.Reads as sum-reads
 use Rattle.log_pairs.proofs.gone.Goals as goal
 
 pub returns-then-owners-k : goal.returns-then-owners-k

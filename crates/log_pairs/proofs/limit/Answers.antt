@@ -1,11 +1,6 @@
 -- `log_pairs::limit` meets its contract.
 use Rattle.log_entry.specs.Entries.{first_of}
 use Rattle.log_pairs.proofs.Marks.{limit_none, limit_found}
-use borrow.Author.Rules.{rules}
-use native.Mathlib.Omega.{arith}
-use Rattle.log_pairs.proofs.limit.Reads as reads
-use Rattle.log_entry.proofs.first_at.Reads as first-at-reads
-use Rattle.log_tolerance.proofs.sum.Reads as sum-reads
 use Rattle.log_pairs.proofs.limit.Goals as goal
 
 pub returns-in-Alone : goal.returns-in-Alone

@@ -1,8 +1,5 @@
 -- `log_pairs::mark` meets its contract.
 use Rattle.log_pairs.proofs.Marks.{mark_kept, mark_back}
-use borrow.Author.Rules.{rules}
-use native.Mathlib.Omega.{arith}
-use Rattle.log_pairs.proofs.mark.Reads as reads
 use Rattle.log_pairs.proofs.mark.Goals as goal
 
 pub returns-then-previous-h : goal.returns-then-previous-h

@@ -1,13 +1,9 @@
 -- `log_pairs::next_free` meets its contract.
-use mathlib.Core.Path.{◌≡◌}
-use Prim.Native.Nat.{ℕ, ◌+◌, ◌-◌, ◌≤◌, ◌<◌}
-use lib.ListN.{length}
-use Rattle.log_theory.specs.PairsModel.{free_in, Taken}
+use Prim.Native.Nat.{◌-◌}
+use Rattle.log_theory.specs.PairsModel.{free_in}
 use Rattle.log_theory.proofs.Window.{taken_none, taken_more}
 use Rattle.log_pairs.proofs.Marks.{owner_taken}
 use borrow.Author.Rules.{rules}
-use native.Mathlib.Omega.{arith}
-use Rattle.log_pairs.proofs.next_free.Reads as reads
 use Rattle.log_pairs.proofs.next_free.Goals as goal
 
 pub loop-k-init : goal.loop-k-init

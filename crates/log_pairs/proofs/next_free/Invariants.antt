@@ -1,13 +1,7 @@
 -- `log_pairs::next_free` meets its contract.
-use mathlib.Core.Path.{◌≡◌}
-use Prim.Native.Nat.{ℕ, ◌+◌, ◌-◌, ◌≤◌, ◌<◌}
+use Prim.Native.Nat.{◌-◌, ◌≤◌}
 use lib.ListN.{length}
 use Rattle.log_theory.specs.PairsModel.{free_in, Taken}
-use Rattle.log_theory.proofs.Window.{taken_none, taken_more}
-use Rattle.log_pairs.proofs.Marks.{owner_taken}
-use borrow.Author.Rules.{rules}
-use native.Mathlib.Omega.{arith}
-use Rattle.log_pairs.proofs.next_free.Reads as reads
 use Rattle.log_pairs.proofs.next_free.Given as goal
 
 abbrev pub invariant-loop-k : goal.invariant-loop-k

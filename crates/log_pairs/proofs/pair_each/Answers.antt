@@ -1,19 +1,13 @@
 -- `log_pairs::pair_each` meets its contract.
-use mathlib.Core.Path.{◌≡◌, refl, sym, ◌∙◌, subst}
-use Prim.Native.Nat.{ℕ, ◌+◌, ◌-◌, ◌/◌, ◌≤◌, ◌<◌}
+use mathlib.Core.Path.{refl, sym, ◌∙◌, subst}
+use Prim.Native.Nat.{ℕ, ◌-◌, ◌/◌}
 use lib.ListN.{length}
 use Rattle.log_entry.specs.Entries.{logs, first_of}
-use Rattle.log_theory.specs.Report.{nobody, Lists}
-use Rattle.log_theory.specs.PairsModel.{free_in, Below, pair_up, Past}
+use Rattle.log_theory.specs.PairsModel.{free_in, Below}
 use Rattle.log_theory.proofs.Window.{past_none, past_taken}
 use Rattle.log_theory.proofs.Turns.{turn, over, start, lists, paired_partners, paired_owners, paired_pairs, paired_taken}
 use borrow.Author.Rules.{rules}
 use native.Mathlib.Omega.{arith}
-use Rattle.log_pairs.proofs.pair_each.Reads as reads
-use Rattle.log_entry.proofs.sample_at.Reads as sample-at-reads
-use Rattle.log_pairs.proofs.advance.Reads as advance-reads
-use Rattle.log_pairs.proofs.earliest.Reads as earliest-reads
-use Rattle.log_pairs.proofs.settle.Reads as settle-reads
 use Rattle.log_pairs.proofs.pair_each.Goals as goal
 
 pub loop-i-init : goal.loop-i-init

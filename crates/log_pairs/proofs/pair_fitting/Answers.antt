@@ -5,12 +5,7 @@ use lib.ListN.{length}
 use Rattle.log_entry.specs.Entries.{logs}
 use Rattle.log_theory.proofs.Turns.{from_filled}
 use Rattle.log_theory.proofs.Link.{reported}
-use borrow.Author.Rules.{rules}
 use native.Mathlib.Omega.{arith}
-use Rattle.log_pairs.proofs.pair_fitting.Reads as reads
-use Rattle.log_pairs.proofs.fill.Reads as fill-reads
-use Rattle.log_pairs.proofs.pair_each.Reads as pair-each-reads
-use Rattle.log_pairs.proofs.step_back.Reads as step-back-reads
 use Rattle.log_pairs.proofs.pair_fitting.Goals as goal
 
 pub returns : goal.returns

@@ -1,10 +1,6 @@
 -- `log_pairs::pair_up` meets its contract.
 use Rattle.log_theory.proofs.Turns.{lists}
 use Rattle.log_pairs.proofs.Marks.{other_partners, other_owners, both_fit}
-use borrow.Author.Rules.{rules}
-use native.Mathlib.Omega.{arith}
-use Rattle.log_pairs.proofs.pair_up.Reads as reads
-use Rattle.log_pairs.proofs.pair_fitting.Reads as pair-fitting-reads
 use Rattle.log_pairs.proofs.pair_up.Goals as goal
 
 pub returns-then-partners-log : goal.returns-then-partners-log

@@ -1,9 +1,7 @@
 -- `log_pairs::settle` meets its contract.
 use lib.ListN.{length}
 use Rattle.log_theory.proofs.Turns.{below_with, settled, settled_none}
-use borrow.Author.Rules.{rules}
 use native.Mathlib.Omega.{arith}
-use Rattle.log_pairs.proofs.settle.Reads as reads
 use Rattle.log_pairs.proofs.settle.Goals as goal
 
 pub offset_bounds-owners-g : goal.offset_bounds-owners-g

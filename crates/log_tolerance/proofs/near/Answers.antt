@@ -1,7 +1,5 @@
 -- `log_tolerance::near` meets its contract.
 use Rattle.log_tolerance.proofs.Tests.{near_up, near_down}
-use borrow.Author.Rules.{rules}
-use Rattle.log_tolerance.proofs.near.Reads as reads
 use Rattle.log_tolerance.proofs.near.Goals as goal
 
 pub returns-then-h-f : goal.returns-then-h-f

@@ -2,8 +2,6 @@
 use Prim.Native.Nat.{◌+◌}
 use native.Mathlib.Omega.{arith}
 use Rattle.log_tolerance.proofs.Tests.{capped_within, capped_over}
-use borrow.Author.Rules.{rules}
-use Rattle.log_tolerance.proofs.sum.Reads as reads
 use Rattle.log_tolerance.proofs.sum.Goals as goal
 
 pub returns-then-b-a : goal.returns-then-b-a

@@ -1,5 +1,4 @@
 -- `math::phase_wrap_f64` meets its contract.
-use Rattle.std.proofs.Common.{rules}
 use Rattle.math.specs.Phase.{phase_wrap}
 use Rattle.math.proofs.Literals.{pi_is}
 use Rattle.math.proofs.phase_wrap_f64.Goals as goal

@@ -1,5 +1,4 @@
 -- `math::sin_cos` meets its contract.
-use Rattle.std.proofs.Common.{rules}
 use Rattle.math.specs.Carrier.{sin_cos}
 use Rattle.math.proofs.sin_cos.Goals as goal
 

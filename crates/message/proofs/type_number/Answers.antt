@@ -1,6 +1,5 @@
 -- `message::type_number` meets its contract, type by type.
 use mathlib.Core.Path.{sym, ap}
-use borrow.Author.Rules.{rules}
 use Rattle.message.specs.Types.{type_number}
 use Rattle.message.proofs.type_number.Goals as goal
 

@@ -1,5 +1,4 @@
 -- `message_classify::classed` meets its contract.
-use borrow.Author.Rules.{rules}
 use Rattle.message_classify.proofs.classed.Goals as goal
 
 pub returns : goal.returns

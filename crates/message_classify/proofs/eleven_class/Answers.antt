@@ -1,5 +1,4 @@
 -- `message_classify::eleven_class` meets its contract.
-use borrow.Author.Rules.{rules}
 use mathlib.Core.Path.{sym, ◌∙◌}
 use borrow.Author.Tests.{eq-eqb, ne_eqb}
 use Rattle.message_classify.specs.Classing.{eleven_class}

@@ -1,5 +1,4 @@
 -- `message_classify::first_of` meets its contract.
-use borrow.Author.Rules.{rules}
 use mathlib.Core.Path.{sym, ap}
 use Rattle.message_classify.specs.declared.Class.{Class}
 use Rattle.message_classify.specs.Classing.{first_of}

@@ -1,5 +1,4 @@
 -- `message_classify::from_message` meets its contract.
-use borrow.Author.Rules.{rules}
 use Rattle.message_classify.specs.Classing.{class_of}
 use Rattle.message_classify.proofs.ClassArms.{short_arm, long_arm, mode_ac_arm}
 use Rattle.message_classify.proofs.from_message.Goals as goal

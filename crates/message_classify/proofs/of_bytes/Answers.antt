@@ -1,5 +1,4 @@
 -- `message_classify::of_bytes` meets its contract.
-use borrow.Author.Rules.{rules}
 use native.Mathlib.Omega.{arith}
 use Rattle.message_classify.proofs.ClassArms.{seven, fourteen, two, another}
 use Rattle.message_classify.proofs.of_bytes.Goals as goal

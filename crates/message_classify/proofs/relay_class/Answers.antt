@@ -1,6 +1,5 @@
 -- `message_classify::relay_class` meets its contract.
-use borrow.Author.Rules.{rules}
-use mathlib.Core.Path.{sym, ◌∙◌}
+use mathlib.Core.Path.{sym}
 use Rattle.message_classify.specs.Classing.{relay_class}
 use Rattle.message_classify.proofs.relay_class.Goals as goal
 

@@ -2,7 +2,6 @@
 use mathlib.Core.Path.{sym, ap, ◌∙◌}
 use Prim.Native.Nat.{ℕ}
 use borrow.Author.Tests.{ne_eqb}
-use borrow.Author.Rules.{rules}
 use Rattle.message_classify.specs.Classing.{short_class}
 use Rattle.message.specs.Making.{formats}
 use Rattle.message_classify.proofs.short_class.Goals as goal

@@ -1,5 +1,4 @@
 -- `message_classify::type_class` meets its contract.
-use borrow.Author.Rules.{rules}
 use mathlib.Core.Path.{sym, ap}
 use Rattle.message_classify.specs.Classing.{type_class}
 use Rattle.message_classify.proofs.type_class.Goals as goal

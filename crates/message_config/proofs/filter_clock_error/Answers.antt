@@ -1,5 +1,4 @@
 -- `message_config::filter_clock_error` meets its contract.
-use Rattle.std.proofs.Common.{rules}
 use Rattle.message_config.proofs.Joined.{error_short, error_long, error_mode_ac}
 use Rattle.message_config.proofs.filter_clock_error.Goals as goal
 

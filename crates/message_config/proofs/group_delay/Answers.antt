@@ -1,5 +1,4 @@
 -- `message_config::group_delay` meets its contract.
-use Rattle.std.proofs.Common.{rules}
 use Rattle.message_config.proofs.Joined.{delay_short, delay_long, delay_mode_ac}
 use Rattle.message_config.proofs.group_delay.Goals as goal
 

@@ -1,6 +1,5 @@
 -- `message_faults::all_call_reply_fault` meets its contract.
 use borrow.Author.Tests.{lt-ltb, le-ltb}
-use borrow.Author.Rules.{rules}
 use native.Mathlib.Omega.{arith}
 use Rattle.message.specs.Making.{field_fault, formats, subfields, format_of, overlay_fits, mode_ac_fits}
 use Rattle.message_faults.proofs.all_call_reply_fault.Goals as goal

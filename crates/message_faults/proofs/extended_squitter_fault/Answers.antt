@@ -1,7 +1,6 @@
 -- `message_faults::extended_squitter_fault` meets its contract: the format picked decides the list of the second pick.
 use mathlib.Core.Path.{◌≡◌}
 use borrow.Author.Tests.{le-ltb}
-use borrow.Author.Rules.{rules}
 use native.Mathlib.Omega.{arith}
 use Rattle.message.specs.Making.{field_fault, formats, subfields, format_of, overlay_fits, mode_ac_fits}
 use Rattle.message_faults.proofs.extended_squitter_fault.Goals as goal

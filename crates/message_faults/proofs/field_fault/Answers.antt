@@ -1,7 +1,6 @@
 -- `message_faults::field_fault` meets its contract: each arm is the definition at its type.
 use mathlib.Core.Path.{◌≡◌, sym, ap, ◌∙◌}
 use lib.Dec.{ltb}
-use borrow.Author.Rules.{rules}
 use Rattle.message.specs.declared.MessageType.{MessageType}
 use Rattle.message.specs.declared.FieldFault.TheVariants.{NoFault}
 use Rattle.message.specs.Making.{checked, field_fault, formats, subfields, format_of, overlay_fits, mode_ac_fits}

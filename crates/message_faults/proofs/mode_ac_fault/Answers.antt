@@ -1,7 +1,6 @@
 -- `message_faults::mode_ac_fault` meets its contract.
 use mathlib.Core.Path.{refl}
 use borrow.Author.Tests.{lt-ltb, le-ltb}
-use borrow.Author.Rules.{rules}
 use Rattle.message.specs.Making.{field_fault, formats, subfields, format_of, overlay_fits, mode_ac_fits}
 use Rattle.message_faults.proofs.mode_ac_fault.Goals as goal
 

@@ -1,5 +1,4 @@
 -- `message_interrogator::code` meets its contract.
-use borrow.Author.Rules.{rules}
 use mathlib.Core.Path.{refl, sym, ◌∙◌}
 use native.Mathlib.Omega.{arith}
 use Rattle.message_interrogator.proofs.Readings.{at_least, ii_code, si_code, no_code}

@@ -1,5 +1,4 @@
 -- `message_interrogator::of_bytes` meets its contract.
-use borrow.Author.Rules.{rules}
 use native.Mathlib.Omega.{arith}
 use Rattle.message_interrogator.proofs.Readings.{reading, another_format, another_length}
 use Rattle.message_interrogator.proofs.of_bytes.Goals as goal

@@ -1,5 +1,4 @@
 -- `message_make::all_call_reply` meets its contract.
-use borrow.Author.Rules.{rules}
 use native.Mathlib.Omega.{arith}
 use lib.Dec.{lit<}
 use Rattle.mode_s.specs.Formats.{capabilities}

@@ -1,6 +1,5 @@
 -- `message_make::make` meets its contract.
 use mathlib.Core.Path.{sym, ap, ◌∙◌}
-use borrow.Author.Rules.{rules}
 use Rattle.message.specs.Making.{reply_of, made_where, made}
 use Rattle.message.specs.declared.FieldFault.{FieldFault}
 use Rattle.message.specs.declared.FieldFault.TheVariants.{NoFault}

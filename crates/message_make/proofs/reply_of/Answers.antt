@@ -1,6 +1,5 @@
 -- `message_make::reply_of` meets its contract: each arm is the definition at its type.
 use mathlib.Core.Path.{sym, ap, ◌∙◌}
-use borrow.Author.Rules.{rules}
 use Rattle.message.specs.declared.MessageType.{MessageType}
 use Rattle.message.specs.Making.{field_fault, reply_of}
 use Rattle.message_make.proofs.reply_of.Goals as goal

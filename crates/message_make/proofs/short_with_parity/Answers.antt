@@ -1,5 +1,4 @@
 -- `message_make::short_with_parity` meets its contract.
-use borrow.Author.Rules.{rules}
 use Rattle.message.proofs.Replies.{sealed_reply}
 use Rattle.message_make.proofs.short_with_parity.Goals as goal
 

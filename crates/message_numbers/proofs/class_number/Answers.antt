@@ -1,5 +1,4 @@
 -- `message_numbers::class_number` meets its contract.
-use borrow.Author.Rules.{rules}
 use mathlib.Core.Path.{sym, ap, ◌∙◌}
 use Rattle.message_classify.specs.Classing.{class_number}
 use Rattle.message_numbers.proofs.class_number.Goals as goal

@@ -1,6 +1,5 @@
 -- `message_numbers::code_number` meets its contract.
 use mathlib.Core.Path.{sym, ap}
-use borrow.Author.Rules.{rules}
 use Rattle.message_interrogator.specs.Interrogators.{code_number}
 use Rattle.message_numbers.proofs.code_number.Goals as goal
 

@@ -1,6 +1,5 @@
 -- `octal` meets its contract.
 use mathlib.Core.Path.{refl}
-use borrow.Author.Rules.{rules}
 use Rattle.mode_ac.proofs.octal.Goals as goal
 
 pub returns : goal.returns

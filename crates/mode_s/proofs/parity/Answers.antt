@@ -1,10 +1,7 @@
 -- `mode_s::parity` meets its contract. The loop's invariant: going on from here over the bytes left gives the parity of all.
-use mathlib.Core.Path.{◌≡◌}
-use Prim.Native.Nat.{◌<◌, ◌≤◌, ◌-◌}
+use Prim.Native.Nat.{◌-◌}
 use borrow.Author.Rules.{rules}
-use lib.ListN.{length, drop}
-use Rattle.mode_s.specs.Parity.{parity_of}
-use Rattle.mode_s.proofs.ByTable.{onward, onward_whole, turn, done}
+use Rattle.mode_s.proofs.ByTable.{onward_whole, turn, done}
 use Rattle.mode_s.proofs.parity.Goals as goal
 
 pub loop-i-init : goal.loop-i-init

@@ -1,7 +1,6 @@
 -- `mode_s::with_byte` meets its contract: the place is below 256, and the table's rule says what stands there.
 use mathlib.Core.Path.{sym, subst}
 use Prim.Native.Nat.{ℕ, ◌<◌}
-use borrow.Author.Rules.{rules}
 use native.Mathlib.Omega.{arith}
 use Rattle.mode_s.proofs.ByTable.{parities, place_lt, looked_up, with_byte_lt}
 use Rattle.mode_s.proofs.with_byte.Goals as goal

@@ -1,5 +1,4 @@
 -- `mode_s_parity_change::change_at` meets its contract: the table's rule says what stands at a place.
-use borrow.Author.Rules.{rules}
 use Rattle.mode_s_parity_change.proofs.Table.{changes, looked_up}
 use Rattle.mode_s_parity_change.proofs.change_at.Goals as goal
 

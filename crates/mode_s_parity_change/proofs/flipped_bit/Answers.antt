@@ -1,8 +1,8 @@
 -- `mode_s_parity_change::flipped_bit` meets its contract. The loop's invariant: the search from here on finds what that of all places finds.
-use mathlib.Core.Path.{◌≡◌, refl, sym, ◌∙◌}
-use Prim.Native.Nat.{◌-◌, ◌≤◌}
+use mathlib.Core.Path.{refl, sym, ◌∙◌}
+use Prim.Native.Nat.{◌-◌}
 use borrow.Author.Rules.{rules}
-use Rattle.mode_s_parity_change.specs.Change.{place_from, place_of, found_of}
+use Rattle.mode_s_parity_change.specs.Change.{place_of, found_of}
 use Rattle.mode_s_parity_change.proofs.Places.{stops, goes_on, ends}
 use Rattle.mode_s_parity_change.proofs.flipped_bit.Goals as goal
 

@@ -1,6 +1,5 @@
 -- `mode_s_parity_change::parity_change` meets its contract.
 use mathlib.Core.Path.{sym}
-use borrow.Author.Rules.{rules}
 use Rattle.mode_s_parity_change.proofs.ParityLaws.{beyond}
 use Rattle.mode_s_parity_change.proofs.parity_change.Goals as goal
 

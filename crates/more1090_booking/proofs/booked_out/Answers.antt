@@ -1,9 +1,8 @@
 -- `booked_out` meets its contract.
-use mathlib.Core.Path.{◌≡◌, sym, ap, ◌∙◌}
+use mathlib.Core.Path.{sym, ap, ◌∙◌}
 use Rattle.run_booking.specs.declared.Booked.{Booked}
 use Rattle.run_booking.specs.Booked.{booked_read}
 use Rattle.more1090_booking.specs.Flat.{booking_flat}
-use borrow.Author.Rules.{rules}
 use Rattle.more1090_booking.proofs.booked_out.Goals as goal
 
 pub returns-in-Booking : goal.returns-in-Booking

@@ -1,10 +1,9 @@
 -- `figures_out` meets its contract: each end by its own case.
-use mathlib.Core.Path.{◌≡◌, sym, ap, ◌∙◌}
+use mathlib.Core.Path.{sym, ap}
 use Rattle.run_booking_walk.specs.declared.End.{End}
 use Rattle.run_booking_walk.specs.Answered.{end_read}
 use Rattle.run_booking.specs.Booked.{figures_read}
 use Rattle.more1090_booking.specs.Flat.{ended_flat}
-use borrow.Author.Rules.{rules}
 use Rattle.more1090_booking.proofs.figures_out.Goals as goal
 
 pub returns-in-Draw : goal.returns-in-Draw

@@ -1,9 +1,8 @@
 -- `more1090_booking` meets its contract.
-use mathlib.Core.Path.{◌≡◌, sym, ap, ◌∙◌}
+use mathlib.Core.Path.{◌≡◌, ap, ◌∙◌}
 use Rattle.run_booking.specs.Booking.{booking_of}
 use Rattle.run_booking.specs.Booked.{booked_read}
 use Rattle.more1090_booking.specs.Flat.{zero64, booking_flat}
-use borrow.Author.Rules.{rules}
 use Rattle.more1090_booking.proofs.more1090_booking.Goals as goal
 
 pub returns : goal.returns

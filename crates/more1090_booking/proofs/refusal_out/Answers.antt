@@ -1,7 +1,6 @@
 -- `refusal_out` meets its contract.
 use lib.Ieee.{binary64, of_bits}
 use Rattle.more1090_booking.specs.Flat.{booking_flat}
-use borrow.Author.Rules.{rules}
 use Rattle.more1090_booking.proofs.refusal_out.Goals as goal
 
 pub returns : goal.returns

@@ -1,5 +1,4 @@
 -- `answer_out` meets its contract.
-use borrow.Author.Rules.{rules}
 use Rattle.more1090_generator.proofs.Joined.{answered_stopped, answered_refused}
 use Rattle.more1090_generator.proofs.answer_out.Goals as goal
 

@@ -1,6 +1,5 @@
 -- `clock_out` meets its contract.
 use mathlib.Core.Path.{sym, ap}
-use borrow.Author.Rules.{rules}
 use Rattle.more1090_generator.specs.States.{distribution_of, clock_flat}
 use Rattle.more1090_generator.proofs.clock_out.Goals as goal
 

@@ -1,5 +1,4 @@
 -- `distributions_in` meets its contract.
-use borrow.Author.Rules.{rules}
 use Rattle.more1090_generator.proofs.distributions_in.Goals as goal
 
 pub returns : goal.returns

@@ -1,5 +1,4 @@
 -- `more1090_run` meets its contract.
-use borrow.Author.Rules.{rules}
 use Rattle.more1090_generator.proofs.Joined.{run_flat}
 use Rattle.more1090_generator.proofs.more1090_run.Goals as goal
 

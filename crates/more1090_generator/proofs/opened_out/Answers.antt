@@ -1,5 +1,4 @@
 -- `opened_out` meets its contract.
-use borrow.Author.Rules.{rules}
 use Rattle.more1090_generator.proofs.Joined.{opened_run, opened_refused}
 use Rattle.more1090_generator.proofs.opened_out.Goals as goal
 

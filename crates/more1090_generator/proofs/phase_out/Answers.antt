@@ -1,6 +1,5 @@
 -- `phase_out` meets its contract.
 use mathlib.Core.Path.{sym, ap}
-use borrow.Author.Rules.{rules}
 use Rattle.more1090_generator.specs.States.{distribution_of, phase_flat}
 use Rattle.more1090_generator.proofs.phase_out.Goals as goal
 

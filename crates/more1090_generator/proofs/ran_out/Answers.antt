@@ -1,5 +1,4 @@
 -- `ran_out` meets its contract.
-use borrow.Author.Rules.{rules}
 use Rattle.more1090_generator.proofs.Joined.{ran_flat_lem}
 use Rattle.more1090_generator.proofs.ran_out.Goals as goal
 

@@ -1,5 +1,4 @@
 -- `state_in` meets its contract.
-use borrow.Author.Rules.{rules}
 use Rattle.more1090_generator.specs.States.{rates_from}
 use Rattle.more1090_generator.proofs.Joined.{state_read}
 use Rattle.more1090_generator.proofs.state_in.Goals as goal

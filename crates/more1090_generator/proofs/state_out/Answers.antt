@@ -1,5 +1,4 @@
 -- `state_out` meets its contract.
-use borrow.Author.Rules.{rules}
 use Rattle.more1090_generator.specs.States.{rates_flat}
 use Rattle.more1090_generator.proofs.Joined.{state_flat}
 use Rattle.more1090_generator.proofs.state_out.Goals as goal

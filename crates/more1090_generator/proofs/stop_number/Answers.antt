@@ -1,5 +1,4 @@
 -- `stop_number` meets its contract.
-use borrow.Author.Rules.{rules}
 use Rattle.run_call.specs.Given.{stop_number}
 use Rattle.more1090_generator.proofs.stop_number.Goals as goal
 

@@ -1,10 +1,5 @@
 -- `more1090_log::flat` meets its contract.
 use Rattle.more1090_log.proofs.FlatCases.{counts_flat, refused_flat_lem}
-use borrow.Author.Rules.{rules}
-use native.Mathlib.Omega.{arith}
-use Rattle.more1090_log.proofs.flat.Reads as reads
-use Rattle.more1090_log.proofs.value_of.Reads as value-of-reads
-use Rattle.refusals.proofs.number.Reads as number-reads
 use Rattle.more1090_log.proofs.flat.Goals as goal
 
 pub returns-in-Counts : goal.returns-in-Counts

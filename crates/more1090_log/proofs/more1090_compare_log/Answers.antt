@@ -1,10 +1,5 @@
 -- `more1090_log::more1090_compare_log` meets its contract.
 use Rattle.more1090_log.proofs.FlatCases.{flat_left_lem}
-use borrow.Author.Rules.{rules}
-use native.Mathlib.Omega.{arith}
-use Rattle.more1090_log.proofs.more1090_compare_log.Reads as reads
-use Rattle.log_compare.proofs.compare_log.Reads as compare-log-reads
-use Rattle.more1090_log.proofs.flat.Reads as flat-reads
 use Rattle.more1090_log.proofs.more1090_compare_log.Goals as goal
 
 pub returns : goal.returns

@@ -1,5 +1,4 @@
 -- `value_of` meets its contract.
-use borrow.Author.Rules.{rules}
 use mathlib.Core.Path.{sym, ap}
 use Rattle.refusals.specs.Number.{values_of}
 use Rattle.more1090_log.specs.LogInC.{value_of}

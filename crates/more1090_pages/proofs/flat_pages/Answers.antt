@@ -1,7 +1,5 @@
 -- `flat_pages` meets its contract.
 use Rattle.more1090_pages.proofs.Flat.{flat_written, flat_length, flat_record}
-use borrow.Author.Rules.{rules}
-use native.Mathlib.Omega.{arith}
 use Rattle.more1090_pages.proofs.flat_pages.Goals as goal
 
 pub returns-in-Written : goal.returns-in-Written

@@ -3,8 +3,6 @@ use mathlib.Core.Path.{refl, ap}
 use Rattle.page_read.specs.Fields.{fields_of}
 use Rattle.page_read.specs.declared.LineFields.{LineFields}
 use Rattle.more1090_pages.proofs.Flat.{flat_line_lem}
-use borrow.Author.Rules.{rules}
-use native.Mathlib.Omega.{arith}
 use Rattle.more1090_pages.proofs.more1090_page_line.Goals as goal
 
 pub returns : goal.returns

@@ -1,8 +1,6 @@
 -- `more1090_pages` meets its contract.
 use mathlib.Core.Path.{ap, ◌∙◌}
 use Rattle.more1090_pages.specs.Flat.{flat_pages}
-use borrow.Author.Rules.{rules}
-use native.Mathlib.Omega.{arith}
 use Rattle.more1090_pages.proofs.more1090_pages.Goals as goal
 
 pub returns : goal.returns

@@ -1,6 +1,5 @@
 -- `more1090_class` meets its contract.
 use mathlib.Core.Path.{ap, ◌∙◌}
-use borrow.Author.Rules.{rules}
 use Rattle.message_classify.specs.Classing.{class_number}
 use Rattle.more1090_parity.proofs.more1090_class.Goals as goal
 

@@ -3,7 +3,6 @@
 use Prim.Native.Nat.{ℕ}
 use mathlib.Core.Path.{◌≡◌, sym, ap, ◌∙◌}
 use mathlib.Core.Option.{Option}
-use borrow.Author.Rules.{rules}
 use Rattle.mode_s_parity_change.specs.declared.FlippedBit.{FlippedBit}
 use Rattle.mode_s_parity_change.specs.declared.FlippedBit.TheVariants.{At, Nowhere}
 use Rattle.mode_s_parity_change.specs.Change.{found_of}

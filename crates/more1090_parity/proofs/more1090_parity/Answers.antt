@@ -1,5 +1,4 @@
 -- `more1090_parity` meets its contract.
-use borrow.Author.Rules.{rules}
 use Rattle.more1090_parity.proofs.more1090_parity.Goals as goal
 
 pub returns : goal.returns

@@ -1,5 +1,4 @@
 -- `more1090_parity_change` meets its contract.
-use borrow.Author.Rules.{rules}
 use Rattle.more1090_parity.proofs.more1090_parity_change.Goals as goal
 
 pub returns : goal.returns

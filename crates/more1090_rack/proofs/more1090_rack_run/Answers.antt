@@ -1,5 +1,4 @@
 -- `more1090_rack_run` meets its contract: it answers what `rack_run::run` does.
-use borrow.Author.Rules.{rules}
 use Rattle.more1090_rack.proofs.more1090_rack_run.Goals as goal
 
 pub returns : goal.returns

@@ -1,7 +1,6 @@
 -- `more1090_single` meets its contract.
 use mathlib.Core.Path.{ap, ◌∙◌}
 use Rattle.more1090_single.specs.Flat.{single_flat}
-use borrow.Author.Rules.{rules}
 use Rattle.more1090_single.proofs.more1090_single.Goals as goal
 
 pub returns : goal.returns

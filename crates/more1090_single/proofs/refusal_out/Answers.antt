@@ -1,6 +1,5 @@
 -- `refusal_out` meets its contract.
 use Rattle.more1090_single.specs.Flat.{refusal_flat}
-use borrow.Author.Rules.{rules}
 use Rattle.more1090_single.proofs.refusal_out.Goals as goal
 
 pub returns : goal.returns

@@ -1,7 +1,6 @@
 -- `single_out` meets its contract.
 use mathlib.Core.Path.{sym, ap, ◌∙◌}
 use Rattle.more1090_single.specs.Flat.{single_flat}
-use borrow.Author.Rules.{rules}
 use Rattle.more1090_single.proofs.single_out.Goals as goal
 
 pub returns-in-Made : goal.returns-in-Made

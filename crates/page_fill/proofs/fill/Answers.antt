@@ -1,8 +1,6 @@
 -- `page_fill::fill` meets its contract.
 use lib.ListN.{length}
 use Rattle.page_fill.proofs.Judged.{may_write, left}
-use borrow.Author.Rules.{rules}
-use native.Mathlib.Omega.{arith}
 use Rattle.page_fill.proofs.fill.Goals as goal
 
 pub put_if-requires : goal.put_if-requires

@@ -1,6 +1,5 @@
 -- `page_fill::judge` meets its contract.
 use Rattle.page_fill.proofs.Judged.{not_whole, no_room, at_fault, all_right}
-use borrow.Author.Rules.{rules}
 use native.Mathlib.Omega.{arith}
 use Rattle.page_fill.proofs.judge.Goals as goal
 

@@ -1,8 +1,6 @@
 -- `page_fill::page_count` meets its contract.
 use mathlib.Core.Path.{refl}
 use Rattle.page_fill.specs.Pages.{page_count}
-use borrow.Author.Rules.{rules}
-use native.Mathlib.Omega.{arith}
 use Rattle.page_fill.proofs.page_count.Goals as goal
 
 pub returns : goal.returns

@@ -1,8 +1,6 @@
 -- `page_fill::put_blank_lines` meets its contract: the invariant is `Blank`.
 use Prim.Native.Nat.{◌-◌}
-use Rattle.page_fill.proofs.Filled.{Blank, no_blank, blank_length, one_blank, all_blank}
-use borrow.Author.Rules.{rules}
-use native.Mathlib.Omega.{arith}
+use Rattle.page_fill.proofs.Filled.{Blank}
 use Rattle.page_fill.proofs.put_blank_lines.Given as goal
 
 abbrev pub invariant-loop-k : goal.invariant-loop-k

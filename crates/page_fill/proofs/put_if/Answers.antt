@@ -5,8 +5,6 @@ use lib.ListN.{length}
 use Rattle.le_read.specs.LeBytes.{overwritten}
 use Rattle.page_fill.specs.Pages.{pages_text}
 use Rattle.page_fill.proofs.Judged.{asked}
-use borrow.Author.Rules.{rules}
-use native.Mathlib.Omega.{arith}
 use Rattle.page_fill.proofs.put_if.Goals as goal
 
 pub put_pages-requires : goal.put_pages-requires

@@ -1,7 +1,5 @@
 -- `page_fill::put_lines` meets its contract: the invariant is `Filled`.
-use lib.ListN.{length}
-use Rattle.page_fill.proofs.Filled.{Filled, none_filled, filled_length, one_filled, all_filled}
-use borrow.Author.Rules.{rules}
+use Rattle.page_fill.proofs.Filled.{none_filled, filled_length, one_filled, all_filled}
 use native.Mathlib.Omega.{arith}
 use Rattle.page_fill.proofs.put_lines.Goals as goal
 

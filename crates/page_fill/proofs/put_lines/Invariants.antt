@@ -1,8 +1,6 @@
 -- `page_fill::put_lines` meets its contract: the invariant is `Filled`.
 use lib.ListN.{length}
-use Rattle.page_fill.proofs.Filled.{Filled, none_filled, filled_length, one_filled, all_filled}
-use borrow.Author.Rules.{rules}
-use native.Mathlib.Omega.{arith}
+use Rattle.page_fill.proofs.Filled.{Filled}
 use Rattle.page_fill.proofs.put_lines.Given as goal
 
 abbrev pub invariant-loop-rest : goal.invariant-loop-rest

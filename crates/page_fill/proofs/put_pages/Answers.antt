@@ -4,7 +4,6 @@ use mathlib.Core.Path.{refl}
 use lib.ListN.{length}
 use Rattle.page_fill.proofs.Judged.{pages_within}
 use Rattle.page_fill.proofs.Filled.{pages_put}
-use borrow.Author.Rules.{rules}
 use native.Mathlib.Omega.{arith}
 use Rattle.page_fill.proofs.put_pages.Goals as goal
 

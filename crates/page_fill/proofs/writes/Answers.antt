@@ -1,8 +1,6 @@
 -- `page_fill::writes` meets its contract.
 use mathlib.Core.Path.{sym, ap}
 use Rattle.page_fill.specs.Pages.{written}
-use borrow.Author.Rules.{rules}
-use native.Mathlib.Omega.{arith}
 use Rattle.page_fill.proofs.writes.Goals as goal
 
 pub returns-in-Written : goal.returns-in-Written

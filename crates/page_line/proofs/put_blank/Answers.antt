@@ -5,7 +5,6 @@ use Prim.Native.Nat.{◌+◌, ◌≤◌}
 use lib.ListN.{length}
 use borrow.Author.Tests.{leb-true}
 use Rattle.page_line.proofs.Fields.{blank_kept, blank_done}
-use borrow.Author.Rules.{rules}
 use native.Mathlib.Omega.{arith}
 use Rattle.page_line.proofs.put_blank.Goals as goal
 

@@ -1,7 +1,7 @@
 -- `page_line::put_blanks` meets its contract: after k steps k blanks are put.
-use Prim.Native.Nat.{◌-◌, ◌≤◌}
+use Prim.Native.Nat.{◌-◌}
 use mathlib.Core.Path.{◌≡◌, ap, ◌∙◌}
-use lib.ListN.{length, length-set, length-replicate}
+use lib.ListN.{length-set, length-replicate}
 use Rattle.le_read.specs.LeBytes.{overwritten}
 use Rattle.reply_record.proofs.Overwritten.{none_overwritten}
 use Rattle.page_line.specs.Line.{blanks}

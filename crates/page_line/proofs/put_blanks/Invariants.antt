@@ -1,13 +1,9 @@
 -- `page_line::put_blanks` meets its contract: after k steps k blanks are put.
 use Prim.Native.Nat.{◌-◌, ◌≤◌}
-use mathlib.Core.Path.{◌≡◌, ap, ◌∙◌}
-use lib.ListN.{length, length-set, length-replicate}
+use mathlib.Core.Path.{◌≡◌}
+use lib.ListN.{length}
 use Rattle.le_read.specs.LeBytes.{overwritten}
-use Rattle.reply_record.proofs.Overwritten.{none_overwritten}
 use Rattle.page_line.specs.Line.{blanks}
-use Rattle.page_line.proofs.Columns.{next_blank, byte_behind}
-use borrow.Author.Rules.{rules}
-use native.Mathlib.Omega.{arith}
 use Rattle.page_line.proofs.put_blanks.Given as goal
 
 abbrev pub invariant-loop-k : goal.invariant-loop-k

@@ -2,7 +2,6 @@
 use mathlib.Core.Path.{refl, ◌∙◌}
 use Rattle.record_check.proofs.Accepting.{in_range}
 use Rattle.page_line.proofs.Fields.{fields_below, message_short, ends, line_put}
-use borrow.Author.Rules.{rules}
 use native.Mathlib.Omega.{arith}
 use Rattle.page_line.proofs.put_line.Goals as goal
 

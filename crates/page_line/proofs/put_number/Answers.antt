@@ -2,7 +2,6 @@
 use lib.ListN.{length-set}
 use Rattle.page_line.proofs.Fields.{number_put}
 use borrow.Author.Rules.{rules}
-use native.Mathlib.Omega.{arith}
 use Rattle.page_line.proofs.put_number.Goals as goal
 
 pub bounds-out-at-2 : goal.bounds-out-at-2

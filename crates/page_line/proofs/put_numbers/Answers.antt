@@ -1,6 +1,5 @@
 -- `page_line::put_numbers` meets its contract.
 use Rattle.page_line.proofs.Fields.{numbers_put}
-use borrow.Author.Rules.{rules}
 use native.Mathlib.Omega.{arith}
 use Rattle.page_line.proofs.put_numbers.Goals as goal
 

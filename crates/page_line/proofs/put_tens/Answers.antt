@@ -1,6 +1,5 @@
 -- `page_line::put_tens` meets its contract: the invariant is `Going`.
 use Rattle.page_line.proofs.Columns as columns
-use borrow.Author.Rules.{rules}
 use native.Mathlib.Omega.{arith}
 use mathlib.Core.Path.{refl}
 use Rattle.page_line.proofs.put_tens.Goals as goal

@@ -1,6 +1,5 @@
 -- `page_read::digit` meets its contract.
 use Rattle.page_read.proofs.Values.{before_0, to_9, behind_9}
-use borrow.Author.Rules.{rules}
 use native.Mathlib.Omega.{arith}
 use Rattle.page_read.proofs.digit.Goals as goal
 

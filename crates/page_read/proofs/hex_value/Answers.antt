@@ -1,7 +1,6 @@
 -- `page_read::hex_value` meets its contract.
 use mathlib.Core.Path.{◌∙◌}
 use Rattle.page_read.proofs.Values.{before_a, to_f, behind_f}
-use borrow.Author.Rules.{rules}
 use native.Mathlib.Omega.{arith}
 use Rattle.page_read.proofs.hex_value.Goals as goal
 

@@ -4,7 +4,6 @@ use mathlib.Core.Bool.{Bool, false, cond}
 use lib.Dec.{ltb}
 use borrow.Author.Tests.{lt-ltb, le-ltb}
 use Rattle.page_read.specs.Fields.{is_type}
-use borrow.Author.Rules.{rules}
 use native.Mathlib.Omega.{arith}
 use Rattle.page_read.proofs.is_type.Goals as goal
 

@@ -1,8 +1,6 @@
 -- `page_read::nothing` meets its contract.
 use mathlib.Core.Path.{refl}
 use Rattle.page_read.specs.Fields.{no_fields}
-use borrow.Author.Rules.{rules}
-use native.Mathlib.Omega.{arith}
 use Rattle.page_read.proofs.nothing.Goals as goal
 
 pub returns : goal.returns

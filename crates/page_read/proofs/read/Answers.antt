@@ -1,7 +1,5 @@
 -- `page_read::read` meets its contract.
 use Rattle.page_read.proofs.Values.{read_there, no_type, no_line}
-use borrow.Author.Rules.{rules}
-use native.Mathlib.Omega.{arith}
 use Rattle.page_read.proofs.read.Goals as goal
 
 pub returns-then-is_type : goal.returns-then-is_type

@@ -1,7 +1,7 @@
 -- `page_read::read_message` meets its contract: after k steps k bytes are read.
-use Prim.Native.Nat.{◌-◌, ◌≤◌}
+use Prim.Native.Nat.{◌-◌}
 use mathlib.Core.Path.{◌≡◌, ap, ◌∙◌}
-use lib.ListN.{length, length-set}
+use lib.ListN.{length-set}
 use Rattle.page_read.specs.Fields.{shown_message}
 use Rattle.page_read.proofs.Values.{no_byte, next_shown}
 use borrow.Author.Rules.{rules}

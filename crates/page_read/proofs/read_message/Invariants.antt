@@ -1,11 +1,8 @@
 -- `page_read::read_message` meets its contract: after k steps k bytes are read.
 use Prim.Native.Nat.{◌-◌, ◌≤◌}
-use mathlib.Core.Path.{◌≡◌, ap, ◌∙◌}
-use lib.ListN.{length, length-set}
+use mathlib.Core.Path.{◌≡◌}
+use lib.ListN.{length}
 use Rattle.page_read.specs.Fields.{shown_message}
-use Rattle.page_read.proofs.Values.{no_byte, next_shown}
-use borrow.Author.Rules.{rules}
-use native.Mathlib.Omega.{arith}
 use Rattle.page_read.proofs.read_message.Given as goal
 
 abbrev pub invariant-loop-k : goal.invariant-loop-k

@@ -1,10 +1,9 @@
 -- `page_read::read_number` meets its contract: after k columns v is their number, below 10^k.
-use Prim.Native.Nat.{◌-◌, ◌≤◌, ◌<◌, ◌^◌}
-use mathlib.Core.Path.{◌≡◌, refl, ap, ◌∙◌, subst}
+use Prim.Native.Nat.{◌-◌, ◌<◌, ◌^◌}
+use mathlib.Core.Path.{◌≡◌, refl, ◌∙◌, subst}
 use lib.ListN.{take, drop}
 use Rattle.page_read.specs.Fields.{read_from, read_number}
 use Rattle.page_read.proofs.Values.{next_column, below_2_64}
-use borrow.Author.Rules.{rules}
 use native.Mathlib.Omega.{arith}
 use Rattle.page_read.proofs.read_number.Goals as goal
 

@@ -1,7 +1,6 @@
 -- `page_read::shown_byte` meets its contract.
 use Prim.Native.Nat.{◌+◌, ◌*◌}
 use Rattle.page_read.specs.Fields.{shown_byte}
-use borrow.Author.Rules.{rules}
 use native.Mathlib.Omega.{arith}
 use Rattle.page_read.proofs.shown_byte.Goals as goal
 

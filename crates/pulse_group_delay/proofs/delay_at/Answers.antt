@@ -1,5 +1,4 @@
 -- `delay_at` meets its contract.
-use Rattle.std.proofs.Common.{rules}
 use Rattle.pulse_shape.proofs.Delays.{delay_computed}
 use Rattle.pulse_group_delay.proofs.delay_at.Goals as goal
 

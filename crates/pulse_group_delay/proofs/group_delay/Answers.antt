@@ -1,8 +1,8 @@
 -- `group_delay` meets its contract: the first crossing of what is left is that of the whole.
-use Rattle.std.proofs.Common.{◌≡◌, ◌-◌, ◌≤◌, length, drop, sym, ap, ◌∙◌, rules}
+use Rattle.std.proofs.Common.{◌-◌, sym, ap, ◌∙◌, rules}
 use Rattle.constants.specs.Rate.{four}
 use Rattle.pulse_shape.specs.declared.Crossing.TheVariants.{At}
-use Rattle.pulse_shape.specs.GroupDelay.{delay_from, group_delay}
+use Rattle.pulse_shape.specs.GroupDelay.{group_delay}
 use Rattle.pulse_shape.proofs.LoopSteps.{delay_stop, delay_on, delay_end}
 use Rattle.pulse_group_delay.proofs.group_delay.Goals as goal
 

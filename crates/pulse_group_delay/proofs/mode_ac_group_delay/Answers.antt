@@ -1,5 +1,4 @@
 -- `mode_ac_group_delay` meets its contract.
-use Rattle.std.proofs.Common.{rules}
 use Rattle.pulse_shape.proofs.Delays.{mode_ac_at, mode_ac_none}
 use Rattle.pulse_group_delay.proofs.mode_ac_group_delay.Goals as goal
 

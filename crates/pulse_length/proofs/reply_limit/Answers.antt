@@ -1,5 +1,4 @@
 -- `pulse_length::reply_limit` meets its contract.
-use borrow.Author.Rules.{rules}
 use Rattle.pulse_length.proofs.reply_limit.Goals as goal
 
 pub returns : goal.returns

@@ -1,7 +1,6 @@
 -- `pulse_map::bit` meets its contract.
 use mathlib.Core.Path.{refl}
 use Rattle.pulse_map.specs.ModeS.{byte_bit}
-use borrow.Author.Rules.{rules}
 use native.Mathlib.Omega.{arith}
 use Rattle.pulse_map.proofs.bit.Goals as goal
 

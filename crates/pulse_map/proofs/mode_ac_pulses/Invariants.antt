@@ -1,16 +1,10 @@
 -- `pulse_map::mode_ac_pulses` meets its contract: at every step, marking what is left gives what marking all gives.
-use mathlib.Core.Path.{◌≡◌, refl, sym, ap, ◌∙◌}
-use mathlib.Core.Bool.{Bool, true}
-use mathlib.Core.List.{List}
-use mathlib.Core.Logic.{⊎_elim}
-use Prim.Native.Nat.{ℕ, ◌+◌, ◌-◌, ◌≤◌}
-use lib.ListN.{length, set, length-set}
-use Rattle.mode_ac.proofs.RisingPositions.{position_below}
+use mathlib.Core.Path.{◌≡◌}
+use Prim.Native.Nat.{◌-◌, ◌≤◌}
+use lib.ListN.{length}
 use Rattle.pulse_map.specs.ModeAC.{data_positions}
 use Rattle.pulse_map.proofs.Marked.{mark}
-use Rattle.pulse_map.proofs.ModeACLoop.{step_set, step_clear, end, framed, whole_spi, whole}
-use borrow.Author.Rules.{rules}
-use native.Mathlib.Omega.{arith}
+use Rattle.pulse_map.proofs.ModeACLoop.{framed}
 use Rattle.pulse_map.proofs.mode_ac_pulses.Given as goal
 
 abbrev pub invariant-loop-n : goal.invariant-loop-n

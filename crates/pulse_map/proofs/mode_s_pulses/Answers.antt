@@ -1,9 +1,9 @@
 -- `pulse_map::mode_s_pulses` meets its contract: at every step, marking what is left gives what marking all gives.
-use mathlib.Core.Path.{◌≡◌, refl, sym, ap, ◌∙◌}
-use Prim.Native.Nat.{ℕ, ◌+◌, ◌-◌, ◌*◌, ◌≤◌}
+use mathlib.Core.Path.{refl, sym, ap, ◌∙◌}
+use Prim.Native.Nat.{ℕ, ◌+◌, ◌-◌, ◌*◌}
 use native.Mathlib.Nat.{sub-zero}
 use mathlib.Core.Bool.{true}
-use lib.ListN.{length, set, length-set}
+use lib.ListN.{set, length-set}
 use Rattle.pulse_map.specs.ModeS.{bit_of, pair_position, bit_positions, mode_s_length}
 use Rattle.pulse_map.proofs.Marked.{mark}
 use Rattle.pulse_map.proofs.ModeSLoop.{pair_position_lem, turn, end, preambled, whole}

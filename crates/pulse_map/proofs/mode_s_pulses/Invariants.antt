@@ -1,13 +1,10 @@
 -- `pulse_map::mode_s_pulses` meets its contract: at every step, marking what is left gives what marking all gives.
-use mathlib.Core.Path.{◌≡◌, refl, sym, ap, ◌∙◌}
-use Prim.Native.Nat.{ℕ, ◌+◌, ◌-◌, ◌*◌, ◌≤◌}
-use native.Mathlib.Nat.{sub-zero}
-use mathlib.Core.Bool.{true}
-use lib.ListN.{length, set, length-set}
-use Rattle.pulse_map.specs.ModeS.{bit_of, pair_position, bit_positions, mode_s_length}
+use mathlib.Core.Path.{◌≡◌}
+use Prim.Native.Nat.{◌-◌, ◌≤◌}
+use lib.ListN.{length}
+use Rattle.pulse_map.specs.ModeS.{bit_positions}
 use Rattle.pulse_map.proofs.Marked.{mark}
-use Rattle.pulse_map.proofs.ModeSLoop.{pair_position_lem, turn, end, preambled, whole}
-use borrow.Author.Rules.{rules}
+use Rattle.pulse_map.proofs.ModeSLoop.{preambled}
 use Rattle.pulse_map.proofs.mode_s_pulses.Given as goal
 
 abbrev pub invariant-loop-n : goal.invariant-loop-n

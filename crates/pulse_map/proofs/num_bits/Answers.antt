@@ -1,6 +1,5 @@
 -- `pulse_map::num_bits` meets its contract.
 use Rattle.pulse_map.specs.ModeS.{mode_s_bits}
-use borrow.Author.Rules.{rules}
 use native.Mathlib.Omega.{arith}
 use Rattle.pulse_map.proofs.num_bits.Goals as goal
 

@@ -1,5 +1,5 @@
 -- `convolve_at` meets its contract.
-use Rattle.std.proofs.Common.{◌∙◌, rules}
+use Rattle.std.proofs.Common.{◌∙◌}
 use Rattle.pulse_shape.specs.Convolve.{convolve_at}
 use Rattle.pulse_shape.proofs.convolve_at.Goals as goal
 

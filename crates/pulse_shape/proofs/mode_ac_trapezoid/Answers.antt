@@ -1,5 +1,5 @@
 -- `mode_ac_trapezoid` meets its contract: 278 values with edges of 40 and 40.
-use Rattle.std.proofs.Common.{refl, rules}
+use Rattle.std.proofs.Common.{refl}
 use lib.ListN.{length-replicate}
 use lib.Ieee.{binary32, of_bits}
 use Rattle.pulse_shape.specs.Trapezoid.{mode_ac_trapezoid}

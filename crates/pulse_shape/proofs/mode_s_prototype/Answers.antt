@@ -1,5 +1,4 @@
 -- `mode_s_prototype` meets its contract.
-use Rattle.std.proofs.Common.{rules}
 use Rattle.pulse_shape.proofs.mode_s_prototype.Goals as goal
 
 pub returns : goal.returns

@@ -1,5 +1,5 @@
 -- `mode_s_trapezoid` meets its contract: 307 values with edges of 38 and 64.
-use Rattle.std.proofs.Common.{refl, rules}
+use Rattle.std.proofs.Common.{refl}
 use lib.ListN.{length-replicate}
 use lib.Ieee.{binary32, of_bits}
 use Rattle.pulse_shape.specs.Trapezoid.{mode_s_trapezoid}

@@ -1,7 +1,5 @@
 -- `products` meets its contract: what is left of the sum, from k on, is the whole.
-use Rattle.std.proofs.Common.{◌≡◌, ◌-◌, ◌≤◌, sym, ◌∙◌, rules}
-use lib.Ieee.{binary32, of_bits}
-use Rattle.pulse_shape.specs.Convolve.{products_from}
+use Rattle.std.proofs.Common.{◌-◌, sym, ◌∙◌, rules}
 use Rattle.pulse_shape.proofs.LoopSteps.{products_step, products_end}
 use Rattle.pulse_shape.proofs.products.Goals as goal
 

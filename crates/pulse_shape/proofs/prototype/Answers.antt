@@ -1,10 +1,10 @@
 -- `prototype` meets its contract: each index is filled with its value.
-use Rattle.std.proofs.Common.{◌≡◌, ◌-◌, ◌≤◌, length, replicate, length-set, rules}
+use Rattle.std.proofs.Common.{◌-◌, replicate, length-set, rules}
 use lib.ListN.{length-replicate}
 use lib.Ieee.{binary32, of_bits}
 use Rattle.pulse_shape.specs.Convolve.{convolve_at}
 use Rattle.pulse_shape.specs.Prototype.{prototype_of}
-use Rattle.pulse_shape.proofs.Fill.{fill_from, fill_on, fill_done}
+use Rattle.pulse_shape.proofs.Fill.{fill_on, fill_done}
 use Rattle.pulse_shape.proofs.prototype.Goals as goal
 
 pub loop-j-preserved : goal.loop-j-preserved

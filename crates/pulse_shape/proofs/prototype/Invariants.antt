@@ -1,10 +1,8 @@
 -- `prototype` meets its contract: each index is filled with its value.
-use Rattle.std.proofs.Common.{◌≡◌, ◌-◌, ◌≤◌, length, replicate, length-set, rules}
-use lib.ListN.{length-replicate}
+use Rattle.std.proofs.Common.{◌≡◌, ◌-◌, ◌≤◌, length, replicate}
 use lib.Ieee.{binary32, of_bits}
 use Rattle.pulse_shape.specs.Convolve.{convolve_at}
-use Rattle.pulse_shape.specs.Prototype.{prototype_of}
-use Rattle.pulse_shape.proofs.Fill.{fill_from, fill_on, fill_done}
+use Rattle.pulse_shape.proofs.Fill.{fill_from}
 use Rattle.pulse_shape.proofs.prototype.Given as goal
 
 abbrev pub invariant-loop-j : goal.invariant-loop-j

@@ -1,5 +1,4 @@
 -- `ratio` meets its contract.
-use Rattle.std.proofs.Common.{rules}
 use Rattle.pulse_shape.proofs.ratio.Goals as goal
 
 pub returns : goal.returns

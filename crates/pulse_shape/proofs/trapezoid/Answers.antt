@@ -1,7 +1,7 @@
 -- `trapezoid` meets its contract, whatever the length and the edges: each index is filled with its value.
-use Rattle.std.proofs.Common.{◌≡◌, ◌-◌, ◌≤◌, length, refl, length-set, rules}
+use Rattle.std.proofs.Common.{◌-◌, refl, length-set, rules}
 use Rattle.pulse_shape.specs.Trapezoid.{trapezoid_at}
-use Rattle.pulse_shape.proofs.Fill.{fill_from, fill_first, fill_on, fill_done}
+use Rattle.pulse_shape.proofs.Fill.{fill_first, fill_on, fill_done}
 use Rattle.pulse_shape.proofs.Trapezoids.{at_length}
 use Rattle.pulse_shape.proofs.trapezoid.Goals as goal
 

@@ -1,5 +1,5 @@
 -- `trapezoid_at` meets its contract.
-use Rattle.std.proofs.Common.{refl, rules, le-ltb, lt-ltb}
+use Rattle.std.proofs.Common.{refl, le-ltb, lt-ltb}
 use Rattle.pulse_shape.specs.Trapezoid.{trapezoid_at}
 use Rattle.pulse_shape.proofs.trapezoid_at.Goals as goal
 

@@ -1,10 +1,7 @@
 -- `all_within_16` meets its contract: what is left of the list decides as the whole does.
 use borrow.Author.Rules.{rules}
-use Prim.Native.Nat.{◌≤◌, ◌-◌}
-use lib.ListN.{length, drop}
-use mathlib.Core.Path.{◌≡◌, sym, ◌∙◌}
-use borrow.Author.Tests.{not-true, not-false}
-use Rattle.pulse_shape.specs.Accepted.{all_within16}
+use Prim.Native.Nat.{◌-◌}
+use mathlib.Core.Path.{sym, ◌∙◌}
 use Rattle.pulse_shape.proofs.LoopSteps.{within_stop, within_on, within_end}
 use Rattle.pulse_taps_check.proofs.all_within_16.Goals as goal
 

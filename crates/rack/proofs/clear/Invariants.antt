@@ -1,12 +1,8 @@
 -- `clear` meets its contract: the first i numbers are 0.0.
 use Prim.Native.Nat.{◌-◌, ◌≤◌}
 use mathlib.Core.Path.{◌≡◌}
-use lib.ListN.{length, take, length-set}
-use lib.Ieee.{of_bits}
+use lib.ListN.{length, take}
 use Rattle.rack.specs.Feeds.{silent}
-use Rattle.rack.proofs.Rows.{cleared_next, cleared_end}
-use borrow.Author.Rules.{rules}
-use native.Mathlib.Omega.{arith}
 use Rattle.rack.proofs.clear.Given as goal
 
 abbrev pub invariant-loop-i : goal.invariant-loop-i

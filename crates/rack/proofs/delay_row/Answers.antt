@@ -1,12 +1,9 @@
 -- `delay_row` meets its contract: the first i delays stand in the row.
-use Prim.Native.Nat.{◌-◌, ◌≤◌}
-use mathlib.Core.List.{◌++◌}
-use mathlib.Core.Path.{◌≡◌}
-use lib.ListN.{length, take, drop, length-set}
+use Prim.Native.Nat.{◌-◌}
+use lib.ListN.{length-set}
 use Rattle.rack.specs.Opening.{delay_row}
 use Rattle.rack.proofs.Rows.{copied_next, copied_end}
 use borrow.Author.Rules.{rules}
-use native.Mathlib.Omega.{arith}
 use Rattle.rack.proofs.delay_row.Goals as goal
 
 pub loop-i-preserved : goal.loop-i-preserved

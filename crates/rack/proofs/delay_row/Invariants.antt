@@ -2,11 +2,7 @@
 use Prim.Native.Nat.{◌-◌, ◌≤◌}
 use mathlib.Core.List.{◌++◌}
 use mathlib.Core.Path.{◌≡◌}
-use lib.ListN.{length, take, drop, length-set}
-use Rattle.rack.specs.Opening.{delay_row}
-use Rattle.rack.proofs.Rows.{copied_next, copied_end}
-use borrow.Author.Rules.{rules}
-use native.Mathlib.Omega.{arith}
+use lib.ListN.{length, take, drop}
 use Rattle.rack.proofs.delay_row.Given as goal
 
 abbrev pub invariant-loop-i : goal.invariant-loop-i

@@ -1,12 +1,7 @@
 -- `each_fits` meets its contract: what is left decides.
-use Prim.Native.Nat.{◌-◌, ◌≤◌}
-use mathlib.Core.Path.{◌≡◌}
-use borrow.Author.Tests.{not-true, not-false}
-use lib.ListN.{length, drop}
-use Rattle.rack.specs.Opening.{each_fits}
+use Prim.Native.Nat.{◌-◌}
 use Rattle.rack.proofs.Checks.{delay_out, gain_out, feed_in, all_in}
 use borrow.Author.Rules.{rules}
-use native.Mathlib.Omega.{arith}
 use Rattle.rack.proofs.each_fits.Goals as goal
 
 pub returns-then-delays-i-gt-LONGEST_DELAY : goal.returns-then-delays-i-gt-LONGEST_DELAY

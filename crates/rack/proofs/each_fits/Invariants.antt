@@ -1,12 +1,8 @@
 -- `each_fits` meets its contract: what is left decides.
 use Prim.Native.Nat.{◌-◌, ◌≤◌}
 use mathlib.Core.Path.{◌≡◌}
-use borrow.Author.Tests.{not-true, not-false}
 use lib.ListN.{length, drop}
 use Rattle.rack.specs.Opening.{each_fits}
-use Rattle.rack.proofs.Checks.{delay_out, gain_out, feed_in, all_in}
-use borrow.Author.Rules.{rules}
-use native.Mathlib.Omega.{arith}
 use Rattle.rack.proofs.each_fits.Given as goal
 
 abbrev pub invariant-loop-i : goal.invariant-loop-i

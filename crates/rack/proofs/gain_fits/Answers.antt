@@ -3,8 +3,6 @@ use mathlib.Core.Bool.{Bool, ◌&&◌}
 use mathlib.Core.Path.{sym, ap}
 use lib.Ieee.{of_bits, le}
 use Rattle.rack.specs.Opening.{gain_fits, one}
-use borrow.Author.Rules.{rules}
-use native.Mathlib.Omega.{arith}
 use Rattle.rack.proofs.gain_fits.Goals as goal
 
 pub returns-then-gain : goal.returns-then-gain

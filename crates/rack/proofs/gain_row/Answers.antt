@@ -1,14 +1,11 @@
 -- `gain_row` meets its contract: the first i gains stand in the row.
-use Prim.Native.Nat.{◌-◌, ◌≤◌}
-use mathlib.Core.List.{◌++◌}
-use mathlib.Core.Path.{◌≡◌}
-use lib.ListN.{length, take, drop, length-set}
+use Prim.Native.Nat.{◌-◌}
+use lib.ListN.{length-set}
 use lib.Ieee.{nan, of_bits}
 use Rattle.rack.specs.Feeds.{silent}
 use Rattle.rack.specs.Opening.{gain_row}
 use Rattle.rack.proofs.Rows.{copied_next, copied_end}
 use borrow.Author.Rules.{rules}
-use native.Mathlib.Omega.{arith}
 use Rattle.rack.proofs.gain_row.Goals as goal
 
 pub loop-i-preserved : goal.loop-i-preserved

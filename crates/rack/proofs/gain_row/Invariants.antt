@@ -2,13 +2,7 @@
 use Prim.Native.Nat.{◌-◌, ◌≤◌}
 use mathlib.Core.List.{◌++◌}
 use mathlib.Core.Path.{◌≡◌}
-use lib.ListN.{length, take, drop, length-set}
-use lib.Ieee.{nan, of_bits}
-use Rattle.rack.specs.Feeds.{silent}
-use Rattle.rack.specs.Opening.{gain_row}
-use Rattle.rack.proofs.Rows.{copied_next, copied_end}
-use borrow.Author.Rules.{rules}
-use native.Mathlib.Omega.{arith}
+use lib.ListN.{length, take, drop}
 use Rattle.rack.proofs.gain_row.Given as goal
 
 abbrev pub invariant-loop-i : goal.invariant-loop-i

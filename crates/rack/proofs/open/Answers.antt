@@ -5,7 +5,6 @@ use lib.ListN.{length}
 use Rattle.rack.specs.Feeds.{silent}
 use Rattle.rack.specs.Opening.{delay_row, gain_row}
 use Rattle.rack.proofs.Checks.{fits, left_refused, left_opened}
-use borrow.Author.Rules.{rules}
 use native.Mathlib.Omega.{arith}
 use Rattle.rack.proofs.open.Goals as goal
 

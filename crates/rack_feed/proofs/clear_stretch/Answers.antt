@@ -1,7 +1,7 @@
 -- `clear_stretch` meets its contract: i numbers are 0.0.
-use Prim.Native.Nat.{◌-◌, ◌≤◌}
-use mathlib.Core.Path.{◌≡◌, ap, ◌∙◌}
-use lib.ListN.{length, length-set}
+use Prim.Native.Nat.{◌-◌}
+use mathlib.Core.Path.{ap, ◌∙◌}
+use lib.ListN.{length-set}
 use lib.Ieee.{of_bits}
 use Rattle.rack.specs.Feeds.{silent}
 use Rattle.rack.specs.WrittenModel.{overwritten}

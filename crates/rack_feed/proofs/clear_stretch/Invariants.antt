@@ -1,13 +1,9 @@
 -- `clear_stretch` meets its contract: i numbers are 0.0.
 use Prim.Native.Nat.{◌-◌, ◌≤◌}
-use mathlib.Core.Path.{◌≡◌, ap, ◌∙◌}
-use lib.ListN.{length, length-set}
-use lib.Ieee.{of_bits}
+use mathlib.Core.Path.{◌≡◌}
+use lib.ListN.{length}
 use Rattle.rack.specs.Feeds.{silent}
 use Rattle.rack.specs.WrittenModel.{overwritten}
-use Rattle.rack.proofs.Stretches.{none_written, clear_next}
-use borrow.Author.Rules.{rules}
-use native.Mathlib.Omega.{arith}
 use Rattle.rack_feed.proofs.clear_stretch.Given as goal
 
 abbrev pub invariant-loop-i : goal.invariant-loop-i

@@ -1,13 +1,10 @@
 -- `feed` meets its contract: nothing is changed where the test fails.
 use mathlib.Core.Bool.{Bool, cond}
 use mathlib.Core.Path.{sym, ap, ◌∙◌}
-use borrow.Author.Tests.{not-true, not-false}
 use lib.ListN.{length}
 use Rattle.rack.specs.Memory.{feed_of}
 use Rattle.rack.specs.WrittenModel.{overwritten}
 use Rattle.rack_feed.proofs.Test.{fits_for}
-use borrow.Author.Rules.{rules}
-use native.Mathlib.Omega.{arith}
 use Rattle.rack_feed.proofs.feed.Goals as goal
 
 pub returns-then-not-fits : goal.returns-then-not-fits

@@ -1,6 +1,5 @@
 -- `fits` meets its contract.
 use Rattle.rack_feed.proofs.Test.{wrong_memory_lem, no_room, by_room}
-use borrow.Author.Rules.{rules}
 use native.Mathlib.Omega.{arith}
 use Rattle.rack_feed.proofs.fits.Goals as goal
 

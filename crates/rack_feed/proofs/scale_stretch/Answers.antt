@@ -1,7 +1,7 @@
 -- `scale_stretch` meets its contract: i products are written.
-use Prim.Native.Nat.{◌-◌, ◌≤◌}
-use mathlib.Core.Path.{◌≡◌, ap, ◌∙◌}
-use lib.ListN.{length, take, drop, length-set}
+use Prim.Native.Nat.{◌-◌}
+use mathlib.Core.Path.{ap, ◌∙◌}
+use lib.ListN.{take, drop, length-set}
 use Rattle.rack.specs.Feeds.{scaled}
 use Rattle.rack.specs.WrittenModel.{overwritten}
 use Rattle.rack.proofs.Stretches.{none_written, scale_next}

@@ -1,12 +1,9 @@
 -- `scale_stretch` meets its contract: i products are written.
 use Prim.Native.Nat.{◌-◌, ◌≤◌}
-use mathlib.Core.Path.{◌≡◌, ap, ◌∙◌}
-use lib.ListN.{length, take, drop, length-set}
+use mathlib.Core.Path.{◌≡◌}
+use lib.ListN.{length, take, drop}
 use Rattle.rack.specs.Feeds.{scaled}
 use Rattle.rack.specs.WrittenModel.{overwritten}
-use Rattle.rack.proofs.Stretches.{none_written, scale_next}
-use borrow.Author.Rules.{rules}
-use native.Mathlib.Omega.{arith}
 use Rattle.rack_feed.proofs.scale_stretch.Given as goal
 
 abbrev pub invariant-loop-i : goal.invariant-loop-i

@@ -3,7 +3,6 @@ use Rattle.rack_feed.proofs.ThreeParts.{feed_written_lem, inside_memory, inside_
 use mathlib.Core.Path.{◌≡◌, sym, ap, subst, ◌∙◌}
 use Prim.Native.Nat.{ℕ, ◌+◌, ◌-◌, ◌*◌, ◌≤◌, min}
 use lib.ListN.{length}
-use borrow.Author.Rules.{rules}
 use native.Mathlib.Omega.{arith}
 use Rattle.rack_feed.proofs.write_feed.Goals as goal
 

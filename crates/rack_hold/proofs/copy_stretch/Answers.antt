@@ -1,7 +1,7 @@
 -- `copy_stretch` meets its contract: i numbers are copied.
-use Prim.Native.Nat.{◌-◌, ◌≤◌}
-use mathlib.Core.Path.{◌≡◌, ap, ◌∙◌}
-use lib.ListN.{length, take, drop, length-set}
+use Prim.Native.Nat.{◌-◌}
+use mathlib.Core.Path.{ap, ◌∙◌}
+use lib.ListN.{take, drop, length-set}
 use Rattle.rack.specs.WrittenModel.{overwritten}
 use Rattle.rack.proofs.Stretches.{none_written, copy_next}
 use borrow.Author.Rules.{rules}

@@ -1,11 +1,8 @@
 -- `copy_stretch` meets its contract: i numbers are copied.
 use Prim.Native.Nat.{◌-◌, ◌≤◌}
-use mathlib.Core.Path.{◌≡◌, ap, ◌∙◌}
-use lib.ListN.{length, take, drop, length-set}
+use mathlib.Core.Path.{◌≡◌}
+use lib.ListN.{length, take, drop}
 use Rattle.rack.specs.WrittenModel.{overwritten}
-use Rattle.rack.proofs.Stretches.{none_written, copy_next}
-use borrow.Author.Rules.{rules}
-use native.Mathlib.Omega.{arith}
 use Rattle.rack_hold.proofs.copy_stretch.Given as goal
 
 abbrev pub invariant-loop-i : goal.invariant-loop-i

@@ -1,6 +1,5 @@
 -- `hold` meets its contract: the memory moved down and filled up, or filled whole.
 use Rattle.rack_hold.proofs.Held.{moved_and_filled, filled}
-use borrow.Author.Rules.{rules}
 use native.Mathlib.Omega.{arith}
 use Rattle.rack_hold.proofs.hold.Goals as goal
 

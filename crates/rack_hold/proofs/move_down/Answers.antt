@@ -1,11 +1,9 @@
 -- `move_down` meets its contract: i numbers are moved.
-use Prim.Native.Nat.{◌-◌, ◌≤◌}
-use mathlib.Core.List.{◌++◌}
-use mathlib.Core.Path.{◌≡◌, refl}
-use lib.ListN.{length, take, drop, length-set}
+use Prim.Native.Nat.{◌-◌}
+use mathlib.Core.Path.{refl}
+use lib.ListN.{length-set}
 use Rattle.rack.proofs.Stretches.{move_next, move_end}
 use borrow.Author.Rules.{rules}
-use native.Mathlib.Omega.{arith}
 use Rattle.rack_hold.proofs.move_down.Goals as goal
 
 pub loop-i-init : goal.loop-i-init

@@ -1,11 +1,8 @@
 -- `move_down` meets its contract: i numbers are moved.
 use Prim.Native.Nat.{◌-◌, ◌≤◌}
 use mathlib.Core.List.{◌++◌}
-use mathlib.Core.Path.{◌≡◌, refl}
-use lib.ListN.{length, take, drop, length-set}
-use Rattle.rack.proofs.Stretches.{move_next, move_end}
-use borrow.Author.Rules.{rules}
-use native.Mathlib.Omega.{arith}
+use mathlib.Core.Path.{◌≡◌}
+use lib.ListN.{length, take, drop}
 use Rattle.rack_hold.proofs.move_down.Given as goal
 
 abbrev pub invariant-loop-i : goal.invariant-loop-i

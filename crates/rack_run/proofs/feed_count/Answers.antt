@@ -1,7 +1,6 @@
 -- `feed_count` meets its contract.
 use Rattle.rack_run.specs.Calls.{feed_count}
 use borrow.Author.Rules.{rules}
-use native.Mathlib.Omega.{arith}
 use Rattle.rack_run.proofs.feed_count.Goals as goal
 
 pub returns-then-feeds-lt16 : goal.returns-then-feeds-lt16

@@ -1,7 +1,6 @@
 -- `room_fits` meets its contract.
 use Rattle.rack_run.proofs.Lengths.{no_room, not_divided, divided}
 use borrow.Author.Rules.{rules}
-use native.Mathlib.Omega.{arith}
 use Rattle.rack_run.proofs.room_fits.Goals as goal
 
 pub returns-then-count-eq0 : goal.returns-then-count-eq0

@@ -2,13 +2,12 @@
 use mathlib.Core.Bool.{Bool, cond}
 use mathlib.Core.Path.{sym, ap, ◌∙◌}
 use Prim.Native.Nat.{ℕ}
-use borrow.Author.Tests.{not-true, not-false, eq-eqb}
+use borrow.Author.Tests.{eq-eqb}
 use lib.ListN.{length}
 use Rattle.rack.specs.Memory.{held_after}
 use Rattle.rack_run.specs.Calls.{feed_count, lengths_fit, feeds_up_to}
 use Rattle.rack_run.proofs.Answers.{refused, accepted}
 use Rattle.rack_run.proofs.Lengths.{fits}
-use borrow.Author.Rules.{rules}
 use native.Mathlib.Omega.{arith}
 use Rattle.rack_run.proofs.run.Goals as goal
 

@@ -1,5 +1,4 @@
 -- `record_check::accepts` meets its contract.
-use borrow.Author.Rules.{rules}
 use native.Mathlib.Omega.{arith}
 use Rattle.record_check.proofs.Accepting.{too_short, too_late, no_type, too_many, by_length}
 use Rattle.record_check.proofs.accepts.Goals as goal

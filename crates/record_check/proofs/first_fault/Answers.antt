@@ -1,8 +1,6 @@
 -- `record_check::first_fault` meets its contract: the invariant is `Searched`.
-use borrow.Author.Rules.{rules}
 use native.Mathlib.Omega.{arith}
-use lib.ListN.{length}
-use Rattle.record_check.proofs.Searched.{Searched, at_start, one_more, found, none_left}
+use Rattle.record_check.proofs.Searched.{at_start, one_more, found, none_left}
 use Rattle.record_check.proofs.first_fault.Goals as goal
 
 pub loop-rest-init : goal.loop-rest-init

@@ -1,6 +1,5 @@
 -- `record_check::type_length` meets its contract.
 use native.Mathlib.Omega.{arith}
-use borrow.Author.Rules.{rules}
 use mathlib.Core.Path.{refl, sym}
 use mathlib.Core.List.{[], ◌∷◌}
 use lib.ListN.{get_or-eq_default}

@@ -1,5 +1,4 @@
 -- `values_of` meets its contract.
-use borrow.Author.Rules.{rules}
 use mathlib.Core.Path.{sym, ap}
 use Rattle.refusals.specs.Number.{values_of}
 use Rattle.refusal_values.specs.Flat.{values_flat}

@@ -1,6 +1,5 @@
 -- `refusals::number` meets its contract.
 use mathlib.Core.Path.{sym, ap}
-use borrow.Author.Rules.{rules}
 use Rattle.refusals.specs.Number.{number_of}
 use Rattle.refusals.proofs.number.Goals as goal
 

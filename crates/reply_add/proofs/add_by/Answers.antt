@@ -1,5 +1,4 @@
 -- `add_by` meets its contract.
-use borrow.Author.Rules.{rules}
 use Rattle.constants.specs.Setting.{per_pulse}
 use Rattle.reply_add.proofs.Adding.{pulses_most, by_samples}
 use Rattle.reply_add.proofs.add_by.Goals as goal

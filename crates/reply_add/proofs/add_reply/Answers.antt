@@ -1,5 +1,4 @@
 -- `add_reply` meets its contract.
-use borrow.Author.Rules.{rules}
 use mathlib.Core.Path.{sym, ◌∙◌}
 use mathlib.Core.Bool.{true, false}
 use Rattle.constants.specs.Setting.{per_pulse}

@@ -1,5 +1,4 @@
 -- `add_wave` meets its contract.
-use borrow.Author.Rules.{rules}
 use native.Mathlib.Omega.{arith}
 use lib.ListN.{length-take}
 use Rattle.constants.specs.Setting.{per_pulse}

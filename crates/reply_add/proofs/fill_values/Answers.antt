@@ -1,13 +1,12 @@
 -- `fill_values` meets its contract. The invariant: what is written and what is left to write make all values.
 use borrow.Author.Rules.{rules}
 use native.Mathlib.Omega.{arith}
-use Prim.Native.Nat.{ℕ, ◌+◌, ◌≤◌, ◌-◌, ◌*◌}
-use mathlib.Core.Path.{◌≡◌, ap, ◌∙◌}
-use mathlib.Core.List.{◌++◌}
-use lib.ListN.{length, take, length-set}
+use Prim.Native.Nat.{ℕ, ◌+◌, ◌-◌, ◌*◌}
+use mathlib.Core.Path.{ap, ◌∙◌}
+use lib.ListN.{length-set}
 use Rattle.constants.specs.Setting.{per_pulse}
 use Rattle.filterbank.specs.Apply.{clock_values}
-use Rattle.reply_add.specs.AddModel.{padded_value, padded_values}
+use Rattle.reply_add.specs.AddModel.{padded_value}
 use Rattle.reply_add.proofs.Filling.{fuel_room, fuel_is, fill_first, fill_next, fill_stop, fill_full}
 use Rattle.reply_add.proofs.fill_values.Goals as goal
 

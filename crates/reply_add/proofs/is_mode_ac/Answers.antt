@@ -1,5 +1,4 @@
 -- `is_mode_ac` meets its contract.
-use borrow.Author.Rules.{rules}
 use mathlib.Core.Path.{sym, ap}
 use Rattle.reply_add.specs.AddModel.{is_mode_ac}
 use Rattle.reply_add.proofs.is_mode_ac.Goals as goal

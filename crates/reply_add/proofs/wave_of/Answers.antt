@@ -1,5 +1,4 @@
 -- `wave_of` meets its contract.
-use borrow.Author.Rules.{rules}
 use Rattle.constants.specs.Setting.{per_pulse}
 use Rattle.reply_add.proofs.Adding.{wave_is}
 use Rattle.reply_add.proofs.wave_of.Goals as goal

@@ -1,5 +1,4 @@
 -- `message_num_samples` meets its contract.
-use borrow.Author.Rules.{rules}
 use mathlib.Core.Bool.{true, false}
 use mathlib.Core.Path.{◌≡◌, ◌∙◌}
 use Rattle.constants.specs.Setting.{per_pulse}

@@ -1,5 +1,4 @@
 -- `message_to_pulses` meets its contract.
-use borrow.Author.Rules.{rules}
 use mathlib.Core.Bool.{false}
 use mathlib.Core.Path.{◌≡◌, ◌∙◌}
 use Rattle.pulse_map.specs.ModeS.{mode_s_pulses}

@@ -1,5 +1,4 @@
 -- `mode_ac_data` meets its contract.
-use borrow.Author.Rules.{rules}
 use Rattle.reply_pulses.proofs.Positions.{data_is}
 use Rattle.reply_pulses.proofs.mode_ac_data.Goals as goal
 

@@ -1,5 +1,4 @@
 -- `mode_ac_spi` meets its contract.
-use borrow.Author.Rules.{rules}
 use mathlib.Core.Path.{refl}
 use Rattle.reply_pulses.specs.ReplyPulses.{spi_of}
 use Rattle.reply_pulses.proofs.mode_ac_spi.Goals as goal

@@ -1,11 +1,8 @@
 -- `reply_record::put_bytes` meets its contract: after k steps the first k bytes are written.
-use borrow.Author.Rules.{rules}
 use Prim.Native.Nat.{◌-◌, ◌≤◌}
-use mathlib.Core.Path.{◌≡◌, ap, ◌∙◌}
-use lib.ListN.{length, take, length-set}
-use lib.Seq.{take_all}
+use mathlib.Core.Path.{◌≡◌}
+use lib.ListN.{length, take}
 use Rattle.le_read.specs.LeBytes.{overwritten}
-use Rattle.reply_record.proofs.Overwritten.{none_overwritten, next_byte}
 use Rattle.reply_record.proofs.put_bytes.Given as goal
 
 abbrev pub invariant-loop-k : goal.invariant-loop-k

@@ -1,5 +1,4 @@
 -- `reply_record::put_floats` meets its contract.
-use borrow.Author.Rules.{rules}
 use Rattle.reply_record.proofs.Overwritten.{floats_overwritten}
 use Rattle.reply_record.proofs.put_floats.Goals as goal
 

@@ -1,5 +1,4 @@
 -- `reply_record::put_others` meets its contract.
-use borrow.Author.Rules.{rules}
 use Rattle.reply_record.proofs.Overwritten.{others_overwritten}
 use Rattle.reply_record.proofs.put_others.Goals as goal
 

@@ -1,5 +1,4 @@
 -- `reply_record::put_u8` meets its contract.
-use borrow.Author.Rules.{rules}
 use Rattle.le_read.proofs.Halves.{overwritten_one}
 use Rattle.reply_record.proofs.put_u8.Goals as goal
 

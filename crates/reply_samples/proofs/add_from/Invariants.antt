@@ -1,13 +1,12 @@
 -- `add_from` meets its contract. The invariant: what is added from here on makes the whole.
-use borrow.Author.Rules.{rules}
 use Prim.Native.Nat.{◌<◌, ◌-◌}
-use mathlib.Core.Path.{◌≡◌, refl, ◌∙◌}
+use mathlib.Core.Path.{◌≡◌}
 use lib.ListN.{length}
 use Rattle.constants.specs.Setting.{per_pulse}
 use Rattle.constants.specs.Rate.{working_memory}
 use Rattle.reply_samples.specs.Samples.{rotated}
 use Rattle.reply_samples.specs.RingModel.{ring_slots, added_from}
-use Rattle.reply_samples.proofs.LoopSteps.{added_rest, step_next, step_end}
+use Rattle.reply_samples.proofs.LoopSteps.{added_rest}
 use Rattle.reply_samples.proofs.add_from.Given as goal
 
 abbrev pub invariant-loop-i : goal.invariant-loop-i

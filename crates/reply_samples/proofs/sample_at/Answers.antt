@@ -1,5 +1,4 @@
 -- `sample_at` meets its contract.
-use borrow.Author.Rules.{rules}
 use Rattle.reply_samples.proofs.LoopSteps.{sample_is}
 use Rattle.reply_samples.proofs.sample_at.Goals as goal
 

@@ -1,6 +1,5 @@
 -- `add` meets its contract, from what its calls give.
 use Rattle.run_add_reply.proofs.Joined.{added, counted, recorded}
-use borrow.Author.Rules.{rules}
 use Rattle.run_add_reply.proofs.add.Goals as goal
 
 pub returns : goal.returns

@@ -6,8 +6,6 @@ use Rattle.run_open_checks.specs.Opening.{prepared_of}
 use Rattle.run_booking.specs.Booking.{opened}
 use Rattle.run_booking.proofs.InRange.{few_samples}
 use Rattle.run_booking.proofs.Decided.{length_refused, opening_refused, run_booked}
-use borrow.Author.Rules.{rules}
-use native.Mathlib.Omega.{arith}
 use Rattle.run_booking.proofs.booking.Goals as goal
 
 pub returns-then-draws-ne0 : goal.returns-then-draws-ne0

@@ -1,6 +1,5 @@
 -- `first_fault` meets its contract.
 use lib.ListN.{length-take}
-use borrow.Author.Rules.{rules}
 use native.Mathlib.Omega.{arith}
 use Rattle.run_booking.proofs.first_fault.Goals as goal
 

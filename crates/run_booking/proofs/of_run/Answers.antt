@@ -1,7 +1,6 @@
 -- `of_run` meets its contract: refusal 7, or the figures.
 use mathlib.Core.List.{[]}
 use Rattle.run_booking.proofs.Decided.{draw_refused, figures_given}
-use borrow.Author.Rules.{rules}
 use Rattle.run_booking.proofs.of_run.Goals as goal
 
 pub returns-in-At : goal.returns-in-At

@@ -1,5 +1,4 @@
 -- `after_draw` meets its contract: each kind by its own case.
-use borrow.Author.Rules.{rules}
 use mathlib.Core.Path.{refl}
 use Rattle.run_booking_walk.proofs.Turn.{after_ignored, after_end, after_reply}
 use Rattle.run_booking_walk.proofs.after_draw.Goals as goal

@@ -3,7 +3,6 @@ use mathlib.Core.Path.{sym, ap, ◌∙◌}
 use mir.Facts.{to_z-of_z}
 use Rattle.run_steps.specs.PlanModel.{is_negative}
 use Rattle.run_booking_walk.proofs.Step4.{ignored, ends, replies}
-use borrow.Author.Rules.{rules}
 use Rattle.run_booking_walk.proofs.kind_of.Goals as goal
 
 pub returns-then-negative : goal.returns-then-negative

@@ -1,20 +1,14 @@
 -- `walk` meets its contract. The loop's invariant: the draws passed are counted, records are at most as many, and the walk over the rest is that over all.
 use Rattle.std.proofs.Common.{w64}
-use Prim.Native.Nat.{◌+◌, ◌*◌, ◌≤◌}
-use mathlib.Core.Path.{◌≡◌, refl, sym, ap, ◌∙◌}
-use lib.ListN.{length, length-drop}
+use mathlib.Core.Path.{refl, sym, ap, ◌∙◌}
+use lib.ListN.{length-drop}
 use lib.IntN.{ℤ}
 use mir.Facts.{to_z-of_z}
 use Rattle.run_theory.specs.Generator.{start_from}
 use Rattle.run_theory.specs.PlainRun.{kind_of}
-use Rattle.run_theory.specs.PlainBench.{draws_of}
 use Rattle.run_steps.specs.PlanModel.{counted}
-use Rattle.draw.specs.Draw.{draw_at}
-use Rattle.draw.specs.Config.{time_after}
-use Rattle.run_booking_walk.specs.Walk.{walk_of}
-use Rattle.run_booking_walk.specs.Answered.{walk_generator}
-use Rattle.run_booking_walk.specs.WalkModel.{kind_seen, progress_after}
-use Rattle.run_booking_walk.proofs.Turn.{part_is, rest_of, next, stepped, goes_on, stops, ends, counted_on}
+use Rattle.run_booking_walk.specs.WalkModel.{kind_seen}
+use Rattle.run_booking_walk.proofs.Turn.{part_is, stepped, goes_on, stops, ends, counted_on}
 use borrow.Author.Rules.{rules}
 use native.Mathlib.Omega.{arith}
 use Rattle.run_booking_walk.proofs.walk.Goals as goal
@@ -38,8 +32,7 @@ loop-rest-preserved c =
     let a = c.args in
     let l = c.loop-rest in
     -- the walk after the next draw
-    let went = stepped a.all a.delays a.total l.w _ l.rest.now _ _ _ c.pending-message.ensures c.first_sample_index-start.ensures (c.kind_of.ensures ∙ ap (λ (x : ℤ). kind_seen (kind_of (counted a.total) (start_from x))) (to_z-of_z {w = w64} (record { sfits = c.first_sample_index-start.type_inv }))) c.after_draw-w.ensures in
-    (
+    let went = stepped a.all a.delays a.total l.w _ l.rest.now _ _ _ c.pending-message.ensures c.first_sample_index-start.ensures (c.kind_of.ensures ∙ ap (λ (x : ℤ). kind_seen (kind_of (counted a.total) (start_from x))) (to_z-of_z {w = w64} (record { sfits = c.first_sample_index-start.type_inv }))) c.after_draw-w.ensures in (
       rw (part_is, length-drop) (omega arith),
       omega (arith, counted_on l.w _ _ _ c.after_draw-w.ensures),
       rw part_is (sym (goes_on a.all a.delays a.total l.k l.w _ l.rest.now c.loop-rest-test.true went c.if-w.false) ∙ l.invariant.2),

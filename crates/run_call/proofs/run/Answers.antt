@@ -1,13 +1,10 @@
 -- `run` meets its contract: the checks in order, each the plain bench's, then `steps`.
 -- the lengths are right
-use mathlib.Core.Path.{◌≡◌, sym, ◌∙◌}
-use mathlib.Core.Bool.{false, ◌||◌}
+use mathlib.Core.Path.{sym, ◌∙◌}
+use mathlib.Core.Bool.{false}
 use lib.ListN.{length}
-use Rattle.run_call_checks.specs.Checks.{wrong_memory}
-use Rattle.run_call_checks.specs.ChecksModel.{wrong_buffers}
 use Rattle.run_call_checks.proofs.Lengths.{right_memory}
 use Rattle.run_call.proofs.Refusing.{buffers_refused, draw_refused, noise_refused, not_refused}
-use borrow.Author.Rules.{rules}
 use Rattle.run_call.proofs.run.Goals as goal
 
 pub returns-then-lengths_wrong : goal.returns-then-lengths_wrong

@@ -1,7 +1,7 @@
 -- `step` meets its contract: each arm by what its plan says.
 use mathlib.Core.Path.{◌≡◌}
 use mathlib.Core.List.{List}
-use Prim.Native.Nat.{ℕ, ◌-◌, ◌*◌, ◌<◌}
+use Prim.Native.Nat.{ℕ, ◌-◌, ◌*◌}
 use lib.Ieee.{Float}
 use Rattle.run_call_model.specs.Plan.{Plan}
 use Rattle.draw.specs.Draw.{draw_at}
@@ -15,7 +15,6 @@ use Rattle.run_steps.specs.PlanModel.{plan_read, chosen}
 use Rattle.run_call.specs.StepModel.{Inside}
 use lib.ListN.{length}
 use Rattle.run_call.proofs.Said.{Sized, Planned, halted, drained, dued, skipped, ended_by, added}
-use borrow.Author.Rules.{rules}
 use native.Mathlib.Omega.{arith}
 use Rattle.run_call.proofs.step.Goals as goal
 

@@ -9,8 +9,7 @@ use Rattle.run_call.specs.StepModel.{progress_read, rest_after, StepSays}
 use Rattle.run_call.specs.StateGenerator.{gen_of}
 use mathlib.Core.Path.{sym, ◌∙◌}
 use lib.ListN.{length}
-use Rattle.run_call.proofs.Going.{Going, starts, steps_left, Gave, tail_is, samples_written_less, samples_written_again, draw_taken_bytes, draw_taken_less, draw_taken_again, stop_reached_samples, stopped_left}
-use borrow.Author.Rules.{rules}
+use Rattle.run_call.proofs.Going.{starts, Gave, tail_is, samples_written_less, samples_written_again, draw_taken_bytes, draw_taken_less, draw_taken_again, stop_reached_samples, stopped_left}
 use native.Mathlib.Omega.{arith}
 use Rattle.run_call.proofs.steps.Goals as goal
 

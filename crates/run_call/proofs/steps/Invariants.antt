@@ -1,9 +1,6 @@
 -- `steps` meets its contract: at each step the rest of the call is the whole call (`Going`), and what the step gave says which of three ways it goes on.
-use mathlib.Core.Path.{sym, ◌∙◌}
 use lib.ListN.{length}
-use Rattle.run_call.proofs.Going.{Going, starts, steps_left, Gave, tail_is, samples_written_less, samples_written_again, draw_taken_bytes, draw_taken_less, draw_taken_again, stop_reached_samples, stopped_left}
-use borrow.Author.Rules.{rules}
-use native.Mathlib.Omega.{arith}
+use Rattle.run_call.proofs.Going.{Going, steps_left}
 use Rattle.run_call.proofs.steps.Given as goal
 
 abbrev pub invariant-loop-rest : goal.invariant-loop-rest

@@ -1,10 +1,6 @@
 -- `all_in_range` meets its contract. The loop's invariant: while all were in range, the first fault of the rest is that of all.
-use mathlib.Core.Path.{◌≡◌, refl}
-use mathlib.Core.Bool.{cond}
-use mathlib.Core.Option.{none}
-use Prim.Native.Nat.{◌-◌, ◌≤◌}
-use lib.ListN.{length, drop}
-use Rattle.run_call_checks.specs.NoiseModel.{out_of_range_from}
+use mathlib.Core.Path.{refl}
+use Prim.Native.Nat.{◌-◌}
 use Rattle.run_call_checks.proofs.NoiseInRange.{in_range_on, in_range_end}
 use borrow.Author.Rules.{rules}
 use Rattle.run_call_checks.proofs.all_in_range.Goals as goal

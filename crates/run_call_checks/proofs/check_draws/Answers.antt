@@ -2,7 +2,6 @@
 use mathlib.Core.Path.{sym, ap, ◌∙◌}
 use Rattle.run_call_checks.specs.ChecksModel.{fault_read}
 use Rattle.run_call_checks.proofs.Draws.{jump_refused, no_jump}
-use borrow.Author.Rules.{rules}
 use Rattle.run_call_checks.proofs.check_draws.Goals as goal
 
 pub returns-then-jumps_back : goal.returns-then-jumps_back

@@ -1,9 +1,8 @@
 -- `check_noise` meets its contract.
-use mathlib.Core.Path.{◌≡◌, sym, ap, ◌∙◌}
+use mathlib.Core.Path.{sym, ap, ◌∙◌}
 use mathlib.Core.Bool.{Bool, cond}
 use mathlib.Core.Option.{none}
 use Rattle.run_call_checks.specs.NoiseModel.{out_of_range_from, noise_fault_read}
-use borrow.Author.Rules.{rules}
 use Rattle.run_call_checks.proofs.check_noise.Goals as goal
 
 pub returns-then-all_in_range : goal.returns-then-all_in_range

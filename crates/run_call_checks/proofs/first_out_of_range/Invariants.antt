@@ -1,11 +1,8 @@
 -- `first_out_of_range` meets its contract. The loop's invariant: the first fault of the rest is that of all.
-use mathlib.Core.Path.{◌≡◌, refl, sym, ◌∙◌}
+use mathlib.Core.Path.{◌≡◌}
 use Prim.Native.Nat.{◌-◌, ◌≤◌}
 use lib.ListN.{length, drop}
-use borrow.Author.Tests.{not-true, not-false}
 use Rattle.run_call_checks.specs.NoiseModel.{out_of_range_from}
-use Rattle.run_call_checks.proofs.NoiseInRange.{out_of_range_at, out_of_range_on, out_of_range_end}
-use borrow.Author.Rules.{rules}
 use Rattle.run_call_checks.proofs.first_out_of_range.Given as goal
 
 abbrev pub invariant-loop-k : goal.invariant-loop-k

@@ -1,6 +1,5 @@
 -- `jumps_back` meets its contract.
 use Rattle.run_call_checks.proofs.Draws.{few_bytes, some_bytes}
-use borrow.Author.Rules.{rules}
 use Rattle.run_call_checks.proofs.jumps_back.Goals as goal
 
 pub returns-then-draws-lt-DRAW_LEN : goal.returns-then-draws-lt-DRAW_LEN

@@ -1,7 +1,6 @@
 -- `still_in_range` meets its contract.
 use mathlib.Core.Path.{sym, ◌∙◌}
 use Rattle.run_call_checks.proofs.NoiseInRange.{in_range_value, out_of_range_value}
-use borrow.Author.Rules.{rules}
 use Rattle.run_call_checks.proofs.still_in_range.Goals as goal
 
 pub returns-then-within_f32 : goal.returns-then-within_f32

@@ -1,11 +1,9 @@
 -- `clear_stretch` meets its contract. The invariant: n slots are cleared.
 use Prim.Native.Nat.{◌-◌, ◌≤◌}
 use mathlib.Core.Path.{◌≡◌}
-use lib.ListN.{length, length-set}
+use lib.ListN.{length}
 use Rattle.run_call_model.specs.Buffers.{overwritten}
 use Rattle.run_theory.specs.Zeros.{zeros}
-use Rattle.run_due_samples.proofs.Stretches.{clear_first, clear_next, all_cleared}
-use borrow.Author.Rules.{rules}
 use Rattle.run_due_samples.proofs.clear_stretch.Given as goal
 
 abbrev pub invariant-loop-i : goal.invariant-loop-i

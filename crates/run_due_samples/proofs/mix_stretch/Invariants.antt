@@ -1,11 +1,9 @@
 -- `mix_stretch` meets its contract. The invariant: n numbers are written.
 use Prim.Native.Nat.{◌-◌, ◌≤◌}
 use mathlib.Core.Path.{◌≡◌}
-use lib.ListN.{length, drop, take, length-set}
+use lib.ListN.{length, drop, take}
 use Rattle.run_call_model.specs.Buffers.{overwritten}
 use Rattle.run_due_samples.specs.DueModel.{mix}
-use Rattle.run_due_samples.proofs.Stretches.{mix_first, mix_next, all_mixed}
-use borrow.Author.Rules.{rules}
 use Rattle.run_due_samples.proofs.mix_stretch.Given as goal
 
 abbrev pub invariant-loop-i : goal.invariant-loop-i

@@ -1,9 +1,8 @@
 -- `write_all` meets its contract: each step writes one stretch more (`Writing`).
 use mathlib.Core.Path.{refl, sym, ◌∙◌}
 use Prim.Native.Nat.{◌-◌}
-use Rattle.run_due_samples.proofs.Stretches.{Writing, starts, goes_on, all_written}
+use Rattle.run_due_samples.proofs.Stretches.{starts, goes_on, all_written}
 use borrow.Author.Rules.{rules}
-use native.Mathlib.Omega.{arith}
 use Rattle.run_due_samples.proofs.write_all.Goals as goal
 
 pub loop-done-init : goal.loop-done-init

@@ -1,9 +1,7 @@
 -- `write_due` meets its contract: nothing is changed where the test fails, else `write_all` writes.
 -- what the test showed
 use mathlib.Core.Path.{sym, ◌∙◌}
-use lib.ListN.{length}
-use borrow.Author.Tests.{not-true, not-false}
-use Rattle.run_due_samples.proofs.BuffersTest.{Fits, fits_for, unchanged, changed}
+use Rattle.run_due_samples.proofs.BuffersTest.{fits_for, unchanged, changed}
 use borrow.Author.Rules.{rules}
 use native.Mathlib.Omega.{arith}
 use Rattle.run_due_samples.proofs.write_due.Goals as goal

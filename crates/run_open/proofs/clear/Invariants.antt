@@ -1,11 +1,8 @@
 -- `clear` meets its contract: the first k values are 0.0.
 use Prim.Native.Nat.{◌-◌, ◌≤◌}
 use mathlib.Core.Path.{◌≡◌}
-use lib.ListN.{length, take, length-set}
-use lib.Ieee.{of_bits}
+use lib.ListN.{length, take}
 use Rattle.run_theory.specs.Zeros.{zeros}
-use Rattle.run_open.proofs.Filling.{clear_next, clear_end}
-use borrow.Author.Rules.{rules}
 use Rattle.run_open.proofs.clear.Given as goal
 
 abbrev pub invariant-loop-k : goal.invariant-loop-k

@@ -1,8 +1,7 @@
 -- `copy` meets its contract: the first k values are written over.
-use Prim.Native.Nat.{◌-◌, ◌≤◌, min}
-use mathlib.Core.Path.{◌≡◌, refl}
-use mathlib.Core.List.{◌++◌}
-use lib.ListN.{length, take, drop, length-set}
+use Prim.Native.Nat.{◌-◌}
+use mathlib.Core.Path.{refl}
+use lib.ListN.{length-set}
 use Rattle.run_open.proofs.Filling.{copy_next, copy_end}
 use borrow.Author.Rules.{rules}
 use Rattle.run_open.proofs.copy.Goals as goal

@@ -1,10 +1,8 @@
 -- `copy` meets its contract: the first k values are written over.
 use Prim.Native.Nat.{◌-◌, ◌≤◌, min}
-use mathlib.Core.Path.{◌≡◌, refl}
+use mathlib.Core.Path.{◌≡◌}
 use mathlib.Core.List.{◌++◌}
-use lib.ListN.{length, take, drop, length-set}
-use Rattle.run_open.proofs.Filling.{copy_next, copy_end}
-use borrow.Author.Rules.{rules}
+use lib.ListN.{length, take, drop}
 use Rattle.run_open.proofs.copy.Given as goal
 
 abbrev pub invariant-loop-k : goal.invariant-loop-k

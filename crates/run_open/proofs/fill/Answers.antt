@@ -7,8 +7,6 @@ use lib.ListN.{length}
 use lib.Ieee.{Float}
 use Rattle.run_theory.specs.Zeros.{zeros}
 use Rattle.run_open.specs.FillModel.{over}
-use borrow.Author.Tests.{not-true, not-false}
-use borrow.Author.Rules.{rules}
 use Rattle.run_open.proofs.fill.Goals as goal
 
 chosen : (wanted b : Bool) (x filled lent : List Float) → wanted ≡ b → x ≡ cond b filled lent → x ≡ cond wanted filled lent

@@ -1,6 +1,5 @@
 -- `run_open::is_run` meets its contract.
 use Rattle.run_open_checks.proofs.Decided.{a_run, a_refusal}
-use borrow.Author.Rules.{rules}
 use Rattle.run_open.proofs.is_run.Goals as goal
 
 pub returns-in-Run : goal.returns-in-Run

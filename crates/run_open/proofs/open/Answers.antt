@@ -1,6 +1,5 @@
 -- `run_open::open` meets its contract.
 use Rattle.run_open.proofs.Filled.{opened_left}
-use borrow.Author.Rules.{rules}
 use Rattle.run_open.proofs.open.Goals as goal
 
 pub returns : goal.returns

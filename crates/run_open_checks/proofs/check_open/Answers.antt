@@ -1,8 +1,6 @@
 -- `check_open` meets its contract.
 use mathlib.Core.Path.{sym, ◌∙◌}
-use borrow.Author.Tests.{not-true, not-false}
 use Rattle.run_open_checks.proofs.Decided.{buffers_refused, settings_refused, settings_given}
-use borrow.Author.Rules.{rules}
 use Rattle.run_open_checks.proofs.check_open.Goals as goal
 
 pub returns-then-not-buffers_fit : goal.returns-then-not-buffers_fit

@@ -1,8 +1,6 @@
 -- `check_taps` meets its contract.
 use mathlib.Core.Path.{sym, ◌∙◌}
-use borrow.Author.Tests.{not-true, not-false}
 use Rattle.run_open_checks.proofs.Decided.{mode_s_taps_refused, mode_ac_taps_refused, taps_given}
-use borrow.Author.Rules.{rules}
 use Rattle.run_open_checks.proofs.check_taps.Goals as goal
 
 pub returns-then-not-mode_s_taps_accepted : goal.returns-then-not-mode_s_taps_accepted

@@ -3,7 +3,6 @@ use mathlib.Core.Path.{◌≡◌, ap, ◌∙◌}
 use Rattle.run_open_checks.specs.declared.Opened.TheVariants.{Run}
 use Rattle.run_open_checks.specs.Opening.{first_state}
 use Rattle.run_open_checks.proofs.Decided.{no_mode_s, no_mode_ac, both_found}
-use borrow.Author.Rules.{rules}
 use Rattle.run_open_checks.proofs.first_state_or_refusal.Goals as goal
 
 pub returns-in_default : goal.returns-in_default

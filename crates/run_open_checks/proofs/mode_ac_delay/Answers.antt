@@ -2,7 +2,6 @@
 -- src/lib.rt:68:8
 use mathlib.Core.Path.{sym, ◌∙◌}
 use Rattle.run_open_checks.proofs.Decided.{mode_ac_delay_of, mode_ac_none}
-use borrow.Author.Rules.{rules}
 use Rattle.run_open_checks.proofs.mode_ac_delay.Goals as goal
 
 -- src/lib.rt:69:9

@@ -2,7 +2,6 @@
 -- src/lib.rt:58:8
 use mathlib.Core.Path.{sym, ◌∙◌}
 use Rattle.run_open_checks.proofs.Decided.{mode_s_delay_of, mode_s_none}
-use borrow.Author.Rules.{rules}
 use Rattle.run_open_checks.proofs.mode_s_delay.Goals as goal
 
 -- src/lib.rt:59:9

@@ -1,6 +1,5 @@
 -- `prepare` meets its contract.
 use Rattle.run_open_checks.proofs.Decided.{prepared}
-use borrow.Author.Rules.{rules}
 use Rattle.run_open_checks.proofs.prepare.Goals as goal
 
 pub check_open-opened-requires : goal.check_open-opened-requires

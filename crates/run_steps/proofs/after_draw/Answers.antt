@@ -1,5 +1,4 @@
 -- `after_draw` meets its contract.
-use Rattle.std.proofs.Common.{rules}
 use Rattle.run_steps.proofs.Joined.{draw_taken_is}
 use Rattle.run_steps.proofs.after_draw.Goals as goal
 

@@ -1,5 +1,5 @@
 -- `after_samples` meets its contract.
-use Rattle.std.proofs.Common.{refl, rules}
+use Rattle.std.proofs.Common.{refl}
 use Rattle.run_steps.proofs.Joined.{samples_written_is}
 use Rattle.run_steps.proofs.after_samples.Goals as goal
 

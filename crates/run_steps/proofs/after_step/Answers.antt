@@ -1,5 +1,5 @@
 -- `after_step` meets its contract: each plan by its own case.
-use Rattle.std.proofs.Common.{refl, ◌∙◌, rules}
+use Rattle.std.proofs.Common.{refl, ◌∙◌}
 use Rattle.run_steps.specs.ProgressModel.{progress_after_step}
 use Rattle.run_steps.proofs.Joined.{at_plan, samples_written_by, draw_taken_by}
 use Rattle.run_steps.proofs.after_step.Goals as goal

@@ -1,5 +1,5 @@
 -- `choose` meets its contract, test by test.
-use Rattle.std.proofs.Common.{◌∙◌, to_z-of_z, w64, rules}
+use Rattle.std.proofs.Common.{◌∙◌, to_z-of_z, w64}
 use Rattle.run_steps.proofs.Tests.{chose_ended, chose_none, chose_draw}
 use Rattle.run_steps.proofs.choose.Goals as goal
 

@@ -1,5 +1,5 @@
 -- `classify` meets its contract: `plan_draw`, by its start.
-use Rattle.std.proofs.Common.{sym, ap, ◌∙◌, to_z-of_z, rules}
+use Rattle.std.proofs.Common.{sym, ap, ◌∙◌, to_z-of_z}
 use Rattle.run_steps.specs.PlanModel.{is_negative}
 use Rattle.run_steps.proofs.Tests.{skips, ends_run, replies}
 use Rattle.run_steps.proofs.classify.Goals as goal

@@ -1,6 +1,5 @@
 -- `drain` meets its contract: `plan_ended`, test by test.
 use Rattle.run_steps.proofs.Tests.{done, drain_stops, drain_many_lem}
-use Rattle.std.proofs.Common.{rules}
 use Rattle.run_steps.proofs.drain.Goals as goal
 
 pub returns-then-total-written : goal.returns-then-total-written

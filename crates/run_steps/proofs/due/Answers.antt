@@ -1,7 +1,6 @@
 -- `due` meets its contract.
 use Rattle.run_call_model.specs.Plan.{due_many}
 use Rattle.run_steps.proofs.Tests.{stops, dues}
-use Rattle.std.proofs.Common.{rules}
 use Rattle.run_steps.proofs.due.Goals as goal
 
 pub returns-then-k-eq0 : goal.returns-then-k-eq0

@@ -1,5 +1,5 @@
 -- `due_before` meets its contract.
-use Rattle.std.proofs.Common.{refl, rules}
+use Rattle.std.proofs.Common.{refl}
 use Rattle.run_steps.proofs.due_before.Goals as goal
 
 pub returns : goal.returns

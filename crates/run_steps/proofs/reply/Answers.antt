@@ -1,5 +1,5 @@
 -- `reply` meets its contract: `plan_reply`, test by test.
-use Rattle.std.proofs.Common.{◌∙◌, rules}
+use Rattle.std.proofs.Common.{◌∙◌}
 use Rattle.run_steps.proofs.Tests.{is_due, full, adds}
 use Rattle.run_steps.proofs.reply.Goals as goal
 

@@ -1,5 +1,4 @@
 -- `settings::check` meets its contract: the level is checked behind the values.
-use borrow.Author.Rules.{rules}
 use mathlib.Core.Path.{◌≡◌, ap, ◌∙◌}
 use Rattle.settings.specs.Accepted.{level_then, accepted_of}
 use Rattle.settings.proofs.check.Goals as goal

@@ -1,5 +1,4 @@
 -- `settings::check_distributions` meets its contract.
-use borrow.Author.Rules.{rules}
 use mathlib.Core.Path.{sym, ◌∙◌}
 use Rattle.settings.proofs.Decided.{offset_refused, phase_refused, clock_refused, all_accepted}
 use Rattle.settings.proofs.check_distributions.Goals as goal

@@ -1,5 +1,4 @@
 -- `settings::check_level` meets its contract.
-use borrow.Author.Rules.{rules}
 use mathlib.Core.Path.{◌≡◌, sym, ◌∙◌}
 use Rattle.settings.specs.Accepted.{level_in_range}
 use Rattle.settings.proofs.Decided.{values_refused, level_refused, level_passes}

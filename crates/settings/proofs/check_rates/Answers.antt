@@ -1,5 +1,4 @@
 -- `settings::check_rates` meets its contract.
-use borrow.Author.Rules.{rules}
 use mathlib.Core.Path.{sym, ap, ◌∙◌}
 use Rattle.settings.specs.Accepted.{total_fits}
 use Rattle.settings.proofs.Decided.{rate_refused, total_refused, rates_pass}

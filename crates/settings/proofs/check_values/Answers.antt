@@ -1,5 +1,4 @@
 -- `settings::check_values` meets its contract.
-use borrow.Author.Rules.{rules}
 use mathlib.Core.Path.{sym, ap, ◌∙◌}
 use Rattle.settings_duration.specs.Duration.{answer_of}
 use Rattle.settings.proofs.Decided.{duration_refused, duration_passes}

@@ -1,12 +1,10 @@
 -- `settings::first_bad_rate` meets its contract: what the search finds from here on is what it finds from the start.
 use borrow.Author.Rules.{rules}
-use Prim.Native.Nat.{◌-◌, ◌≤◌}
-use mathlib.Core.Path.{◌≡◌, sym, ap, ◌∙◌}
-use lib.ListN.{drop}
+use Prim.Native.Nat.{◌-◌}
+use mathlib.Core.Path.{sym, ap, ◌∙◌}
 use Rattle.distributions.specs.Accepted.{finite_not_negative}
 use Rattle.settings.specs.Settings.{rates_of, rate_of}
-use Rattle.settings.specs.Accepted.{first_bad_rate}
-use Rattle.settings.proofs.Rates.{goes_on, stops, ends, refuted, held}
+use Rattle.settings.proofs.Rates.{goes_on, stops, ends}
 use Rattle.settings.proofs.first_bad_rate.Goals as goal
 
 pub returns-then-not-finite_not_negative : goal.returns-then-not-finite_not_negative

@@ -1,12 +1,9 @@
 -- `settings::first_bad_rate` meets its contract: what the search finds from here on is what it finds from the start.
-use borrow.Author.Rules.{rules}
 use Prim.Native.Nat.{◌-◌, ◌≤◌}
-use mathlib.Core.Path.{◌≡◌, sym, ap, ◌∙◌}
+use mathlib.Core.Path.{◌≡◌}
 use lib.ListN.{drop}
-use Rattle.distributions.specs.Accepted.{finite_not_negative}
-use Rattle.settings.specs.Settings.{rates_of, rate_of}
+use Rattle.settings.specs.Settings.{rates_of}
 use Rattle.settings.specs.Accepted.{first_bad_rate}
-use Rattle.settings.proofs.Rates.{goes_on, stops, ends, refuted, held}
 use Rattle.settings.proofs.first_bad_rate.Given as goal
 
 abbrev pub invariant-loop-k : goal.invariant-loop-k

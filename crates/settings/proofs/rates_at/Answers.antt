@@ -1,5 +1,4 @@
 -- `settings::rates_at` meets its contract.
-use borrow.Author.Rules.{rules}
 use Rattle.settings.specs.Settings.{rates_at}
 use Rattle.settings.proofs.rates_at.Goals as goal
 

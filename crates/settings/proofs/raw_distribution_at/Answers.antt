@@ -1,5 +1,4 @@
 -- `settings::raw_distribution_at` meets its contract.
-use borrow.Author.Rules.{rules}
 use Rattle.settings.specs.Settings.{raw_distribution_at}
 use Rattle.settings.proofs.raw_distribution_at.Goals as goal
 

@@ -1,6 +1,5 @@
 -- `settings::read` meets its contract.
 use mathlib.Core.Path.{refl}
-use borrow.Author.Rules.{rules}
 use Rattle.settings.specs.Settings.{settings_of}
 use Rattle.settings.proofs.read.Goals as goal
 

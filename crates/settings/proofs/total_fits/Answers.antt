@@ -2,7 +2,6 @@
 use mathlib.Core.Bool.{Bool, ◌&&◌}
 use mathlib.Core.Path.{◌≡◌, sym, ap, ◌∙◌}
 use lib.Ieee.Scale.{finite}
-use borrow.Author.Rules.{rules}
 use Rattle.settings.specs.Accepted.{total_fits}
 use Rattle.settings.proofs.total_fits.Goals as goal
 

@@ -1,9 +1,8 @@
 -- `add` meets its contract.
 use Rattle.std.proofs.Common.{w64}
-use mathlib.Core.Path.{◌≡◌, sym, ap, ◌∙◌}
+use mathlib.Core.Path.{sym, ap, ◌∙◌}
 use lib.Ieee.{of_bits}
 use mir.Facts.{to_z-of_z}
-use Rattle.message_config.specs.Config.{config_start}
 use Rattle.single_add.specs.Stretch.{first_reached, passed_over}
 use Rattle.single_add.proofs.Joined.{blank_part, part_length, blank_length, past_within, past_the_end, all_before, in_window}
 use borrow.Author.Rules.{rules}

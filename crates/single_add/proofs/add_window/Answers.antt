@@ -1,6 +1,5 @@
 -- `add_window` meets its contract.
 use Rattle.single_add.proofs.Joined.{through_memory}
-use borrow.Author.Rules.{rules}
 use Rattle.single_add.proofs.add_window.Goals as goal
 
 pub returns : goal.returns

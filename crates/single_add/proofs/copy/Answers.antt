@@ -1,8 +1,6 @@
 -- `copy` meets its contract. The invariant: i numbers are copied.
-use Prim.Native.Nat.{◌-◌, ◌≤◌}
-use mathlib.Core.Path.{◌≡◌}
-use lib.ListN.{length, take, drop, length-set}
-use Rattle.run_call_model.specs.Buffers.{overwritten}
+use Prim.Native.Nat.{◌-◌}
+use lib.ListN.{length-set}
 use Rattle.single_add.proofs.Loops.{copy_first, copy_next, copy_end}
 use borrow.Author.Rules.{rules}
 use Rattle.single_add.proofs.copy.Goals as goal

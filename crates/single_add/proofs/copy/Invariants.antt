@@ -1,10 +1,8 @@
 -- `copy` meets its contract. The invariant: i numbers are copied.
 use Prim.Native.Nat.{◌-◌, ◌≤◌}
 use mathlib.Core.Path.{◌≡◌}
-use lib.ListN.{length, take, drop, length-set}
+use lib.ListN.{length, take, drop}
 use Rattle.run_call_model.specs.Buffers.{overwritten}
-use Rattle.single_add.proofs.Loops.{copy_first, copy_next, copy_end}
-use borrow.Author.Rules.{rules}
 use Rattle.single_add.proofs.copy.Given as goal
 
 abbrev pub invariant-loop-i : goal.invariant-loop-i

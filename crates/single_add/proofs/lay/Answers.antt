@@ -1,8 +1,6 @@
 -- `lay` meets its contract. The invariant: i numbers are laid.
-use Prim.Native.Nat.{◌-◌, ◌≤◌}
-use mathlib.Core.Path.{◌≡◌}
-use lib.ListN.{length, take, length-set}
-use Rattle.single_add.specs.Stretch.{laid}
+use Prim.Native.Nat.{◌-◌}
+use lib.ListN.{length-set}
 use Rattle.single_add.proofs.Loops.{lay_first, lay_next, lay_end}
 use borrow.Author.Rules.{rules}
 use Rattle.single_add.proofs.lay.Goals as goal

@@ -1,10 +1,8 @@
 -- `lay` meets its contract. The invariant: i numbers are laid.
 use Prim.Native.Nat.{◌-◌, ◌≤◌}
 use mathlib.Core.Path.{◌≡◌}
-use lib.ListN.{length, take, length-set}
+use lib.ListN.{length, take}
 use Rattle.single_add.specs.Stretch.{laid}
-use Rattle.single_add.proofs.Loops.{lay_first, lay_next, lay_end}
-use borrow.Author.Rules.{rules}
 use Rattle.single_add.proofs.lay.Given as goal
 
 abbrev pub invariant-loop-i : goal.invariant-loop-i

@@ -1,6 +1,5 @@
 -- `stretch` meets its contract.
 use Rattle.single_add.proofs.Joined.{other_length, laid_and_added}
-use borrow.Author.Rules.{rules}
 use Rattle.single_add.proofs.stretch.Goals as goal
 
 pub returns-then-noise-output : goal.returns-then-noise-output

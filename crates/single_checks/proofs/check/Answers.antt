@@ -2,7 +2,6 @@
 use mathlib.Core.Path.{◌≡◌}
 use Rattle.single_checks.specs.OrderModel.{first_refusal}
 use Rattle.single_checks.proofs.Decided.{length_refused, duration_refused, ordered}
-use borrow.Author.Rules.{rules}
 use Rattle.single_checks.proofs.check.Goals as goal
 
 pub lengths_wrong-requires : goal.lengths_wrong-requires

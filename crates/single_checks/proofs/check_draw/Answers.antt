@@ -1,6 +1,5 @@
 -- `check_draw` meets its contract.
 use Rattle.single_checks.proofs.Decided.{draw_passes, draw_refused}
-use borrow.Author.Rules.{rules}
 use Rattle.single_checks.proofs.check_draw.Goals as goal
 
 pub returns-in-None : goal.returns-in-None

@@ -1,6 +1,5 @@
 -- `check_noise` meets its contract.
 use Rattle.single_checks.proofs.Decided.{noise_passes, noise_refused}
-use borrow.Author.Rules.{rules}
 use Rattle.single_checks.proofs.check_noise.Goals as goal
 
 pub returns-in-None : goal.returns-in-None

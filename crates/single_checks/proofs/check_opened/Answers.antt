@@ -1,6 +1,5 @@
 -- `check_opened` meets its contract.
 use Rattle.single_checks.proofs.Decided.{opened_run, opened_refused}
-use borrow.Author.Rules.{rules}
 use Rattle.single_checks.proofs.check_opened.Goals as goal
 
 pub returns-in-Run : goal.returns-in-Run

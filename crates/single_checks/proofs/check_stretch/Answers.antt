@@ -1,6 +1,5 @@
 -- `check_stretch` meets its contract.
 use Rattle.single_checks.proofs.Decided.{stretch_refused, stretch_passes}
-use borrow.Author.Rules.{rules}
 use Rattle.single_checks.proofs.check_stretch.Goals as goal
 
 pub stretch_wrong-requires : goal.stretch_wrong-requires

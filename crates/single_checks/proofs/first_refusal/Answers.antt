@@ -1,6 +1,5 @@
 -- `first_refusal` meets its contract.
 use Rattle.single_checks.proofs.Decided.{first_passes, first_refused}
-use borrow.Author.Rules.{rules}
 use Rattle.single_checks.proofs.first_refusal.Goals as goal
 
 pub returns-in-Run : goal.returns-in-Run

@@ -1,6 +1,5 @@
 -- `lengths_wrong` meets its contract.
 use Rattle.single_checks.proofs.Decided.{settings_length_lem, draw_length_lem, output_odd, output_some, output_empty}
-use borrow.Author.Rules.{rules}
 use Rattle.single_checks.proofs.lengths_wrong.Goals as goal
 
 pub returns-then-settings-ne-SETTINGS_LEN : goal.returns-then-settings-ne-SETTINGS_LEN

@@ -1,6 +1,5 @@
 -- `stretch_wrong` meets its contract.
 use Rattle.single_checks.proofs.Decided.{stretch_second, stretch_first}
-use borrow.Author.Rules.{rules}
 use Rattle.single_checks.proofs.stretch_wrong.Goals as goal
 
 pub returns-then-is_twice : goal.returns-then-is_twice

@@ -1,6 +1,5 @@
 -- `make` meets its contract.
 use Rattle.single_run.proofs.Joined.{made}
-use borrow.Author.Rules.{rules}
 use Rattle.single_run.proofs.make.Goals as goal
 
 pub returns : goal.returns

@@ -1,6 +1,5 @@
 -- `single` meets its contract.
 use Rattle.single_run.proofs.Joined.{mode_ac_length_lem, refused, accepted}
-use borrow.Author.Rules.{rules}
 use Rattle.single_run.proofs.single.Goals as goal
 
 pub slice_bounds-make-end-in-Run : goal.slice_bounds-make-end-in-Run

@@ -1,6 +1,6 @@
 -- `tape_feed::call` meets its contract.
 use Rattle.std.proofs.Common.{le_refl, lit<}
-use Rattle.tape_feed.proofs.Parts.{within, part_kept, called}
+use Rattle.tape_feed.proofs.Parts.{within, called}
 use Rattle.tape_feed.proofs.call.Goals as goal
 
 pub place-a-requires : goal.place-a-requires

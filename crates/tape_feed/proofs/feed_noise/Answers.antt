@@ -1,5 +1,4 @@
 -- `tape_feed::feed_noise` meets its contract.
-use Rattle.std.proofs.Common.{rules}
 use Rattle.tape_feed.proofs.Parts.{stays, goes_on}
 use Rattle.tape_feed.proofs.feed_noise.Goals as goal
 

@@ -1,12 +1,9 @@
 -- `tape_floats::float_bytes` meets its contract: after k steps the bytes of the first k values are there.
-use borrow.Author.Rules.{rules}
-use Prim.Native.Nat.{ℕ, ◌-◌, ◌≤◌, ◌/◌, min}
-use mathlib.Core.Path.{◌≡◌, sym, ap, ◌∙◌}
+use Prim.Native.Nat.{◌-◌, ◌≤◌, ◌/◌, min}
+use mathlib.Core.Path.{◌≡◌}
 use lib.ListN.{length, take}
 use Rattle.le_read.specs.LeBytes.{overwritten}
-use Rattle.reply_record.proofs.Overwritten.{none_overwritten}
 use Rattle.tape_floats.specs.Floats.{float_bytes}
-use Rattle.tape_floats.proofs.Rows.{write_next}
 use Rattle.tape_floats.proofs.float_bytes.Given as goal
 
 abbrev pub invariant-loop-k : goal.invariant-loop-k

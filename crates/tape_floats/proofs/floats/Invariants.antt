@@ -1,12 +1,9 @@
 -- `tape_floats::floats` meets its contract: after k steps the first k values are there.
-use borrow.Author.Rules.{rules}
-use Prim.Native.Nat.{ℕ, ◌-◌, ◌≤◌, ◌/◌, min}
-use mathlib.Core.Path.{◌≡◌, refl, sym, ap, ◌∙◌}
-use mathlib.Core.List.{List, ◌++◌}
-use lib.ListN.{length, drop, length-set}
-use lib.Ieee.{Float}
+use Prim.Native.Nat.{◌-◌, ◌≤◌, ◌/◌, min}
+use mathlib.Core.Path.{◌≡◌}
+use mathlib.Core.List.{◌++◌}
+use lib.ListN.{length, drop}
 use Rattle.tape_floats.specs.Floats.{floats_of}
-use Rattle.tape_floats.proofs.Rows.{read_next}
 use Rattle.tape_floats.proofs.floats.Given as goal
 
 abbrev pub invariant-loop-k : goal.invariant-loop-k

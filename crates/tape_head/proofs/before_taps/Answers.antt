@@ -5,7 +5,6 @@ use Rattle.constants.specs.Rate.{four}
 use Rattle.settings.specs.Accepted.{accepted_of}
 use Rattle.tape_sections.proofs.Counts.{counted}
 use Rattle.tape_head.proofs.Sections.{settings_part, early_wrong, early_checked, checked_refused, checked_accepted}
-use borrow.Author.Rules.{rules}
 use Rattle.tape_head.proofs.before_taps.Goals as goal
 
 pub returns-in-Wrong : goal.returns-in-Wrong

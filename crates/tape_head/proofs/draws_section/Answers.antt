@@ -1,5 +1,4 @@
 -- `tape_head::draws_section` meets its contract.
-use borrow.Author.Rules.{rules}
 use mathlib.Core.Path.{sym, ap, ◌∙◌}
 use native.Mathlib.Omega.{arith}
 use Rattle.constants.specs.Rate.{four}

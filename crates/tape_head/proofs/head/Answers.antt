@@ -1,6 +1,5 @@
 -- `tape_head::head` meets its contract.
 use Rattle.tape_head.proofs.Sections.{passed_long, head_refused, head_given}
-use borrow.Author.Rules.{rules}
 use Rattle.tape_head.proofs.head.Goals as goal
 
 pub returns-in-Refused : goal.returns-in-Refused

@@ -1,6 +1,5 @@
 -- `tape_head::is_begun` meets its contract.
 use Rattle.tape_head.proofs.Sections.{a_run, a_refusal}
-use borrow.Author.Rules.{rules}
 use Rattle.tape_head.proofs.is_begun.Goals as goal
 
 pub returns-in-Run : goal.returns-in-Run

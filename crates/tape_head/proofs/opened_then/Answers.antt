@@ -3,7 +3,6 @@ use mathlib.Core.Path.{sym, ap, ◌∙◌}
 use Rattle.constants.specs.Rate.{four}
 use Rattle.tape_head.specs.declared.Beginning as Beginning
 use Rattle.tape_head.specs.Head.{opened_then}
-use borrow.Author.Rules.{rules}
 use Rattle.tape_head.proofs.opened_then.Goals as goal
 
 pub returns-in-Run : goal.returns-in-Run

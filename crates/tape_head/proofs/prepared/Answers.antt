@@ -4,7 +4,6 @@ use native.Mathlib.Omega.{arith}
 use lib.ListN.{length}
 use lib.Seq.{length-take-le}
 use Rattle.tape_head.proofs.Sections.{settings_part, taps_length, taps_before, taps_behind, prepared_from}
-use borrow.Author.Rules.{rules}
 use Rattle.tape_head.proofs.prepared.Goals as goal
 
 pub slice_bounds-prepare-end-2 : goal.slice_bounds-prepare-end-2

@@ -1,8 +1,5 @@
 -- `tape_head::read_taps` meets its contract.
 use borrow.Author.Rules.{rules}
-use Prim.Native.Nat.{ℕ}
-use lib.ListN.{length-replicate}
-use lib.Ieee.{Float}
 use Rattle.tape_head.proofs.Sections.{taps_read}
 use Rattle.tape_head.proofs.read_taps.Goals as goal
 

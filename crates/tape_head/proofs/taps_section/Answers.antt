@@ -1,6 +1,5 @@
 -- `tape_head::taps_section` meets its contract.
 use Rattle.tape_head.proofs.Sections.{taps_passed, taps_wrong}
-use borrow.Author.Rules.{rules}
 use Rattle.tape_head.proofs.taps_section.Goals as goal
 
 pub returns-in-Of : goal.returns-in-Of

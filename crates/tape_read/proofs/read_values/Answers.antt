@@ -4,7 +4,6 @@ use Prim.Native.Nat.{ℕ, ◌*◌, ◌/◌, ◌≤◌, ◌<◌, min}
 use mathlib.Core.Path.{◌≡◌, sym}
 use native.Mathlib.Omega.{arith}
 use lib.Seq.{length-take-le}
-use borrow.Author.Rules.{rules}
 use Rattle.tape_read.proofs.read_values.Goals as goal
 
 all_read : (size want row row' : ℕ) {n k : ℕ} → want ≤ row → size ≤ 4 * want → (size < 4 * want → size ≡ 0) → k ≡ size → n ≡ min (k / 4) row → row' ≡ row → (n ≤ row') × (n ≤ want) × (n < want → n ≡ 0)

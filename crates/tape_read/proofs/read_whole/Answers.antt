@@ -1,5 +1,4 @@
 -- `tape_read::read_whole` is safe, and counts all that was asked for or nothing.
-use borrow.Author.Rules.{rules}
 use native.Mathlib.Omega.{arith}
 use lib.ListN.{length-take}
 use Rattle.tape_read.proofs.read_whole.Goals as goal

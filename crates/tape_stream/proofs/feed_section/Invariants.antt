@@ -1,12 +1,10 @@
 -- `tape_stream::feed_section` is safe, ends, and feeds its run noise that is cut as tape_theory/specs/PlainTape asks.
-use Prim.Native.Nat.{ℕ, ◌+◌, ◌-◌, ◌*◌, ◌≤◌, ◌<◌, min, zero-le}
+use Prim.Native.Nat.{◌+◌, ◌-◌, ◌*◌, ◌≤◌, ◌<◌, min}
 use mathlib.Core.Bool.{false}
-use mathlib.Core.Logic.{◌⊎◌, inl, inr}
-use mathlib.Core.Path.{◌≡◌, refl, sym, ap, ◌∙◌}
-use native.Mathlib.Omega.{arith}
+use mathlib.Core.Logic.{◌⊎◌}
+use mathlib.Core.Path.{◌≡◌}
 use lib.ListN.{length}
-use lib.Seq.{length-take-le}
-use Rattle.tape_theory.proofs.Section.{Going, going_first, going_end, no_more, fewer_left, turned, next_step}
+use Rattle.tape_theory.proofs.Section.{Going}
 use Rattle.tape_stream.proofs.feed_section.Given as goal
 
 abbrev pub invariant-loop-turns : goal.invariant-loop-turns

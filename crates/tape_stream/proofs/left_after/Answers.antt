@@ -1,7 +1,7 @@
 -- `tape_stream::left_after` meets its contract.
 use Prim.Native.Nat.{ℕ}
 use mathlib.Core.Bool.{Bool, false, cond}
-use mathlib.Core.Path.{◌≡◌, refl, sym, ap, ◌∙◌}
+use mathlib.Core.Path.{◌≡◌, sym, ap, ◌∙◌}
 use Rattle.tape_stream.proofs.left_after.Goals as goal
 
 not_short : (short : Bool) (r n : ℕ) → short ≡ false → r ≡ n → r ≡ cond short 0 n

@@ -1,5 +1,4 @@
 -- `tape_stream::write_samples` is safe.
-use borrow.Author.Rules.{rules}
 use native.Mathlib.Omega.{arith}
 use lib.ListN.{length-take}
 use Rattle.tape_stream.proofs.write_samples.Goals as goal

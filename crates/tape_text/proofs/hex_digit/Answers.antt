@@ -1,7 +1,6 @@
 -- `tape_text::hex_digit` meets its contract.
 use borrow.Author.Rules.{rules}
 use borrow.Author.Tests.{lt-ltb, le-ltb}
-use mathlib.Core.Path.{sym, ap}
 use Rattle.tape_text.specs.Text.{hex_digit}
 use Rattle.tape_text.proofs.hex_digit.Goals as goal
 

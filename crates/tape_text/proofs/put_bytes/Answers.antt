@@ -1,8 +1,8 @@
 -- `tape_text::put_bytes` meets its contract: after k steps the first k bytes are written.
 use borrow.Author.Rules.{rules}
-use Prim.Native.Nat.{◌-◌, ◌≤◌}
-use mathlib.Core.Path.{◌≡◌, ap, ◌∙◌}
-use lib.ListN.{length, take, length-set}
+use Prim.Native.Nat.{◌-◌}
+use mathlib.Core.Path.{ap, ◌∙◌}
+use lib.ListN.{length-set}
 use lib.Seq.{take_all}
 use Rattle.le_read.specs.LeBytes.{overwritten}
 use Rattle.reply_record.proofs.Overwritten.{none_overwritten, next_byte}

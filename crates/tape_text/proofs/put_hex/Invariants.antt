@@ -1,12 +1,9 @@
 -- `tape_text::put_hex` meets its contract: after k steps the first k bytes are there in hexadecimal.
-use borrow.Author.Rules.{rules}
-use Prim.Native.Nat.{ℕ, ◌-◌, ◌≤◌}
-use mathlib.Core.Path.{◌≡◌, sym, ap, ◌∙◌}
+use Prim.Native.Nat.{◌-◌, ◌≤◌}
+use mathlib.Core.Path.{◌≡◌}
 use lib.ListN.{length, take}
 use Rattle.le_read.specs.LeBytes.{overwritten}
-use Rattle.reply_record.proofs.Overwritten.{none_overwritten}
 use Rattle.tape_text.specs.Text.{hex}
-use Rattle.tape_text.proofs.Puts.{hex_of_first}
 use Rattle.tape_text.proofs.put_hex.Given as goal
 
 abbrev pub invariant-loop-k : goal.invariant-loop-k

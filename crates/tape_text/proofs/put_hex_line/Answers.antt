@@ -1,7 +1,5 @@
 -- `tape_text::put_hex_line` meets its contract.
-use borrow.Author.Rules.{rules}
 use mathlib.Core.Path.{refl}
-use lib.ListN.{length-set}
 use Rattle.le_read.proofs.Halves.{overwritten_one}
 use Rattle.tape_text.proofs.Lines.{hex_line_put}
 use Rattle.tape_text.proofs.put_hex_line.Goals as goal

@@ -1,7 +1,7 @@
 -- `tape_text::put_lines` meets its contract: the invariant is `Going`.
 use borrow.Author.Rules.{rules}
 use Prim.Native.Nat.{◌-◌}
-use Rattle.tape_text.proofs.Lines.{Going, first, next_line, last_line}
+use Rattle.tape_text.proofs.Lines.{first, next_line, last_line}
 use Rattle.tape_text.proofs.put_lines.Goals as goal
 
 pub loop-k-init : goal.loop-k-init

@@ -1,7 +1,6 @@
 -- `tape_text::put_lines` meets its contract: the invariant is `Going`.
-use borrow.Author.Rules.{rules}
 use Prim.Native.Nat.{◌-◌}
-use Rattle.tape_text.proofs.Lines.{Going, first, next_line, last_line}
+use Rattle.tape_text.proofs.Lines.{Going}
 use Rattle.tape_text.proofs.put_lines.Given as goal
 
 abbrev pub invariant-loop-k : goal.invariant-loop-k

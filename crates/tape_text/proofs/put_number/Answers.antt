@@ -1,7 +1,6 @@
 -- `tape_text::put_number` meets its contract.
 use borrow.Author.Rules.{rules}
 use native.Mathlib.Omega.{arith}
-use lib.ListN.{length-set}
 use Rattle.le_read.proofs.Halves.{overwritten_one}
 use Rattle.tape_text.proofs.Decimal.{few_digits}
 use Rattle.tape_text.proofs.Lines.{number_put}

@@ -1,6 +1,5 @@
 -- `tape_verdict::is_done` meets its contract.
 use mathlib.Core.Path.{sym, ap}
-use borrow.Author.Rules.{rules}
 use Rattle.tape_verdict.specs.Verdict.{outcome_done}
 use Rattle.tape_verdict.proofs.is_done.Goals as goal
 

@@ -1,5 +1,4 @@
 -- `tape_verdict::of_stop` meets its contract.
-use borrow.Author.Rules.{rules}
 use mathlib.Core.Path.{refl, sym, ap, ◌∙◌}
 use Rattle.tape_verdict.specs.Verdict.{stop_then}
 use Rattle.tape_verdict.proofs.of_stop.Goals as goal

@@ -1,6 +1,5 @@
 -- `tape_verdict::start` meets its contract.
-use borrow.Author.Rules.{rules}
-use mathlib.Core.Path.{refl, sym, ap, ◌∙◌}
+use mathlib.Core.Path.{refl}
 use Rattle.tape_verdict.specs.Verdict.{start_of}
 use Rattle.tape_verdict.proofs.start.Goals as goal
 

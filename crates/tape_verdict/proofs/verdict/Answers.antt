@@ -1,5 +1,4 @@
 -- `tape_verdict::verdict` meets its contract.
-use borrow.Author.Rules.{rules}
 use mathlib.Core.Bool.{Bool}
 use mathlib.Core.Path.{sym, ap, ◌∙◌}
 use Rattle.tape_verdict.specs.Verdict.{answer_then, verdict_of}

@@ -1,7 +1,5 @@
 -- The digits are read one after the other.
-use Rattle.std.proofs.Common.{◌-◌, ◌≤◌, length, arith, rules}
-use Rattle.test_floats.proofs.hexadecimal.Reads as reads
-use Rattle.test_floats.proofs.digit.Reads as digit-reads
+use Rattle.std.proofs.Common.{◌-◌, ◌≤◌, length}
 use Rattle.test_floats.proofs.hexadecimal.Given as goal
 
 abbrev pub invariant-loop-k : goal.invariant-loop-k

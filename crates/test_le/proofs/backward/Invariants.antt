@@ -1,6 +1,5 @@
 -- `backward` meets its contract. Nine offsets are counted.
 use Prim.Native.Nat.{◌-◌, ◌≤◌}
-use borrow.Author.Rules.{rules}
 use Rattle.test_le.proofs.backward.Given as goal
 
 abbrev pub invariant-loop-k : goal.invariant-loop-k

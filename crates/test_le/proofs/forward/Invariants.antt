@@ -1,7 +1,6 @@
 -- `forward` meets its contract. The offsets are counted up to one past the end.
 use Prim.Native.Nat.{◌+◌, ◌-◌, ◌≤◌}
 use lib.ListN.{length}
-use borrow.Author.Rules.{rules}
 use Rattle.test_le.proofs.forward.Given as goal
 
 abbrev pub invariant-loop-at : goal.invariant-loop-at

@@ -1,6 +1,5 @@
 -- `test_pulses::digest` meets its contract.
 use Prim.Native.Nat.{◌-◌, ◌≤◌, ◌<◌}
-use borrow.Author.Rules.{rules}
 use Rattle.test_pulses.proofs.digest.Given as goal
 
 abbrev pub invariant-loop-k : goal.invariant-loop-k

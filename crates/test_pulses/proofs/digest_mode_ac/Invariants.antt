@@ -1,6 +1,5 @@
 -- `test_pulses::digest_mode_ac` meets its contract.
 use Prim.Native.Nat.{◌-◌, ◌≤◌, ◌<◌}
-use borrow.Author.Rules.{rules}
 use Rattle.test_pulses.proofs.digest_mode_ac.Given as goal
 
 abbrev pub invariant-loop-data : goal.invariant-loop-data

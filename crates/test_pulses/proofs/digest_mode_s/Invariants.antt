@@ -1,6 +1,5 @@
 -- `test_pulses::digest_mode_s` meets its contract.
 use Prim.Native.Nat.{◌-◌, ◌≤◌, ◌<◌}
-use borrow.Author.Rules.{rules}
 use Rattle.test_pulses.proofs.digest_mode_s.Given as goal
 
 abbrev pub invariant-loop-seed : goal.invariant-loop-seed

@@ -1,6 +1,5 @@
 -- `test_pulses::equal` meets its contract.
 use Prim.Native.Nat.{◌-◌, ◌≤◌}
-use borrow.Author.Rules.{rules}
 use Rattle.test_pulses.proofs.equal.Given as goal
 
 abbrev pub invariant-loop-k : goal.invariant-loop-k

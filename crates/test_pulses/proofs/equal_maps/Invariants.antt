@@ -1,6 +1,5 @@
 -- `test_pulses::equal_maps` meets its contract.
 use Prim.Native.Nat.{◌-◌, ◌≤◌}
-use borrow.Author.Rules.{rules}
 use Rattle.test_pulses.proofs.equal_maps.Given as goal
 
 abbrev pub invariant-loop-data : goal.invariant-loop-data

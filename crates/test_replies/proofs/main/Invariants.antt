@@ -1,6 +1,5 @@
 -- `test_replies::main` ends: its steps are counted down.
 use Prim.Native.Nat.{◌≤◌}
-use borrow.Author.Rules.{rules}
 use Rattle.test_replies.proofs.main.Given as goal
 
 abbrev pub invariant-loop-turns : goal.invariant-loop-turns

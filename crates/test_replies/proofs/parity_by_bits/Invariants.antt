@@ -1,7 +1,6 @@
 -- `test_replies::parity_by_bits` is safe and ends.
 use Prim.Native.Nat.{◌≤◌, ◌-◌}
 use lib.ListN.{length}
-use borrow.Author.Rules.{rules}
 use Rattle.test_replies.proofs.parity_by_bits.Given as goal
 
 abbrev pub invariant-loop-i : goal.invariant-loop-i

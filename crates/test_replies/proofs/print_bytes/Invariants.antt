@@ -1,6 +1,5 @@
 -- `test_replies::print_bytes` is safe and ends.
 use Prim.Native.Nat.{◌≤◌, ◌-◌}
-use borrow.Author.Rules.{rules}
 use Rattle.test_replies.proofs.print_bytes.Given as goal
 
 abbrev pub invariant-loop-i : goal.invariant-loop-i

@@ -1,7 +1,6 @@
 -- `test_replies::print_parities` is safe: the part passed on is as long as was asked.
 use mathlib.Core.Path.{sym}
 use lib.Seq.{length-take-le}
-use borrow.Author.Rules.{rules}
 use Rattle.test_replies.proofs.print_parities.Goals as goal
 
 pub slice_bounds-parity-end : goal.slice_bounds-parity-end

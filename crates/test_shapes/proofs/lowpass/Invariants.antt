@@ -1,5 +1,5 @@
 -- `lowpass` meets its contract.
-use Rattle.std.proofs.Common.{◌≡◌, ◌-◌, ◌<◌, ◌≤◌, length, length-set, rules}
+use Rattle.std.proofs.Common.{◌≡◌, ◌-◌, ◌<◌, ◌≤◌, length}
 use Rattle.test_shapes.proofs.lowpass.Given as goal
 
 abbrev pub invariant-loop-k : goal.invariant-loop-k

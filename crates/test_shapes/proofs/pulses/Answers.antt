@@ -1,5 +1,5 @@
 -- `pulses` meets its contract.
-use Rattle.std.proofs.Common.{◌≡◌, ◌-◌, ◌<◌, ◌≤◌, length, length-set, rules}
+use Rattle.std.proofs.Common.{◌-◌, length-set, rules}
 use Rattle.test_shapes.proofs.pulses.Goals as goal
 
 pub loop-k-preserved : goal.loop-k-preserved

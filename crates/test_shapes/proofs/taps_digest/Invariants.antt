@@ -1,5 +1,5 @@
 -- `taps_digest` meets its contract.
-use Rattle.std.proofs.Common.{◌-◌, ◌<◌, ◌≤◌, rules}
+use Rattle.std.proofs.Common.{◌-◌, ◌<◌, ◌≤◌}
 use Rattle.test_shapes.proofs.taps_digest.Given as goal
 
 abbrev pub invariant-loop-k : goal.invariant-loop-k

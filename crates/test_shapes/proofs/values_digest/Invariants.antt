@@ -1,5 +1,5 @@
 -- `values_digest` meets its contract.
-use Rattle.std.proofs.Common.{◌-◌, ◌<◌, ◌≤◌, length, rules}
+use Rattle.std.proofs.Common.{◌-◌, ◌<◌, ◌≤◌, length}
 use Rattle.test_shapes.proofs.values_digest.Given as goal
 
 abbrev pub invariant-loop-k : goal.invariant-loop-k

@@ -1,6 +1,5 @@
 -- `test_sin_cos::count` is safe and ends. The loop's invariant: at most as many agree as rows were tried.
 use Prim.Native.Nat.{◌-◌, ◌≤◌}
-use borrow.Author.Rules.{rules}
 use Rattle.test_sin_cos.proofs.count.Given as goal
 
 abbrev pub invariant-loop-i : goal.invariant-loop-i

@@ -2,7 +2,6 @@
 use mathlib.Core.Path.{◌≡◌}
 use mathlib.Core.Bool.{true, not, true≢false}
 use mathlib.Core.Path.{sym}
-use borrow.Author.Rules.{rules}
 use lib.Dec.{T}
 use lib.Ieee.{Float, nan, inf, fin, eq, is_nan}
 use Rattle.test_sin_cos.proofs.same.Goals as goal

@@ -1,5 +1,4 @@
 -- `SamplesPerPulse::memory_len` meets its contract.
-use borrow.Author.Rules.{rules}
 use mathlib.Core.Path.{refl}
 use Rattle.constants.specs.Rate.{working_memory}
 use Rattle.constants.proofs.Settings.{either_is}

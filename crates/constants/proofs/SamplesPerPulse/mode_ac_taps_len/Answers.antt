@@ -1,5 +1,4 @@
 -- `SamplesPerPulse::mode_ac_taps_len` meets its contract.
-use borrow.Author.Rules.{rules}
 use mathlib.Core.Path.{refl}
 use Rattle.constants.specs.Rate.{mode_ac_taps}
 use Rattle.constants.proofs.Settings.{either_is}

@@ -1,5 +1,4 @@
 -- `SamplesPerPulse::prototype_len` meets its contract.
-use borrow.Author.Rules.{rules}
 use mathlib.Core.Path.{refl}
 use lib.Dec.{lit≤}
 use Rattle.constants.specs.Rate.{prototype_length}

@@ -1,5 +1,4 @@
 -- `SamplesPerPulse::ring_slots` meets its contract.
-use borrow.Author.Rules.{rules}
 use mathlib.Core.Path.{refl}
 use Prim.Native.Nat.{ℕ, ◌+◌}
 use lib.Dec.{lit≤}

@@ -1,6 +1,5 @@
 -- `message_config::MessageConfig::first_sample_index` meets its contract.
-use Rattle.std.proofs.Common.{w64, ◌≡◌, ◌∙◌, to_z-of_z, rules}
-use Rattle.message_config.specs.Timing.{start_of}
+use Rattle.std.proofs.Common.{w64, ◌∙◌, to_z-of_z}
 use Rattle.message_config.proofs.Joined.{start_is}
 use Rattle.message_config.proofs.MessageConfig.first_sample_index.Goals as goal
 

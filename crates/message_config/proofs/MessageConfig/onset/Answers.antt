@@ -1,5 +1,5 @@
 -- `message_config::MessageConfig::onset` meets its contract.
-use Rattle.std.proofs.Common.{w64, ◌∙◌, to_z-of_z, rules}
+use Rattle.std.proofs.Common.{w64, ◌∙◌, to_z-of_z}
 use Rattle.message_config.proofs.Joined.{onset_is}
 use Rattle.message_config.proofs.MessageConfig.onset.Goals as goal
 

@@ -1,7 +1,6 @@
 -- `ModeACReply::abcd` meets its contract: each digit is what `octal` gives.
 use Prim.Native.Nat.{ℕ}
 use mathlib.Core.Path.{◌≡◌}
-use borrow.Author.Rules.{rules}
 use Rattle.mode_ac.specs.Data.{digit_a, digit_b, digit_c, digit_d, digits_of}
 use Rattle.mode_ac.proofs.ModeACReply.abcd.Goals as goal
 

@@ -1,6 +1,5 @@
 -- `ModeACReply::from_abcd` meets its contract.
 use mathlib.Core.Path.{◌∙◌}
-use borrow.Author.Rules.{rules}
 use native.Mathlib.Omega.{arith}
 use Rattle.mode_ac.specs.Building.{answer_of}
 use Rattle.mode_ac.proofs.DataOfDigits.{accepted, wrong_a, wrong_b, wrong_c, wrong_d}

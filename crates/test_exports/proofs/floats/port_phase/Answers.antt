@@ -1,6 +1,5 @@
 -- `test_exports::port_phase` meets its contract.
 use mathlib.Core.Path.{refl}
-use borrow.Author.Rules.{rules}
 use Rattle.test_exports.proofs.floats.port_phase.Goals as goal
 
 pub returns : goal.returns

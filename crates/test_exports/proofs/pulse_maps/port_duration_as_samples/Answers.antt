@@ -1,6 +1,5 @@
 -- `test_exports::port_duration_as_samples` meets its contract.
 use mathlib.Core.Path.{refl}
-use borrow.Author.Rules.{rules}
 use Rattle.test_exports.proofs.pulse_maps.port_duration_as_samples.Goals as goal
 
 pub returns : goal.returns

@@ -1,6 +1,5 @@
 -- `test_exports::port_mode_s_pulses` meets its contract.
 use mathlib.Core.Path.{refl}
-use borrow.Author.Rules.{rules}
 use Rattle.test_exports.proofs.pulse_maps.port_mode_s_pulses.Goals as goal
 
 pub returns : goal.returns

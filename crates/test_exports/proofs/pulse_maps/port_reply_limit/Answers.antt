@@ -1,5 +1,4 @@
 -- `port_reply_limit` meets its contract.
-use borrow.Author.Rules.{rules}
 use Rattle.test_exports.proofs.pulse_maps.port_reply_limit.Goals as goal
 
 pub returns : goal.returns

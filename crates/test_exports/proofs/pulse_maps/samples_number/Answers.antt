@@ -3,7 +3,6 @@ use mathlib.Core.Path.{sym, ap}
 use Rattle.settings_duration.specs.Duration.{answer_of}
 use Rattle.settings_duration.specs.declared.InSamples.{InSamples}
 use Rattle.test_exports.specs.Pulses.{samples_number}
-use borrow.Author.Rules.{rules}
 use Rattle.test_exports.proofs.pulse_maps.samples_number.Goals as goal
 
 pub returns-in-Samples : goal.returns-in-Samples

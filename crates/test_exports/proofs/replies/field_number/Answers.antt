@@ -1,7 +1,6 @@
 -- `test_exports::field_number` meets its contract.
 use mathlib.Core.Path.{sym, ap}
 use Rattle.test_exports.specs.Replies.{field_number}
-use borrow.Author.Rules.{rules}
 use Rattle.test_exports.proofs.replies.field_number.Goals as goal
 
 pub returns-in-NoFault : goal.returns-in-NoFault

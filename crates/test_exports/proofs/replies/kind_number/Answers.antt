@@ -1,7 +1,6 @@
 -- `test_exports::kind_number` meets its contract, kind by kind.
 use mathlib.Core.Path.{sym, ap}
 use Rattle.test_exports.specs.Replies.{kind_number}
-use borrow.Author.Rules.{rules}
 use Rattle.test_exports.proofs.replies.kind_number.Goals as goal
 
 pub returns-in-Short : goal.returns-in-Short

@@ -2,7 +2,6 @@
 use mathlib.Core.Path.{sym, ap, ◌∙◌}
 use Rattle.message.specs.declared.TypeFound.{TypeFound}
 use Rattle.test_exports.specs.Replies.{made_for}
-use borrow.Author.Rules.{rules}
 use Rattle.test_exports.proofs.replies.make.Goals as goal
 
 pub returns-in-Of : goal.returns-in-Of

@@ -1,6 +1,5 @@
 -- `test_exports::port_from_message` meets its contract.
 use Rattle.test_exports.specs.Replies.{reply_with}
-use borrow.Author.Rules.{rules}
 use Rattle.test_exports.proofs.replies.port_from_message.Goals as goal
 
 pub returns : goal.returns

@@ -2,7 +2,6 @@
 use mathlib.Core.Path.{refl, ap}
 use Rattle.message.specs.declared.Made.{Made}
 use Rattle.test_exports.specs.Replies.{picks_of}
-use borrow.Author.Rules.{rules}
 use Rattle.test_exports.proofs.replies.port_make.Goals as goal
 
 pub returns : goal.returns

@@ -1,5 +1,4 @@
 -- `test_exports::port_add_reply` meets its contract: it hands on what it calls.
-use borrow.Author.Rules.{rules}
 use mathlib.Core.Path.{refl, ◌∙◌}
 use Rattle.test_exports.proofs.samples.port_add_reply.Goals as goal
 

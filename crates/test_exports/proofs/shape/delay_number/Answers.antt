@@ -1,7 +1,6 @@
 -- `test_exports::delay_number` meets its contract.
 use mathlib.Core.Path.{sym, ap}
 use Rattle.test_exports.specs.Shape.{delay_number}
-use borrow.Author.Rules.{rules}
 use Rattle.test_exports.proofs.shape.delay_number.Goals as goal
 
 pub returns-in-At : goal.returns-in-At

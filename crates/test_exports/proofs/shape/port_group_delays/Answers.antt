@@ -1,6 +1,5 @@
 -- `test_exports::port_group_delays` meets its contract.
 use mathlib.Core.Path.{refl}
-use borrow.Author.Rules.{rules}
 use Rattle.test_exports.proofs.shape.port_group_delays.Goals as goal
 
 pub returns : goal.returns

@@ -2,7 +2,6 @@
 use mathlib.Core.Path.{sym, ap, ◌∙◌}
 use Rattle.distributions.specs.declared.ClockAnswer.{ClockAnswer}
 use Rattle.test_exports.specs.Drawn.{error_drawn, no_number}
-use borrow.Author.Rules.{rules}
 use Rattle.test_exports.proofs.starts.error_drawn.Goals as goal
 
 pub returns-in-Accepted : goal.returns-in-Accepted

@@ -2,7 +2,6 @@
 use mathlib.Core.Path.{sym, ap, ◌∙◌}
 use Rattle.distributions.specs.declared.PhaseAnswer.{PhaseAnswer}
 use Rattle.test_exports.specs.Drawn.{phase_drawn, no_number}
-use borrow.Author.Rules.{rules}
 use Rattle.test_exports.proofs.starts.phase_drawn.Goals as goal
 
 pub returns-in-Accepted : goal.returns-in-Accepted

@@ -1,7 +1,6 @@
 -- `test_exports::port_drawn` meets its contract.
 use Rattle.test_exports.specs.Drawn.{raw_distribution_of}
 use mathlib.Core.Path.{refl}
-use borrow.Author.Rules.{rules}
 use Rattle.test_exports.proofs.starts.port_drawn.Goals as goal
 
 pub returns : goal.returns

@@ -4,7 +4,6 @@ use mathlib.Core.Path.{◌∙◌}
 use mir.Facts.{to_z-of_z}
 use Rattle.test_exports.specs.Messages.{delays_at}
 use Rattle.test_exports.proofs.Crossed.{start_crosses, onset_crosses}
-use borrow.Author.Rules.{rules}
 use Rattle.test_exports.proofs.starts.port_message.Goals as goal
 
 pub returns : goal.returns

@@ -1,6 +1,5 @@
 -- `test_exports::port_next_clock` meets its contract.
 use mathlib.Core.Path.{refl, ap}
-use borrow.Author.Rules.{rules}
 use native.Mathlib.Omega.{arith}
 use Rattle.filterbank.specs.declared.Clock.{Clock}
 use Rattle.test_exports.proofs.taps.port_next_clock.Goals as goal

@@ -2,7 +2,6 @@
 use mathlib.Core.Path.{◌≡◌, refl}
 use lib.ListN.{take}
 use Rattle.filterbank.specs.PaddedPulsesModel.{pad_pulses}
-use borrow.Author.Rules.{rules}
 use Rattle.test_exports.proofs.taps.port_pulse_sum.Goals as goal
 
 pub returns : goal.returns

@@ -1,6 +1,5 @@
 -- `test_exports::port_start_clock` meets its contract.
 use mathlib.Core.Path.{refl}
-use borrow.Author.Rules.{rules}
 use Rattle.test_exports.proofs.taps.port_start_clock.Goals as goal
 
 pub returns : goal.returns
