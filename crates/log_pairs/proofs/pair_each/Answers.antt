@@ -44,7 +44,7 @@ loop-i-preserved c =
     let v = c.advance-lo in
     let e = t.ensures in
     let old = lists l.partners l.owners l.pairs in
-    let new = lists t.new.0 t.new.1.0 t.result in
+    let new = lists t.new.partners t.new.owners t.result in
     let lt = c.loop-i-test.true in
     let long = paired_owners old new l.i p.result e in (
       omega (arith, lt),
@@ -53,7 +53,7 @@ loop-i-preserved c =
       long ∙ l.invariant.3,
       omega (arith, paired_pairs old new l.i p.result e, l.invariant.4),
       omega (arith, v.ensures.0, long),
-      past_taken (first_of a.records.now) a.d (free_in l.owners) (free_in t.new.1.0) c.sample_at-h.result v.result
+      past_taken (first_of a.records.now) a.d (free_in l.owners) (free_in t.new.owners) c.sample_at-h.result v.result
           (paired_taken old new l.i p.result (omega (arith, lt, l.invariant.8)) (subst (λ (x : ℕ). Below x p.result) (sym (l.invariant.3 ∙ pre.2)) p.ensures.1) e)
           v.ensures.1,
       turn (logs a.log.now a.records.now a.d) (length a.log.now / 23) l.i old new p.result lt p.ensures.0 e ∙ l.invariant.7,

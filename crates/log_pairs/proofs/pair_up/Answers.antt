@@ -13,4 +13,4 @@ pub returns : goal.returns
 returns c =
     let a = c.args in
     let p = c.pair_fitting in
-    both_fit a.log.now a.records.now a.d a.partners.now a.owners.now c.if-partners-log.false (lists p.new.1.1.1.0 p.new.1.1.1.1.0 p.result) c.if-owners-records.false p.ensures
+    both_fit a.log.now a.records.now a.d a.partners.now a.owners.now c.if-partners-log.false (lists p.new.partners p.new.owners p.result) c.if-owners-records.false p.ensures

@@ -6,4 +6,4 @@ pub returns : goal.returns
 returns c =
     let a = c.args in
     let k = c.compare_log-compared in
-    flat_left_lem a.log.now a.records.now a.tolerance a.partners.now a.owners.now k.new.1.1.1.0 k.new.1.1.1.1.0 k.result c.flat.result k.ensures c.flat.ensures
+    flat_left_lem a.log.now a.records.now a.tolerance a.partners.now a.owners.now k.new.partners k.new.owners k.result c.flat.result k.ensures c.flat.ensures

@@ -19,4 +19,4 @@ pub floats-requires : goal.floats-requires
 floats-requires c = tt
 
 pub returns : goal.returns
-returns c = all_read _ _ _ _ (omega (arith, c.if-row-want.false)) c.read_whole-size.ensures.1 c.read_whole-size.ensures.2 (length-take-le _ _ (array_share_prefix_bytes c)) c.floats.ensures.0 c.floats.auto.1.0
+returns c = all_read _ _ _ _ (omega (arith, c.if-row-want.false)) c.read_whole-size.ensures.1 c.read_whole-size.ensures.2 (length-take-le _ _ (array_share_prefix_bytes c)) c.floats.ensures.0 c.floats.auto.out

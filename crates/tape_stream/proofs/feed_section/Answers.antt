@@ -55,8 +55,8 @@ loop-turns-preserved c =
     let t = turned c.read_values-n.result c.loop-turns.want _ _ _ _ c.put_samples-untaken.result c.either-short.result c.read_values-n.ensures.1 c.loop-turns.invariant.4 c.loop-turns.invariant.0 c.either-short.ensures c.left_after-left.ensures c.least-want.ensures c.least-turns.ensures in (
       omega (arith, c.least-want.ensures),
       omega (arith, c.least-want.ensures),
-      c.feed_noise-f.auto.1.1.1.0 ∙ c.loop-turns.invariant.2,
-      c.feed_noise-f.auto.1.1.1.1.1.1.1.0 ∙ c.loop-turns.invariant.3,
+      c.feed_noise-f.auto.memory ∙ c.loop-turns.invariant.2,
+      c.feed_noise-f.auto.records ∙ c.loop-turns.invariant.3,
       inr (omega (arith, c.least-want.ensures)),
       t.goes_on,
       t.over,

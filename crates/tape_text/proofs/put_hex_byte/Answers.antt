@@ -3,6 +3,7 @@ use Prim.Native.Nat.{◌+◌}
 use native.Mathlib.Omega.{arith}
 use lib.ListN.{length-set}
 use Rattle.le_read.proofs.Halves.{overwritten_one}
+use borrow.Author.Rules.{rules}
 use Rattle.tape_text.proofs.Puts.{hex_byte}
 use Rattle.tape_text.proofs.put_hex_byte.Goals as goal
 
@@ -14,4 +15,4 @@ shape_of-out c = simp length-set
 
 pub returns : goal.returns
 returns c =
-    hex_byte c.args.out.now c.args.at c.args.b _ _ _ _ c.requires c.hex_digit-high.ensures c.hex_digit-low.ensures (overwritten_one c.args.out.now c.args.at _ (slice_write_out c)) (overwritten_one _ (c.args.at + 1) _ (slice_write_out_2 c))
+    hex_byte c.args.out.now c.args.at c.args.b _ _ _ _ c.requires c.hex_digit-high.ensures c.hex_digit-low.ensures (overwritten_one c.args.out.now c.args.at _ (search rules)) (overwritten_one _ (c.args.at + 1) _ (search rules))

@@ -16,4 +16,4 @@ pub overflow_add-result : goal.overflow_add-result
 overflow_add-result c = omega (arith, few_digits _ _ c.ranges.n.fits c.decimal-k.ensures.1.0, c.decimal-k.ensures.0.1, c.put_bytes-end.ensures.ends)
 
 pub returns : goal.returns
-returns c = number_put _ _ _ _ c.ranges.n.fits c.decimal-k.ensures.1.0 c.decimal-k.ensures.1.1 c.requires c.put_bytes-end.ensures (overwritten_one _ _ _ (slice_write_out c)) (search rules)
+returns c = number_put _ _ _ _ c.ranges.n.fits c.decimal-k.ensures.1.0 c.decimal-k.ensures.1.1 c.requires c.put_bytes-end.ensures (overwritten_one _ _ _ (omega (arith, few_digits _ _ c.ranges.n.fits c.decimal-k.ensures.1.0, c.decimal-k.ensures.0.1, c.put_bytes-end.ensures.ends))) (search rules)
