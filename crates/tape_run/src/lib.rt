@@ -6,9 +6,10 @@ ghost use Rattle.std.specs.Prelude.{◌≡◌, cond, length};
 ghost use Rattle.tape_theory.specs.Reported.{Reported, records_lent};
 
 use constants::{DRAW_LEN, MEMORY_LEN, PROTOTYPE_LEN};
+use std::io::Error;
 use tape_head::Beginning;
 use tape_sections::{DRAWS_OFFSET, LONGEST_HEAD_LEN, MAX_RECORDS_LEN};
-use tape_stream::Output;
+pub use tape_stream::Output;
 use tape_verdict::Outcome;
 
 // A copy of the bytes given for records: a run that is not done leaves those as they were.
@@ -58,5 +59,21 @@ pub fn run_tape(samples: bool, records: &mut [u8; MAX_RECORDS_LEN], to: &mut Out
             keep(tape_verdict::is_done(outcome), own, records);
             outcome
         }
+    }
+}
+
+// A line on standard error: what failed, as the caller names it, a colon and the system's words for why.
+pub fn fail(rt: &(impl Eprint + Alloc), what: &str, error: &Error) {
+    let _ = match format!(in rt.alloc(); "{error}") {
+        Ok(text) => eprintln!(rt; "{what}: {}", words(text.as_str())),
+        Err(_) => eprintln!(rt; "{what}: {error}"),
+    };
+}
+
+// The system's words, without the number that std puts behind them in brackets.
+fn words(text: &str) -> &str {
+    match text.split_once(" (os error ") {
+        Some((said, _)) => said,
+        None => text,
     }
 }
