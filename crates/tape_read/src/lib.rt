@@ -4,8 +4,7 @@
 ghost use Rattle.std.specs.Prelude.{◌≡◌, ◌≤◌, ◌<◌, length};
 ghost use Rattle.io.specs.Counts.{IsPrefixLen};
 
-use libc::STDIN_FILENO;
-use tape_sections::{CHUNK_BYTES, CHUNK_LEN, DRAWS_OFFSET, LONGEST_HEAD_LEN};
+use tape_sections::{CHUNK_BYTES, CHUNK_LEN, DRAWS_OFFSET, LONGEST_HEAD_LEN, STDIN_FILENO};
 
 // All that was asked for, or nothing.
 fn all_or_none(size: usize, got: usize) -> usize

@@ -6,8 +6,10 @@ ghost use Rattle.std.specs.Prelude.{◌≡◌, cond, length};
 ghost use Rattle.tape_theory.specs.Reported.{Reported, records_lent};
 
 use constants::{DRAW_LEN, MEMORY_LEN, PROTOTYPE_LEN};
+use std::io::Error;
 use tape_head::Beginning;
 use tape_sections::{DRAWS_OFFSET, LONGEST_HEAD_LEN, MAX_RECORDS_LEN};
+pub use tape_stream::Output;
 use tape_verdict::Outcome;
 
 // A copy of the bytes given for records: a run that is not done leaves those as they were.
@@ -27,7 +29,7 @@ fn keep(wanted: bool, bytes: [u8; MAX_RECORDS_LEN], records: &mut [u8; MAX_RECOR
 }
 
 // Runs the tape. Of a run that is done the records stand at the start of the bytes given for them; on a refusal, and where the samples are not taken, those bytes are as they were.
-pub fn run_tape(samples: bool, records: &mut [u8; MAX_RECORDS_LEN]) -> Outcome
+pub fn run_tape(samples: bool, records: &mut [u8; MAX_RECORDS_LEN], to: &mut Output) -> Outcome
     ensures { Reported result records.old records.new }
 {
     let mut bytes = [0u8; LONGEST_HEAD_LEN];
@@ -50,11 +52,28 @@ pub fn run_tape(samples: bool, records: &mut [u8; MAX_RECORDS_LEN]) -> Outcome
                 &mode_ac,
                 &mut memory,
                 &mut own,
+                to,
             );
             let feed = s.feed;
             let outcome = tape_verdict::reported(s.untaken, s.short, s.over, feed);
             keep(tape_verdict::is_done(outcome), own, records);
             outcome
         }
+    }
+}
+
+// A line on standard error: what failed, as the caller names it, a colon and the system's words for why.
+pub fn fail(rt: &(impl Eprint + Alloc), what: &str, error: &Error) {
+    let _ = match format!(in rt.alloc(); "{error}") {
+        Ok(text) => eprintln!(rt; "{what}: {}", words(text.as_str())),
+        Err(_) => eprintln!(rt; "{what}: {error}"),
+    };
+}
+
+// The system's words, without the number that std puts behind them in brackets.
+fn words(text: &str) -> &str {
+    match text.split_once(" (os error ") {
+        Some((said, _)) => said,
+        None => text,
     }
 }

@@ -8,6 +8,11 @@ ghost use Rattle.tape_sections.specs.Sections.{section_at, head_length};
 use constants::DRAW_LEN;
 use settings::SETTINGS_LEN;
 
+// The numbers that the system gives standard input and standard error.
+pub const STDIN_FILENO: i32 = 0;
+
+pub const STDERR_FILENO: i32 = 2;
+
 // Offsets in a tape: the taps' count, the taps, the draws' count, the draws.
 pub const TAPS_COUNT_OFFSET: usize = 127;
 

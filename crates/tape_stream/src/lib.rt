@@ -6,9 +6,16 @@ ghost use Rattle.std.specs.Prelude.{◌≡◌, true, cond, ◌-◌, ◌≤◌, m
 ghost use Rattle.tape_theory.specs.PlainTape.{FedCut};
 
 use constants::SAMPLE_RATE;
-use libc::{STDERR_FILENO, STDIN_FILENO, STDOUT_FILENO};
-use tape_sections::{CHUNK_LEN, CHUNK_OUTPUT_LEN, CHUNK_VALUES};
+use std::io::{Error, Stdout};
+use tape_sections::{CHUNK_LEN, CHUNK_OUTPUT_LEN, CHUNK_VALUES, STDERR_FILENO, STDIN_FILENO};
 use tape_verdict::Feed;
+
+// Standard output, and why it did not take what was written to it, where a write failed.
+#[derive(Clone, Copy)]
+pub struct Output {
+    pub stdout: Stdout,
+    pub failure: Option<Error>,
+}
 
 fn least(a: u64, b: u64) -> u64
     ensures { result ≡ min a b }
@@ -47,24 +54,25 @@ fn left_over(short: bool) -> bool {
 }
 
 // The samples that a call wrote, from one number of samples to the next; true where standard output does not take them.
-fn write_samples(before: u64, after: u64, output: &[f32]) -> bool {
+fn write_samples(before: u64, after: u64, output: &[f32], to: &mut Output) -> bool {
     let k = least(difference(after, before), 8193);
     let n = least(2 * k, output.len() as u64) as usize;
     let mut out = [0u8; 65544];
     tape_floats::float_bytes(&output[..n], &mut out);
     let size = 4 * n;
     let all: &[u8] = &out;
-    if io::write_all(STDOUT_FILENO, &all[..size]) {
-        progress(before, after);
-        return false;
+    if let Err(e) = to.stdout.write_all(&all[..size]) {
+        to.failure = Some(e);
+        return true;
     }
-    true
+    progress(before, after);
+    false
 }
 
 // Where samples are asked for, they are written; true where standard output does not take them.
-fn put_samples(asked: bool, before: u64, after: u64, output: &[f32]) -> bool {
+fn put_samples(asked: bool, before: u64, after: u64, output: &[f32], to: &mut Output) -> bool {
     if asked {
-        return write_samples(before, after, output);
+        return write_samples(before, after, output, to);
     }
     false
 }
@@ -108,6 +116,7 @@ pub fn feed_section(
     mode_ac: &[f32],
     memory: &mut [f32],
     records: &mut [u8],
+    to: &mut Output,
 ) -> Section
     ensures { FedCut mode_s.now mode_ac.now draws.now count (record { feed = first; memory = memory.old; records = records.old }) result.short (record { feed = result.feed; memory = memory.new; records = records.new }) }
 {
@@ -132,7 +141,7 @@ pub fn feed_section(
             &mut output,
             records,
         );
-        untaken = put_samples(samples, before, f.state.written, &output);
+        untaken = put_samples(samples, before, f.state.written, &output, to);
         short = either((n as u64) < want, untaken);
         left = left_after(left, want, short);
         want = least(left, CHUNK_VALUES);

@@ -3,7 +3,10 @@
 
 ghost use Rattle.std.specs.Prelude.{◌≡◌, ◌<◌, length};
 
-use libc::{STDIN_FILENO, STDOUT_FILENO};
+// The numbers that the system gives standard input and standard output.
+const STDIN_FILENO: i32 = 0;
+
+const STDOUT_FILENO: i32 = 1;
 
 // The value of a hexadecimal digit, in small letters; 0 for anything else.
 fn digit(b: u8) -> u64

@@ -6,7 +6,11 @@ ghost use Rattle.std.specs.Prelude.{◌≤◌, length};
 
 use le_read::{ReadU16, ReadU32, ReadU64};
 use le_read_floats::{ReadF32, ReadF64};
-use libc::{STDIN_FILENO, STDOUT_FILENO};
+
+// The numbers that the system gives standard input and standard output.
+const STDIN_FILENO: i32 = 0;
+
+const STDOUT_FILENO: i32 = 1;
 
 const LAST: usize = 0xffff_ffff_ffff_ffff;
 

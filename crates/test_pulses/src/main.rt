@@ -5,10 +5,12 @@
 ghost use Rattle.std.specs.Prelude.{◌<◌};
 
 use constants::SamplesPerPulse;
-use libc::STDOUT_FILENO;
 use mode_ac::{Built, ModeACReply};
 use pulse_map::Pulses;
 use settings_duration::InSamples;
+
+// The number that the system gives standard output.
+const STDOUT_FILENO: i32 = 1;
 
 const PRIME: u64 = 4_294_967_291;
 

@@ -1,9 +1,13 @@
 // Replays the vectors of parity, making and classing: a line for each record of standard input. What it writes is held to the Rust's answers in the file stdout; `harness vectors` (differential/) makes both.
 #![tactic(auto)]
 
-use libc::{STDIN_FILENO, STDOUT_FILENO};
 use message::{FieldFault, Picks, Reply, ReplyKind, TypeFound};
 use message_classify::Class;
+
+// The numbers that the system gives standard input and standard output.
+const STDIN_FILENO: i32 = 0;
+
+const STDOUT_FILENO: i32 = 1;
 
 // One step of the long division by 0xFFF409, x^24 implied.
 fn with_bit(r: u32) -> u32 {

@@ -5,8 +5,10 @@ ghost use Rattle.std.specs.Prelude.{◌<◌, ◌≤◌};
 
 use constants::SamplesPerPulse;
 use filterbank::Clock;
-use libc::STDOUT_FILENO;
 use pulse_shape::Crossing;
+
+// The number that the system gives standard output.
+const STDOUT_FILENO: i32 = 1;
 
 const RANGE: u64 = 0x8000_0000;
 

@@ -13,7 +13,7 @@ overflow_add-result c = record { fits = omega (arith, (counted _ _ _ _ _ _ c.sec
 pub returns-in-Of : goal.returns-in-Of
 returns-in-Of c =
     let t = counted _ _ _ _ _ _ c.section.ensures c.in-Of.is in
-    (length_counted _ c.section.ensures c.in-Of.is (search rules), (search rules, omega (arith, t.1)))
+    record { value = length_counted _ c.section.ensures c.in-Of.is (search rules); lower_bound = (search rules, omega (arith, t.1)) }
 
 pub returns-in-Wrong : goal.returns-in-Wrong
-returns-in-Wrong c = (length_wrong _ c.section.ensures c.in-Wrong.is (search rules), (search rules, search rules))
+returns-in-Wrong c = record { value = length_wrong _ c.section.ensures c.in-Wrong.is (search rules); lower_bound = (search rules, search rules) }
