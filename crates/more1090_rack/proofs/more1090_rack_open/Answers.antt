@@ -2,4 +2,4 @@
 use Rattle.more1090_rack.proofs.more1090_rack_open.Goals as goal
 
 pub returns : goal.returns
-returns c = c.«open».ensures
+returns c = c.open-opened.ensures

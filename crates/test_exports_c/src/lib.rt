@@ -1,0 +1,10 @@
+// The functions of `test_exports` for C: each calls the one of its name, and promises what that promises.
+#![tactic(auto)]
+
+mod floats;
+mod pulse_maps;
+mod replies;
+mod samples;
+mod shape;
+mod starts;
+mod taps;

@@ -1,0 +1,31 @@
+// The samples of a reply for C.
+ghost use Rattle.std.specs.Prelude.{◌≡◌};
+ghost use Rattle.constants.specs.Rate.{four};
+ghost use Rattle.reply_samples.specs.Samples.{reply_samples, reply_count};
+ghost use Rattle.reply_samples.specs.RingModel.{added_reply, added_count};
+ghost use Rattle.test_exports.specs.Samples.{kind_numbered, config_at};
+
+// Adds a reply of kind 0 short, 1 long, else Mode A/C, and answers its count.
+#[unsafe(no_mangle)]
+pub extern "C" fn port_add_reply(
+    mode_s: &[f32],
+    mode_ac: &[f32],
+    time: f64,
+    offset: f64,
+    phase: f64,
+    error: f64,
+    kind: u8,
+    bytes: &[u8; 14],
+    amplitude: f32,
+    delay_s: f64,
+    delay_ac: f64,
+    memory: &mut [f32],
+    slot: usize,
+) -> u16
+    ensures { (memory.new ≡ added_reply four memory.old slot (reply_samples four mode_s.entry.now mode_ac.now (record { mode_s = delay_s; mode_ac = delay_ac }) amplitude (config_at time time offset phase error (kind_numbered kind) bytes.now))) × (result ≡ added_count four memory.old slot (reply_count four (record { mode_s = delay_s; mode_ac = delay_ac }) (config_at time time offset phase error (kind_numbered kind) bytes.now))) }
+{
+    test_exports::samples::port_add_reply(
+        mode_s, mode_ac, time, offset, phase, error, kind, bytes, amplitude, delay_s, delay_ac,
+        memory, slot,
+    )
+}
