@@ -5,4 +5,5 @@ use Rattle.tape_text.proofs.Lines.{refused_put}
 use Rattle.tape_text.proofs.refused_text.Goals as goal
 
 pub returns : goal.returns
-returns c = refused_put _ (search rules) refl (search rules) c.put_bytes-a.ensures c.put_number.ensures
+returns c =
+    let p = refused_put _ (search rules) refl (search rules) c.put_bytes-a.ensures c.put_number.ensures in record { value = p.0; prefix_len = p.1 }

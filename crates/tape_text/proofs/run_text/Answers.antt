@@ -10,4 +10,5 @@ pub least-n-requires : goal.least-n-requires
 least-n-requires c = tt
 
 pub returns : goal.returns
-returns c = run_put _ _ _ (search rules) c.least.ensures c.least-n.ensures (search rules) c.put_bytes-a.ensures c.put_lines-b.ensures c.put_bytes-c.ensures c.put_number.ensures
+returns c =
+    let p = run_put _ _ _ (search rules) c.least.ensures c.least-n.ensures (search rules) c.put_bytes-a.ensures c.put_lines-b.ensures c.put_bytes-c.ensures c.put_number.ensures in record { value = p.0; prefix_len = p.1 }
