@@ -1,7 +1,7 @@
 -- `tape_run::run_tape` is safe, and what it reports is right: a refused head by its number, a section behind a head that begins a run by the outcome of that run; and only a run that is done writes records.
 use Prim.Native.Nat.{ℕ, ◌+◌, ◌-◌, ◌*◌}
 use native.Mathlib.Omega.{arith}
-use mathlib.Core.Path.{◌≡◌, refl, sym}
+use mathlib.Core.Path.{◌≡◌, refl}
 use borrow.Author.Rules.{rules}
 use Rattle.tape_head.proofs.Within.{begun_within}
 use Rattle.tape_theory.proofs.Reported.{opened_with, reported_refused, reported_run}
