@@ -12,10 +12,4 @@ few : (r : Outcome.Outcome) (before after : List ℕ) (count samples : ℕ) → 
 few r before after count samples h e = omega (arith, few_reported r before after h, ap records_in e)
 
 pub finish-requires : goal.finish-requires
-finish-requires c = few _ _ _ _ _ c.run_tape.ensures c.in-Done.is
-
-pub report-requires : goal.report-requires
-report-requires c = tt
-
-pub fail-requires : goal.fail-requires
-fail-requires c = tt
+finish-requires g c = few _ _ _ _ _ c.run_tape.ensures c.in-Done.is

@@ -1,7 +1,7 @@
 -- `tape_run::run_tape` is safe, and what it reports is right: a refused head by its number, a section behind a head that begins a run by the outcome of that run; and only a run that is done writes records.
 use Prim.Native.Nat.{ℕ, ◌+◌, ◌-◌, ◌*◌}
 use native.Mathlib.Omega.{arith}
-use mathlib.Core.Path.{◌≡◌, refl, sym}
+use mathlib.Core.Path.{◌≡◌, refl}
 use borrow.Author.Rules.{rules}
 use Rattle.tape_head.proofs.Within.{begun_within}
 use Rattle.tape_theory.proofs.Reported.{opened_with, reported_refused, reported_run}
@@ -10,62 +10,14 @@ use Rattle.tape_run.proofs.run_tape.Goals as goal
 behind_start : (n : ℕ) → 12139 + 65 * n - 12139 ≡ 65 * n
 behind_start n = omega arith
 
-pub slice_bounds-read_head-end : goal.slice_bounds-read_head-end
-slice_bounds-read_head-end c = refl
-
-pub read_head-got-requires : goal.read_head-got-requires
-read_head-got-requires c = tt
-
-pub slice_bounds-head-end-2 : goal.slice_bounds-head-end-2
-slice_bounds-head-end-2 c = refl
-
-pub slice_bounds-head-end-3 : goal.slice_bounds-head-end-3
-slice_bounds-head-end-3 c = refl
-
-pub slice_bounds-head-end-4 : goal.slice_bounds-head-end-4
-slice_bounds-head-end-4 c = refl
-
-pub head-requires : goal.head-requires
-head-requires c = tt
-
 pub overflow_mul-end : goal.overflow_mul-end
 overflow_mul-end c = record { fits = omega (arith, (begun_within _ _ _ _ _ _ c.head.ensures c.in-Run.is).0) }
 
 pub overflow_add-end : goal.overflow_add-end
 overflow_add-end c = record { fits = omega (arith, (begun_within _ _ _ _ _ _ c.head.ensures c.in-Run.is).0) }
 
-pub start-f-requires : goal.start-f-requires
-start-f-requires c = tt
-
-pub copied-own-requires : goal.copied-own-requires
-copied-own-requires c = tt
-
 pub slice_bounds-feed_section-end : goal.slice_bounds-feed_section-end
 slice_bounds-feed_section-end c = search (rules, (begun_within _ _ _ _ _ _ c.head.ensures c.in-Run.is).0)
-
-pub slice_bounds-feed_section-end-in-Run : goal.slice_bounds-feed_section-end-in-Run
-slice_bounds-feed_section-end-in-Run c = sym c.mode_s-2-1.given
-
-pub slice_bounds-feed_section-end-in-Run-2 : goal.slice_bounds-feed_section-end-in-Run-2
-slice_bounds-feed_section-end-in-Run-2 c = sym c.mode_ac-2-1.given
-
-pub slice_bounds-feed_section-end-in-Run-3 : goal.slice_bounds-feed_section-end-in-Run-3
-slice_bounds-feed_section-end-in-Run-3 c = sym c.memory-2-1.given
-
-pub slice_bounds-feed_section-end-in-Run-4 : goal.slice_bounds-feed_section-end-in-Run-4
-slice_bounds-feed_section-end-in-Run-4 c = c.copied-own.ensures.1
-
-pub feed_section-s-requires : goal.feed_section-s-requires
-feed_section-s-requires c = tt
-
-pub reported-outcome-requires : goal.reported-outcome-requires
-reported-outcome-requires c = tt
-
-pub is_done-requires : goal.is_done-requires
-is_done-requires c = tt
-
-pub keep-requires : goal.keep-requires
-keep-requires c = tt
 
 pub returns-in-Refused : goal.returns-in-Refused
 returns-in-Refused c = reported_refused _ _ (opened_with _ _ _ _ _ c.head.ensures refl refl refl) _ c.in-Refused.is _

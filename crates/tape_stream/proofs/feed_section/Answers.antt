@@ -1,51 +1,13 @@
 -- `tape_stream::feed_section` is safe, ends, and feeds its run noise that is cut as tape_theory/specs/PlainTape asks.
-use Prim.Native.Nat.{◌-◌, zero-le}
-use mathlib.Core.Bool.{false}
+use Prim.Native.Nat.{zero-le}
 use mathlib.Core.Logic.{inl, inr}
-use mathlib.Core.Path.{refl, sym, ◌∙◌}
+use mathlib.Core.Path.{refl, ◌∙◌}
 use native.Mathlib.Omega.{arith}
-use lib.Seq.{length-take-le}
 use Rattle.tape_theory.proofs.Section.{going_first, going_end, no_more, fewer_left, turned, next_step}
 use Rattle.tape_stream.proofs.feed_section.Goals as goal
 
 pub loop-turns-init : goal.loop-turns-init
 loop-turns-init c = (zero-le, zero-le, refl, refl, inl refl, λ h. refl, λ e. absurd (omega (arith, e)), going_first _ _ _ _ _)
-
-pub slice_bounds-read_values-end : goal.slice_bounds-read_values-end
-slice_bounds-read_values-end c = refl
-
-pub read_values-n-requires : goal.read_values-n-requires
-read_values-n-requires c = tt
-
-pub slice_bounds-row-end : goal.slice_bounds-row-end
-slice_bounds-row-end c = c.read_values-n.ensures.0
-
-pub slice_bounds-feed_noise-end : goal.slice_bounds-feed_noise-end
-slice_bounds-feed_noise-end c = sym (length-take-le _ _ (array_share_prefix_row c))
-
-pub slice_bounds-feed_noise-end-in-loop-turns : goal.slice_bounds-feed_noise-end-in-loop-turns
-slice_bounds-feed_noise-end-in-loop-turns c = refl
-
-pub feed_noise-f-requires : goal.feed_noise-f-requires
-feed_noise-f-requires c = tt
-
-pub slice_bounds-put_samples-end : goal.slice_bounds-put_samples-end
-slice_bounds-put_samples-end c = sym c.output-in-loop-turns-1.given
-
-pub put_samples-untaken-requires : goal.put_samples-untaken-requires
-put_samples-untaken-requires c = tt
-
-pub either-short-requires : goal.either-short-requires
-either-short-requires c = tt
-
-pub left_after-left-requires : goal.left_after-left-requires
-left_after-left-requires c = tt
-
-pub least-want-requires : goal.least-want-requires
-least-want-requires c = tt
-
-pub least-turns-requires : goal.least-turns-requires
-least-turns-requires c = tt
 
 pub loop-turns-smaller : goal.loop-turns-smaller
 loop-turns-smaller c = fewer_left _ _ _ _ _ _ c.either-short.result c.loop-turns.invariant.0 c.loop-turns-test.true (no_more c.left_after-left.ensures) c.least-turns.ensures
@@ -60,18 +22,9 @@ loop-turns-preserved c =
       inr (omega (arith, c.least-want.ensures)),
       t.goes_on,
       t.over,
-      next_step _ _ _ _ _ _ _ _ _ c.loop-turns.want c.read_values-n.result _ _ _ _ _ _ _ _ _ _ _ c.loop-turns.invariant.7 c.loop-turns-test.true refl (array_share_prefix_row c) c.read_values-n.ensures.1
+      next_step _ _ _ _ _ _ _ _ _ c.loop-turns.want c.read_values-n.result _ _ _ _ _ _ _ _ _ _ _ c.loop-turns.invariant.7 c.loop-turns-test.true refl c.read_values-n.ensures.0 c.read_values-n.ensures.1
           c.loop-turns.invariant.1 (c.loop-turns.invariant.5 c.loop-turns-test.true) t c.feed_noise-f.ensures,
     )
-
-pub left_over-requires : goal.left_over-requires
-left_over-requires c = tt
-
-pub shape_of-memory : goal.shape_of-memory
-shape_of-memory c = c.loop-turns.invariant.2
-
-pub shape_of-records : goal.shape_of-records
-shape_of-records c = c.loop-turns.invariant.3
 
 pub returns : goal.returns
 returns c = going_end _ _ _ _ _ _ _ _ _ c.loop-turns.invariant.7 (omega (arith, c.loop-turns-test.false)) (c.loop-turns.invariant.6 (omega (arith, c.loop-turns-test.false)))

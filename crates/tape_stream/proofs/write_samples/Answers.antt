@@ -8,6 +8,3 @@ slice_bounds-float_bytes-end c = simp length-take (omega arith)
 
 pub slice_bounds-write_all-end : goal.slice_bounds-write_all-end
 slice_bounds-write_all-end c = simp length-take (omega arith)
-
-pub progress-requires : goal.progress-requires
-progress-requires c = tt
