@@ -13,7 +13,7 @@ const TWO_PI: f64 = 6.283185307179586;
 fn rem_two_pi(x: f64) -> f64
     ensures { result ≡ rem_euclid x two_pi }
 {
-    let rest = x % TWO_PI;
+    let rest = float_remainder::rem_two_pi(x);
     if rest < 0.0 { rest + TWO_PI } else { rest }
 }
 
