@@ -79,7 +79,7 @@ fn convert(rt: &(impl Eprint + Alloc), stdout: Stdout, file: File) {
     };
     match tape_run::run_tape(true, &mut records, &mut output) {
         Outcome::Done(count, samples) => finish(rt, file, records, count, samples),
-        Outcome::Refused(number, samples) => report(b"refused ", number, samples),
+        Outcome::Refused(q, samples) => report(b"refused ", q.number(), samples),
         Outcome::Untaken => {
             if let Some(e) = output.failure {
                 tape_run::fail(rt, "cf32: standard output: write failed", &e);

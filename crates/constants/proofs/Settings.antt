@@ -1,6 +1,6 @@
 -- What the theorems over the rate ask of it holds at both settings: bounds, and branches that are a power of two.
-use mathlib.Core.Path.{◌≡◌, refl, sym, ◌∙◌}
-use native.Mathlib.Nat.{le_trans, le_of_eq}
+use mathlib.Core.Path.{◌≡◌, refl, ◌∙◌}
+use mathlib.Core.Logic.{◌⊎◌, inl, inr}
 use Prim.Native.Nat.{ℕ, ◌^◌, ◌≤◌, ◌<◌}
 use lib.Dec.{lit≤, lit<}
 use Rattle.constants.specs.declared.SamplesPerPulse.{SamplesPerPulse}
@@ -39,8 +39,8 @@ unfolding either
 either_is f Four a b r e p q = e ∙ p
 either_is f Eight a b r e p q = e ∙ q
 
--- between the two, where the first is not the larger
-pub between : (s : SamplesPerPulse) (a b r : ℕ) → a ≤ b → r ≡ either s a b → (a ≤ r) × (r ≤ b)
+-- which of the two it is, by the setting
+pub either_cases : (s : SamplesPerPulse) (a b r : ℕ) → r ≡ either s a b → ((s ≡ Four) × (r ≡ a)) ⊎ ((s ≡ Eight) × (r ≡ b))
 unfolding either
-between Four a b r h e = (le_of_eq (sym e), le_trans (le_of_eq e) h)
-between Eight a b r h e = (le_trans h (le_of_eq (sym e)), le_of_eq e)
+either_cases Four a b r e = inl (refl, e)
+either_cases Eight a b r e = inr (refl, e)

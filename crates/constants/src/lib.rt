@@ -1,5 +1,5 @@
 // The numbers that follow from the samples per pulse, and the bytes of draws and records. specs/Rate has the former.
-#![tactic(auto)]
+#![tactic(auto, using(crate::proofs::Settings::either_cases), unfolding(crate::specs::Setting::either))]
 
 ghost use Rattle.std.specs.Prelude.{◌≡◌, min, ◌≤◌, ◌+◌};
 ghost use Rattle.constants.specs.Setting.{per_pulse, either};
@@ -110,8 +110,9 @@ pub const DRAW_LEN: usize = 65;
 
 pub const RECORD_LEN: usize = 66;
 
+// The lesser of two lengths.
 pub fn least(a: usize, b: usize) -> usize
     ensures { result ≡ min a b }
 {
-    if a < b { a } else { b }
+    a.min(b)
 }

@@ -1,2 +1,2 @@
 pub mod Literals
-mod ByKind
+pub mod Refused

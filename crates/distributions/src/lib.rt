@@ -5,12 +5,15 @@ ghost use Rattle.std.specs.Prelude.{◌≡◌};
 ghost use Rattle.constants.specs.Rate.{four};
 ghost use Rattle.distributions.specs.Accepted.{up_to, finite_not_negative, carrier_offset, clamped_normal, carrier_phase, clock_error};
 
+use refusals::Refusal;
+
 #[derive(Clone, Copy)]
 pub enum CarrierOffset {
     Constant(f64),
     ClampedNormal(f64, f64),
 }
 
+// Two kinds by name, of which neither is a value that may be missing: no Option.
 #[derive(Clone, Copy)]
 pub enum CarrierPhase {
     Constant(f64),
@@ -23,7 +26,7 @@ pub enum ClockError {
     Uniform(f64),
 }
 
-// A distribution as the settings ask for it: its kind and two numbers.
+// A distribution as the settings ask for it: its kind, a byte whose meaning depends on which of the three it is, and two numbers.
 #[derive(Clone, Copy)]
 pub struct RawDistribution {
     pub kind: u8,
@@ -31,106 +34,67 @@ pub struct RawDistribution {
     pub second: f64,
 }
 
-#[derive(Clone, Copy)]
-pub enum OffsetAnswer {
-    Accepted(CarrierOffset),
-    Refused,
-}
-
-#[derive(Clone, Copy)]
-pub enum PhaseAnswer {
-    Accepted(CarrierPhase),
-    Refused,
-}
-
-#[derive(Clone, Copy)]
-pub enum ClockAnswer {
-    Accepted(ClockError),
-    Refused,
-}
-
 // x is from 0 to a limit.
+#[tactic(auto, unfolding(crate::specs::Accepted::up_to))]
 fn up_to(x: f64, limit: f64) -> bool
     ensures { result ≡ up_to x limit }
 {
-    if x >= 0.0 {
-        return x <= limit;
-    }
-    false
+    x >= 0.0 && x <= limit
 }
 
 // x is finite and not negative.
+#[tactic(auto, unfolding(crate::specs::Accepted::finite_not_negative))]
 pub fn finite_not_negative(x: f64) -> bool
     ensures { result ≡ finite_not_negative x }
 {
-    if 0.0 <= x {
-        return float_range::finite(x);
-    }
-    false
+    0.0 <= x && float_range::finite(x)
 }
 
-fn clamped_normal(sigma: f64, max: f64) -> OffsetAnswer
+#[tactic(auto, unfolding(crate::specs::Accepted::clamped_normal), using(crate::proofs::Literals::offset_limit_is))]
+fn clamped_normal(sigma: f64, max: f64) -> Result<CarrierOffset, Refusal>
     ensures { result ≡ clamped_normal four sigma max }
 {
-    if finite_not_negative(sigma) {
-        if up_to(max, 4000000.0) {
-            return OffsetAnswer::Accepted(CarrierOffset::ClampedNormal(sigma, max));
-        }
-        return OffsetAnswer::Refused;
+    if finite_not_negative(sigma) && up_to(max, 4000000.0) {
+        return Ok(CarrierOffset::ClampedNormal(sigma, max));
     }
-    OffsetAnswer::Refused
+    Err(Refusal::Distribution(0))
 }
 
 // The distribution of the carrier offset, or a refusal.
-pub fn carrier_offset(d: RawDistribution) -> OffsetAnswer
+#[tactic(auto, unfolding(crate::specs::Accepted::carrier_offset, crate::specs::Accepted::by_kind), using(crate::proofs::Literals::offset_limit_is))]
+pub fn carrier_offset(d: RawDistribution) -> Result<CarrierOffset, Refusal>
     ensures { result ≡ carrier_offset four d }
 {
-    let kind = d.kind;
-    if kind == 0 {
-        if float_range::within(d.first, 4000000.0) {
-            return OffsetAnswer::Accepted(CarrierOffset::Constant(d.first));
-        }
-        return OffsetAnswer::Refused;
+    match d.kind {
+        0 if float_range::within(d.first, 4000000.0) => Ok(CarrierOffset::Constant(d.first)),
+        1 => clamped_normal(d.first, d.second),
+        _ => Err(Refusal::Distribution(0)),
     }
-    if kind == 1 {
-        return clamped_normal(d.first, d.second);
-    }
-    OffsetAnswer::Refused
 }
 
 // The distribution of the carrier phase, or a refusal. A constant phase is wrapped.
-pub fn carrier_phase(d: RawDistribution) -> PhaseAnswer
+#[tactic(auto, unfolding(crate::specs::Accepted::carrier_phase, crate::specs::Accepted::by_kind))]
+pub fn carrier_phase(d: RawDistribution) -> Result<CarrierPhase, Refusal>
     ensures { result ≡ carrier_phase d }
 {
-    let kind = d.kind;
-    if kind == 0 {
-        if float_range::finite(d.first) {
-            return PhaseAnswer::Accepted(CarrierPhase::Constant(math::phase_wrap_f64(d.first)));
+    match d.kind {
+        0 if float_range::finite(d.first) => {
+            let wrapped = math::phase_wrap_f64(d.first);
+            Ok(CarrierPhase::Constant(wrapped))
         }
-        return PhaseAnswer::Refused;
+        1 => Ok(CarrierPhase::Uniform),
+        _ => Err(Refusal::Distribution(1)),
     }
-    if kind == 1 {
-        return PhaseAnswer::Accepted(CarrierPhase::Uniform);
-    }
-    PhaseAnswer::Refused
 }
 
 // The distribution of the symbol clock error, or a refusal.
-pub fn clock_error(d: RawDistribution) -> ClockAnswer
+#[tactic(auto, unfolding(crate::specs::Accepted::clock_error, crate::specs::Accepted::by_kind), using(crate::proofs::Literals::tenth_is))]
+pub fn clock_error(d: RawDistribution) -> Result<ClockError, Refusal>
     ensures { result ≡ clock_error d }
 {
-    let kind = d.kind;
-    if kind == 0 {
-        if float_range::within(d.first, 0.1) {
-            return ClockAnswer::Accepted(ClockError::Constant(d.first));
-        }
-        return ClockAnswer::Refused;
+    match d.kind {
+        0 if float_range::within(d.first, 0.1) => Ok(ClockError::Constant(d.first)),
+        1 if up_to(d.first, 0.1) => Ok(ClockError::Uniform(d.first)),
+        _ => Err(Refusal::Distribution(2)),
     }
-    if kind == 1 {
-        if up_to(d.first, 0.1) {
-            return ClockAnswer::Accepted(ClockError::Uniform(d.first));
-        }
-        return ClockAnswer::Refused;
-    }
-    ClockAnswer::Refused
 }

@@ -1,4 +1,5 @@
 -- The clock error that a draw in range gives is at most 0.1 in size (`error-within`), and so is the filter's, for every type (`filter-within`), where the settings' clock error is in range.
+use Rattle.std.specs.Prelude.{Some}
 use Prim.Native.Nat.{ℕ}
 use mathlib.Core.Path.{◌≡◌, sym, subst}
 use mathlib.Core.Bool.{Bool, true, false}
@@ -25,7 +26,6 @@ use Rattle.message.specs.declared.MessageType.TheVariants.{
   ModeAc,
 }
 use Rattle.message.specs.declared.ReplyKind.{ReplyKind}
-use Rattle.message.specs.declared.TypeFound.TheVariants.{Of}
 use Rattle.message.specs.Types.{type_number, type_numbered}
 use Rattle.message.specs.Making.{kind_of}
 use Rattle.message.proofs.Numbers.{found_number_lem}
@@ -117,7 +117,7 @@ module _ (rates : MessagesPerSecond) (all : Distributions) (d : Draw) (r : InRan
   unfolding error_drawn
   drawn_within = error_within all.clock d.clock C H r.clock
 
-  by_type : (t : MessageType) → type_numbered d.kind ≡ Of t → T (within (filter_clock_error (kind_of t) (error_drawn all d)) tenth)
+  by_type : (t : MessageType) → type_numbered d.kind ≡ Some t → T (within (filter_clock_error (kind_of t) (error_drawn all d)) tenth)
   unfolding kind_of filter_clock_error error_drawn type_number
   by_type ExtendedSquitter k = drawn_within
   by_type AcquisitionSquitter k = drawn_within

@@ -1,4 +1,3 @@
-pub mod Decided
 pub mod InRange
 pub mod NotNegative
 pub mod FirstDraw

@@ -1,13 +1,13 @@
 -- What a draw becomes at its time: the time after it, its message, and its start.
-use Rattle.std.specs.Prelude.{ℕ, List, ℤ, Float}
+use Rattle.std.specs.Prelude.{ℕ, List, ℤ, Float, Option, Some, None, Result, Ok, Err, replicate}
 use Rattle.std.specs.Float.{binary64}
 use Rattle.std.specs.Float.Ieee.{add}
 use Rattle.distributions.specs.Drawn.{offset_of, phase_of, error_of}
 use Rattle.message.specs.declared.MessageType.{MessageType}
 use Rattle.message.specs.declared.MessageType.TheVariants.{ModeAc}
-use Rattle.message.specs.declared.TypeFound as TypeFound
 use Rattle.message.specs.declared.ReplyKind.{ReplyKind}
 use Rattle.message.specs.declared.Picks.{Picks}
+use Rattle.message.specs.declared.Reply.{Reply}
 use Rattle.message.specs.Types.{type_numbered}
 use Rattle.message.specs.Making.{kind_of, made}
 use Rattle.message_config.specs.declared.Delays.{Delays}
@@ -17,9 +17,9 @@ use Rattle.settings.specs.declared.Distributions.{Distributions}
 use Rattle.draw.specs.declared.Draw.{Draw}
 
 -- the type drawn. A number that no type has, which a run refuses at field 1, is read as Mode A/C
-unfoldable pub type_drawn : TypeFound.TypeFound → MessageType
-type_drawn (TypeFound.TheVariants.Of t) = t
-type_drawn TypeFound.TheVariants.Unknown = ModeAc
+unfoldable pub type_drawn : Option MessageType → MessageType
+type_drawn (Some t) = t
+type_drawn None = ModeAc
 
 unfoldable pub kind_drawn : Draw → ReplyKind
 kind_drawn d = kind_of (type_drawn (type_numbered d.kind))
@@ -31,9 +31,14 @@ time_after before d = add binary64 before d.gap
 unfoldable pub error_drawn : Distributions → Draw → Float
 error_drawn all d = error_of all.clock d.clock
 
+-- the bytes of the reply that was made; zeros where a field is at fault
+unfoldable pub bytes_made : Result Reply ℕ → List ℕ
+bytes_made (Ok r) = r.bytes
+bytes_made (Err field) = replicate 14 0
+
 -- the bytes of the reply that a type's number and picks make
 unfoldable pub bytes_drawn : ℕ → Picks → List ℕ
-bytes_drawn kind p = (made (type_drawn (type_numbered kind)) p).reply.bytes
+bytes_drawn kind p = bytes_made (made (type_drawn (type_numbered kind)) p)
 
 -- the message of a draw at its time, given its reply's bytes
 unfoldable pub config_with : Distributions → Float → Draw → List ℕ → MessageConfig

@@ -20,14 +20,8 @@ pub struct Draw {
     pub picks: Picks,
 }
 
-// The first draw and its first field at fault, or none.
-#[derive(Clone, Copy)]
-pub enum DrawFault {
-    None,
-    At(u64, u64),
-}
-
 // The time of the draw at the start of the bytes.
+#[tactic(auto, unfolding(crate::specs::Draw::draw_at, crate::specs::Config::time_after))]
 pub fn time_after(before: f64, rest: &[u8]) -> f64
     ensures { result ≡ time_after before (draw_at rest.now) }
 {

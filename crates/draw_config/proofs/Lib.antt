@@ -1,2 +1,1 @@
-mod Joined
 pub mod Message

@@ -32,6 +32,9 @@ product k j K J =
     times : (t : ℕ) → t < 17179869184 → t * 5 ^ 10 ≤ 167772160000000000
     times t h = omega arith
 
+pub five_fits : (j : ℕ) → j ≤ 10 → 5 ^ j < 18446744073709551616
+five_fits j h = let most : 5 ^ j ≤ 5 ^ 10 = pow-le-pow_right (lit< tt) h in omega arith
+
 pub product_of : (m x y : ℕ) → m ≤ 2000 → x ≡ entry_of (m % 200) → y ≡ 5 ^ (m / 200) → Product (x * y)
 product_of m x y M X Y =
     subst (λ (a : ℕ). Product (a * y)) (sym X) (subst (λ (b : ℕ). Product (entry_of (m % 200) * b)) (sym Y) (product (m % 200) (m / 200) (mod-lt m (lit< tt)) (omega arith)))

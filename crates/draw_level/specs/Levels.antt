@@ -1,10 +1,9 @@
 -- Levels in tenths of a decibel (SPECIFICATION 6.15): the table for 0.0 to 19.9 dB, the f32 amplitude of a level, and what the level function answers.
-use Rattle.std.specs.Prelude.{false, cond, List, [], ◌∷◌, ℕ, suc, ◌*◌, ◌/◌, ◌%◌, ◌^◌, ◌≤◌, ◌<◌, ltb, Float, get_or}
+use Rattle.std.specs.Prelude.{Result, Ok, Err, false, cond, List, [], ◌∷◌, ℕ, suc, ◌*◌, ◌/◌, ◌%◌, ◌^◌, ◌≤◌, ◌<◌, ltb, Float, get_or}
+use Rattle.refusals.specs.declared.Refusal.{Refusal}
 use Rattle.std.specs.Float.{binary32}
 use Rattle.std.specs.Float.Ieee.{round}
 use Rattle.refusals.specs.declared.Refusal.TheVariants.{Level}
-use Rattle.refusals.specs.Answer.{Answer, accepted, refused}
-use Rattle.draw_level.specs.declared.LevelAnswer as LevelAnswer
 
 -- 2 ^ 30 times 10 ^ (k / 200), rounded down, for k tenths: `Entry` holds at each of them
 unfoldable pub table : List ℕ
@@ -52,11 +51,6 @@ scale = 2048000 * 2 ^ 30
 unfoldable pub amplitude_of : ℕ → Float
 amplitude_of tenths = round binary32 false (entry_of (tenths % 200) * 10 ^ (tenths / 200)) scale
 
--- the code's answer in the specification's terms
-unfoldable pub answer_of : LevelAnswer.LevelAnswer → Answer Float
-answer_of (LevelAnswer.TheVariants.Accepted amplitude) = accepted amplitude
-answer_of (LevelAnswer.TheVariants.Refused refusal) = refused refusal
-
 -- above 200.0 dB a level is refused
-unfoldable pub level_of : ℕ → Answer Float
-level_of tenths = cond (ltb 2000 tenths) (refused Level) (accepted (amplitude_of tenths))
+unfoldable pub level_of : ℕ → Result Float Refusal
+level_of tenths = cond (ltb 2000 tenths) (Err Level) (Ok (amplitude_of tenths))

@@ -3,7 +3,7 @@
 
 ghost use Rattle.std.specs.Prelude.{◌≡◌, ◌<◌, ◌≤◌, ◌*◌, ◌^◌};
 ghost use Rattle.std.specs.Float.Ieee.Nearest.{closest};
-ghost use Rattle.draw_level.specs.Levels.{entry_of, amplitude_of, answer_of, level_of};
+ghost use Rattle.draw_level.specs.Levels.{entry_of, amplitude_of, level_of};
 
 use refusals::Refusal;
 
@@ -12,10 +12,8 @@ const HIGHEST_TENTHS: u64 = 2000;
 // Tenths in 20 dB: a factor of 10 in amplitude, and the length of the table.
 const TENTHS_A_DECADE: u64 = 200;
 
-// A significand of f32 has 24 bits: it is from LEAST_SIGNIFICAND to below PAST_SIGNIFICAND.
+// A significand of f32 has 24 bits: it is from this to below its double.
 const LEAST_SIGNIFICAND: u64 = 0x80_0000;
-
-const PAST_SIGNIFICAND: u64 = 0x100_0000;
 
 // An f32 with the exponent field E and the significand q is q * 2^(E - 150), and its bits are (E - 1) * 2^23 + q. An amplitude is
 // q * 2^(halvings + decades - 44), so E - 1 is this number more than halvings + decades.
@@ -225,20 +223,8 @@ const LEVELS: [u64; 200] = [
     10614508029,
 ];
 
-const POWERS_OF_FIVE: [u64; 11] = [
-    1, 5, 25, 125, 625, 3125, 15625, 78125, 390625, 1953125, 9765625,
-];
-
-// What the level function answers.
-#[derive(Clone, Copy)]
-pub enum LevelAnswer {
-    // The amplitude.
-    Accepted(f32),
-    // Refusal 13.
-    Refused(Refusal),
-}
-
 // The table's entry for k tenths.
+#[tactic(auto, unfolding(crate::specs::Levels::table, crate::specs::Levels::entry_of))]
 fn entry(k: u64) -> u64
     requires { k < 200 }
     ensures { result ≡ entry_of k }
@@ -246,28 +232,16 @@ fn entry(k: u64) -> u64
     LEVELS[k as usize]
 }
 
-fn power_of_five(j: u64) -> u64
-    requires { j < 11 }
-    ensures { result ≡ 5 ^ j }
-{
-    POWERS_OF_FIVE[j as usize]
-}
-
 // How often w is halved to have 24 digits before the point.
 fn halvings(w: u64) -> u64
     requires { (0x80_0000 ≤ w) × (w < 0x10_0000_0000_0000) }
     ensures { (result ≤ 28) × (0x80_0000 * 2 ^ result ≤ w) × (w < 0x100_0000 * 2 ^ result) }
 {
-    let mut e: u64 = 0;
-    let mut past: u64 = PAST_SIGNIFICAND;
-    while past <= w {
-        past = past * 2;
-        e = e + 1;
-    }
-    e
+    u64::from(w.ilog2()) - 23
 }
 
 // a / b to the nearest whole number, a tie to the even one.
+#[tactic(auto, using(float_rounding::proofs::Half::closest_down, float_rounding::proofs::Half::closest_up, float_rounding::proofs::Half::closest_tie))]
 fn nearest_even(a: u64, b: u64) -> u64
     requires { (0 < b) × (a < 0x4000_0000_0000_0000) }
     ensures { result ≡ closest a b }
@@ -290,18 +264,19 @@ fn amplitude(tenths: u64) -> f32
     ensures { result ≡ amplitude_of tenths }
 {
     let decades = tenths / TENTHS_A_DECADE;
-    let scaled = entry(tenths % TENTHS_A_DECADE) * power_of_five(decades);
+    let scaled = entry(tenths % TENTHS_A_DECADE) * 5u64.pow(decades as u32);
     let e = halvings(scaled / 125);
     let significand = nearest_even(scaled, 125 << e);
     f32::from_bits(((e + decades + EXPONENT) * LEAST_SIGNIFICAND + significand) as u32)
 }
 
 // The amplitude of a level in tenths of a decibel, or refusal 13 above 200.0 dB.
-pub fn of_tenths(tenths: u64) -> LevelAnswer
-    ensures { answer_of result ≡ level_of tenths }
+#[tactic(auto, unfolding(crate::specs::Levels::level_of))]
+pub fn of_tenths(tenths: u64) -> Result<f32, Refusal>
+    ensures { result ≡ level_of tenths }
 {
     if tenths > HIGHEST_TENTHS {
-        return LevelAnswer::Refused(Refusal::Level);
+        return Err(Refusal::Level);
     }
-    LevelAnswer::Accepted(amplitude(tenths))
+    Ok(amplitude(tenths))
 }

@@ -6,7 +6,8 @@ use native.Mathlib.Omega.{arith}
 use lib.Pow.{pow-add, pow_pos}
 use lib.Ieee.{Float}
 use Rattle.draw_level.specs.Levels.{scale, Entry}
-use Rattle.draw_level.proofs.Powers.{mul_pow, pow_mul}
+use Rattle.std.proofs.lemmas.Nat.{mul-pow}
+use Rattle.draw_level.proofs.Powers.{pow_mul}
 use Rattle.draw_level_laws.specs.LevelLaws.{NearestEven, Within}
 
 -- ---- the linear part: U is a step, qU the rounded value and A the exact quotient
@@ -37,17 +38,17 @@ module _ (n k j : ℕ) (split : n ≡ j * 200 + k) where
   spread = shuffle (10 ^ k) (2 ^ 6000) ((10 ^ j) ^ 200) ∙ ap (λ (x : ℕ). x * 2 ^ 6000) (sym tenth)
 
   at_most : (t : ℕ) → t ^ 200 ≤ 10 ^ k * 2 ^ 6000 → (t * 10 ^ j) ^ 200 ≤ 10 ^ n * 2 ^ 6000
-  at_most t h = le_trans (le_of_eq (mul_pow t (10 ^ j) 200)) (le_trans (mul-le-mul_right ((10 ^ j) ^ 200) h) (le_of_eq spread))
+  at_most t h = le_trans (le_of_eq (mul-pow t (10 ^ j) 200)) (le_trans (mul-le-mul_right ((10 ^ j) ^ 200) h) (le_of_eq spread))
 
   at_least : (t : ℕ) → 10 ^ k * 2 ^ 6000 ≤ t ^ 200 → 10 ^ n * 2 ^ 6000 ≤ (t * 10 ^ j) ^ 200
-  at_least t h = le_trans (le_of_eq (sym spread)) (le_trans (mul-le-mul_right ((10 ^ j) ^ 200) h) (le_of_eq (sym (mul_pow t (10 ^ j) 200))))
+  at_least t h = le_trans (le_of_eq (sym spread)) (le_trans (mul-le-mul_right ((10 ^ j) ^ 200) h) (le_of_eq (sym (mul-pow t (10 ^ j) 200))))
 
   power_up : (N D W : ℕ) → N * 2 ^ 30 ≤ D * W → W ^ 200 ≤ 10 ^ n * 2 ^ 6000 → N ^ 200 ≤ D ^ 200 * 10 ^ n
   power_up N D W h k =
       le_of_mul-le-mul_right {k = 2 ^ 6000}
-      (le_trans (le_of_eq (sym (mul_pow N (2 ^ 30) 200)))
+      (le_trans (le_of_eq (sym (mul-pow N (2 ^ 30) 200)))
       (le_trans (pow-le-pow_left h 200)
-      (le_trans (le_of_eq (mul_pow D W 200)) (le_trans (mul-le-mul_left (D ^ 200) k) (le_of_eq (sym (mul_assoc (D ^ 200) (10 ^ n) (2 ^ 6000))))))))
+      (le_trans (le_of_eq (mul-pow D W 200)) (le_trans (mul-le-mul_left (D ^ 200) k) (le_of_eq (sym (mul_assoc (D ^ 200) (10 ^ n) (2 ^ 6000))))))))
       (pow_pos 6000)
 
   power_down : (N D W : ℕ) → D * W ≤ N * 2 ^ 30 → 10 ^ n * 2 ^ 6000 ≤ W ^ 200 → D ^ 200 * 10 ^ n ≤ N ^ 200
@@ -55,7 +56,7 @@ module _ (n k j : ℕ) (split : n ≡ j * 200 + k) where
       le_of_mul-le-mul_right {k = 2 ^ 6000}
       (le_trans (le_of_eq (mul_assoc (D ^ 200) (10 ^ n) (2 ^ 6000)))
       (le_trans (mul-le-mul_left (D ^ 200) k)
-      (le_trans (le_of_eq (sym (mul_pow D W 200))) (le_trans (pow-le-pow_left h 200) (le_of_eq (mul_pow N (2 ^ 30) 200))))))
+      (le_trans (le_of_eq (sym (mul-pow D W 200))) (le_trans (pow-le-pow_left h 200) (le_of_eq (mul-pow N (2 ^ 30) 200))))))
       (pow_pos 6000)
 
 -- ---- the amplitude x of n tenths, n = 200 j + k, from the entry t

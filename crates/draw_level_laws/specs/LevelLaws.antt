@@ -1,10 +1,9 @@
 -- What holds of the table and of every level (SPECIFICATION 6.15), in whole numbers: the table's rule; the amplitude is the nearest f32, ties to even; it is within one part in 2 ^ 22 of the exact figure; and what is refused.
-use Rattle.std.specs.Prelude.{◌≡◌, false, ℕ, ◌+◌, ◌*◌, ◌/◌, ◌%◌, ◌^◌, ◌≤◌, ◌<◌, Float, length}
+use Rattle.std.specs.Prelude.{Ok, Err, ◌≡◌, false, ℕ, ◌+◌, ◌*◌, ◌/◌, ◌%◌, ◌^◌, ◌≤◌, ◌<◌, Float, length}
 use Rattle.std.specs.Float.{binary32}
 use Rattle.std.specs.Float.Ieee.{of_bits}
 use Rattle.std.specs.Float.Ieee.Exact.{HasValue}
 use Rattle.refusals.specs.declared.Refusal.TheVariants.{Level}
-use Rattle.refusals.specs.Answer.{accepted, refused}
 use Rattle.draw_level.specs.Levels.{table, entry_of, Entry, amplitude_of, level_of}
 
 -- x is the normal f32 nearest to a / b, ties to even. From one f32 to the next is a step of 2 ^ (exponent - 149) where a / b lies, since it is from 2 ^ 23 to below 2 ^ 24 of them. x is `significand` steps: at most half a step from a / b, and an even number of them if it is half a step.
@@ -42,5 +41,5 @@ pub record LevelLaws : Type 0 where
   pub bits_343 : amplitude_of 343 ≡ of_bits binary32 0x37d4_8020
   pub bits_601 : amplitude_of 601 ≡ of_bits binary32 0x3a01_7b70
   pub bits_2000 : amplitude_of 2000 ≡ of_bits binary32 0x4598_9680
-  pub accepts : (n : ℕ) → n ≤ 2000 → level_of n ≡ accepted (amplitude_of n)
-  pub refuses : (n : ℕ) → 2000 < n → level_of n ≡ refused Level
+  pub accepts : (n : ℕ) → n ≤ 2000 → level_of n ≡ Ok (amplitude_of n)
+  pub refuses : (n : ℕ) → 2000 < n → level_of n ≡ Err Level

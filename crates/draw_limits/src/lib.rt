@@ -6,7 +6,10 @@ ghost use Rattle.distributions.specs.Drawn.{offset_draw_fits, phase_draw_fits, c
 
 use distributions::{CarrierOffset, CarrierPhase, ClockError};
 
+// Three functions and no trait: each distribution has a rule of its own, and no caller is generic over them.
+
 // Whether a carrier draw is in range.
+#[tactic(auto, unfolding(distributions::specs::Drawn::offset_draw_fits))]
 pub fn offset_draw_fits(d: CarrierOffset, draw: f64) -> bool
     ensures { result ≡ offset_draw_fits d draw }
 {
@@ -16,16 +19,15 @@ pub fn offset_draw_fits(d: CarrierOffset, draw: f64) -> bool
     }
 }
 
+#[tactic(auto, unfolding(distributions::specs::Drawn::from_minus_pi_below_pi), using(math::proofs::Literals::pi_is))]
 fn from_minus_pi_below_pi(x: f64) -> bool
     ensures { result ≡ Rattle.distributions.specs.Drawn.from_minus_pi_below_pi x }
 {
-    if x >= -3.141592653589793 {
-        return x < 3.141592653589793;
-    }
-    false
+    x >= -3.141592653589793 && x < 3.141592653589793
 }
 
 // Whether a phase draw is in range.
+#[tactic(auto, unfolding(distributions::specs::Drawn::phase_draw_fits))]
 pub fn phase_draw_fits(d: CarrierPhase, draw: f64) -> bool
     ensures { result ≡ phase_draw_fits d draw }
 {
@@ -36,6 +38,7 @@ pub fn phase_draw_fits(d: CarrierPhase, draw: f64) -> bool
 }
 
 // Whether a clock draw is in range.
+#[tactic(auto, unfolding(distributions::specs::Drawn::clock_draw_fits))]
 pub fn clock_draw_fits(d: ClockError, draw: f64) -> bool
     ensures { result ≡ clock_draw_fits d draw }
 {

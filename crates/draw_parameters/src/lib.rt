@@ -6,7 +6,10 @@ ghost use Rattle.distributions.specs.Drawn.{clamped, offset_of, phase_of, error_
 
 use distributions::{CarrierOffset, CarrierPhase, ClockError};
 
+// Three functions and no trait: each distribution has a rule of its own, and no caller is generic over them.
+
 // Rust's `x.clamp(-max, max)`.
+#[tactic(auto, unfolding(distributions::specs::Drawn::clamped))]
 fn clamp(x: f64, max: f64) -> f64
     ensures { result ≡ clamped x max }
 {
@@ -20,6 +23,7 @@ fn clamp(x: f64, max: f64) -> f64
 }
 
 // The carrier offset that a draw gives.
+#[tactic(auto, unfolding(distributions::specs::Drawn::offset_of))]
 pub fn offset_of(d: CarrierOffset, draw: f64) -> f64
     ensures { result ≡ offset_of d draw }
 {
@@ -30,6 +34,7 @@ pub fn offset_of(d: CarrierOffset, draw: f64) -> f64
 }
 
 // The carrier phase that a draw gives.
+#[tactic(auto, unfolding(distributions::specs::Drawn::phase_of))]
 pub fn phase_of(d: CarrierPhase, draw: f64) -> f64
     ensures { result ≡ phase_of d draw }
 {
@@ -40,6 +45,7 @@ pub fn phase_of(d: CarrierPhase, draw: f64) -> f64
 }
 
 // The clock error that a draw gives.
+#[tactic(auto, unfolding(distributions::specs::Drawn::error_of))]
 pub fn error_of(d: ClockError, draw: f64) -> f64
     ensures { result ≡ error_of d draw }
 {

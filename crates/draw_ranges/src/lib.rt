@@ -3,105 +3,88 @@
 
 ghost use Rattle.std.specs.Prelude.{◌≡◌};
 ghost use Rattle.message.specs.Types.{type_numbered};
-ghost use Rattle.message.specs.Making.{checked};
 ghost use Rattle.draw.specs.Fault.{type_fits, amplitude_fits, mode_ac_limit, clock_fits, parameter_fault, message_fault, draw_fault};
 
 use draw::Draw;
-use le_read::wide;
-use message::{FieldFault, ReplyKind, TypeFound};
+use message::ReplyKind;
 use settings::{Distributions, MessagesPerSecond};
 
+#[tactic(auto, unfolding(draw::specs::Fault::type_fits))]
 fn type_fits(rates: MessagesPerSecond, kind: u8) -> bool
     ensures { result ≡ type_fits rates kind }
 {
-    settings::rate_of(rates, wide(kind)) > 0.0
+    settings::rate_of(rates, u64::from(kind)) > 0.0
 }
 
+#[tactic(auto, unfolding(draw::specs::Fault::amplitude_fits))]
 fn amplitude_fits(a: f32) -> bool
     ensures { result ≡ amplitude_fits a }
 {
-    if a >= 0.0 {
-        return a <= 1048576.0;
-    }
-    false
+    a >= 0.0 && a <= 1048576.0
 }
 
 // The Mode A/C limit on the clock error.
+#[tactic(auto, unfolding(draw::specs::Fault::mode_ac_limit), using(distributions::proofs::Literals::tenth_is))]
 fn within_limit(kind: u8, e: f64) -> bool
     ensures { result ≡ mode_ac_limit kind e }
 {
-    if kind == 6 {
-        return float_range::within(
+    kind != 6
+        || float_range::within(
             message_config::filter_clock_error(ReplyKind::ModeAc, e),
             0.1,
-        );
-    }
-    true
+        )
 }
 
+#[tactic(auto, unfolding(draw::specs::Fault::clock_fits))]
 fn clock_fits(all: Distributions, kind: u8, draw: f64) -> bool
     ensures { result ≡ clock_fits all kind draw }
 {
-    let clock = all.clock;
-    if draw_limits::clock_draw_fits(clock, draw) {
-        return within_limit(kind, draw_parameters::error_of(clock, draw));
-    }
-    false
-}
-
-// A field's number where it does not fit, or else what comes of the later fields.
-fn fault_or(field: u64, fits: bool, rest: FieldFault) -> FieldFault
-    ensures { result ≡ checked field fits rest }
-{
-    if fits {
-        return rest;
-    }
-    FieldFault::Field(field)
+    draw_limits::clock_draw_fits(all.clock, draw)
+        && within_limit(kind, draw_parameters::error_of(all.clock, draw))
 }
 
 // Fields 7 to 12.
-fn message_fault(d: Draw) -> FieldFault
+#[tactic(auto, unfolding(draw::specs::Fault::message_fault))]
+fn message_fault(d: Draw) -> Option<u64>
     ensures { result ≡ message_fault (type_numbered d.kind) d }
 {
-    let p = d.picks;
-    match message::message_type(d.kind) {
-        TypeFound::Of(t) => message_faults::field_fault(t, p),
-        TypeFound::Unknown => FieldFault::NoFault,
-    }
+    let t = message::message_type(d.kind)?;
+    message_faults::field_fault(t, d.picks)
 }
 
 // Fields 4 to 12.
-fn parameter_fault(all: Distributions, d: Draw) -> FieldFault
+#[tactic(auto, unfolding(draw::specs::Fault::parameter_fault))]
+fn parameter_fault(all: Distributions, d: Draw) -> Option<u64>
     ensures { result ≡ parameter_fault all d }
 {
-    let carrier = all.carrier;
-    let phase = all.phase;
-    fault_or(
-        4,
-        draw_limits::offset_draw_fits(carrier, d.carrier),
-        fault_or(
-            5,
-            draw_limits::phase_draw_fits(phase, d.phase),
-            fault_or(6, clock_fits(all, d.kind, d.clock), message_fault(d)),
-        ),
-    )
+    if !draw_limits::offset_draw_fits(all.carrier, d.carrier) {
+        return Some(4);
+    }
+    if !draw_limits::phase_draw_fits(all.phase, d.phase) {
+        return Some(5);
+    }
+    if !clock_fits(all, d.kind, d.clock) {
+        return Some(6);
+    }
+    message_fault(d)
 }
 
 // The first field of a draw that is out of range.
-pub fn field_fault(rates: MessagesPerSecond, all: Distributions, d: Draw) -> FieldFault
+#[tactic(auto, unfolding(draw::specs::Fault::draw_fault))]
+pub fn field_fault(rates: MessagesPerSecond, all: Distributions, d: Draw) -> Option<u64>
     ensures { result ≡ draw_fault rates all d }
 {
-    fault_or(
-        0,
-        distributions::finite_not_negative(d.gap),
-        fault_or(
-            1,
-            type_fits(rates, d.kind),
-            fault_or(
-                2,
-                float_range::finite(d.cn0),
-                fault_or(3, amplitude_fits(d.amplitude), parameter_fault(all, d)),
-            ),
-        ),
-    )
+    if !distributions::finite_not_negative(d.gap) {
+        return Some(0);
+    }
+    if !type_fits(rates, d.kind) {
+        return Some(1);
+    }
+    if !float_range::finite(d.cn0) {
+        return Some(2);
+    }
+    if !amplitude_fits(d.amplitude) {
+        return Some(3);
+    }
+    parameter_fault(all, d)
 }

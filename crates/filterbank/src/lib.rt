@@ -12,29 +12,29 @@ ghost use Rattle.filterbank.specs.Taps.{one, scaled, branch_of, tau_of, branch, 
 use constants::SamplesPerPulse;
 
 // The phase times the branches.
+#[tactic(auto, unfolding(crate::specs::Taps::scaled))]
 fn scaled_phase(setting: SamplesPerPulse, phase: f64) -> f64
     ensures { result ≡ scaled (per_pulse setting) phase }
 {
-    phase * std::num::nearest_u64_to_f64(setting.branches() as u64)
+    phase * std::num::nearest_usize_to_f64(setting.branches())
 }
 
 // The branch at a phase.
+#[tactic(auto, unfolding(crate::specs::Taps::branch_of))]
 fn branch_of(setting: SamplesPerPulse, phase: f64) -> usize
     ensures { (result ≡ branch_of (per_pulse setting) phase) × (result < branches (per_pulse setting)) }
 {
     let a = float_to_int::to_usize(scaled_phase(setting, phase));
-    if a < setting.branches() {
-        return a;
-    }
-    0
+    if a < setting.branches() { a } else { 0 }
 }
 
 // How far the phase lies past branch a.
+#[tactic(auto, unfolding(crate::specs::Taps::tau_of))]
 fn tau_of(setting: SamplesPerPulse, phase: f64, a: usize) -> f32
     requires { a ≡ branch_of (per_pulse setting) phase }
     ensures { result ≡ tau_of (per_pulse setting) phase }
 {
-    float_narrow::narrow(scaled_phase(setting, phase) - std::num::nearest_u64_to_f64(a as u64))
+    float_narrow::narrow(scaled_phase(setting, phase) - std::num::nearest_usize_to_f64(a))
 }
 
 // (1 - tau) * p[i] + tau * p[j].
@@ -82,6 +82,7 @@ fn at_bank_end(setting: SamplesPerPulse, p: &[f32], tau: f32) -> [f32; 7]
 }
 
 // The seven taps at a clock phase.
+#[tactic(auto, unfolding(crate::specs::Taps::filter_taps, crate::specs::Taps::next_branch))]
 pub fn filter_taps(setting: SamplesPerPulse, prototype: &[f32], phase: f64) -> [f32; 7]
     ensures { result ≡ filter_taps (per_pulse setting) prototype.now phase }
 {
@@ -91,9 +92,10 @@ pub fn filter_taps(setting: SamplesPerPulse, prototype: &[f32], phase: f64) -> [
     let a = branch_of(setting, phase);
     let tau = tau_of(setting, phase, a);
     if a + 1 < setting.branches() {
-        return within_bank(setting, prototype, tau, a);
+        within_bank(setting, prototype, tau, a)
+    } else {
+        at_bank_end(setting, prototype, tau)
     }
-    at_bank_end(setting, prototype, tau)
 }
 
 #[derive(Clone, Copy)]

@@ -6,19 +6,15 @@ ghost use Rattle.std.specs.Float.{binary32};
 ghost use Rattle.std.specs.Float.Ieee.{add};
 ghost use Rattle.filterbank.specs.PaddedPulsesModel.{pad_pulses, padded_sum};
 
-use constants::{MAX_POSITIONS, least};
+use constants::MAX_POSITIONS;
 
 // The first `len` pulses padded by six positions, so that a sum over them needs no tests of their positions.
 pub fn pad_pulses(on: [bool; MAX_POSITIONS], len: usize) -> [bool; 252]
     ensures { result ≡ pad_pulses (take len on) }
 {
-    let n = least(len, MAX_POSITIONS);
+    let n = len.min(MAX_POSITIONS);
     let mut out = [false; 252];
-    let mut j: usize = 0;
-    while j < n {
-        out[j + 6] = on[j];
-        j = j + 1;
-    }
+    out[6..6 + n].copy_from_slice(&on[..n]);
     out
 }
 

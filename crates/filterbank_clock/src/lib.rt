@@ -9,6 +9,7 @@ use constants::SamplesPerPulse;
 use filterbank::Clock;
 
 // What a sample adds to the phase.
+#[tactic(auto, using(filterbank::proofs::Literals::is1), unfolding(filterbank::specs::Clocked::step_of))]
 pub fn clock_step(setting: SamplesPerPulse, e: f64) -> f64
     ensures { result ≡ step_of (per_pulse setting) e }
 {
@@ -16,6 +17,7 @@ pub fn clock_step(setting: SamplesPerPulse, e: f64) -> f64
 }
 
 // The clock before the first sample, from a phase in samples.
+#[tactic(auto, unfolding(filterbank::specs::Clocked::start_clock))]
 pub fn start_clock(setting: SamplesPerPulse, phase: f64) -> Clock
     ensures { result ≡ start_clock (per_pulse setting) phase }
 {
@@ -26,18 +28,20 @@ pub fn start_clock(setting: SamplesPerPulse, phase: f64) -> Clock
 }
 
 // The clock after one sample more.
+#[tactic(auto, using(filterbank::proofs::Literals::is1), unfolding(filterbank::specs::Clocked::advance, filterbank::specs::Clocked::settle))]
 pub fn advance(clock: Clock, step: f64) -> Clock
     ensures { result ≡ in64 (advanced step clock) }
 {
     let next = clock.phase + step;
     if next >= 1.0 {
-        return Clock {
+        Clock {
             phase: next - 1.0,
-            index: std::num::wrapping_add_usize(clock.index, 1),
-        };
-    }
-    Clock {
-        phase: next,
-        index: clock.index,
+            index: clock.index.wrapping_add(1),
+        }
+    } else {
+        Clock {
+            phase: next,
+            ..clock
+        }
     }
 }

@@ -9,38 +9,26 @@ ghost use Rattle.std.specs.Float.Ieee.{of_bits, to_bits};
 pub fn f64_of(n: u64) -> f64
     ensures { result ≡ of_bits binary64 n }
 {
-    if n % 0x8000_0000_0000_0000 > 0x7ff0_0000_0000_0000 {
-        return 0.0 / 0.0;
-    }
-    f64::from_bits(n)
+    std::num::f64_from_bits_with_nan(n)
 }
 
 // The `f32` of a pattern. The pattern of any NaN gives the NaN.
 pub fn f32_of(n: u32) -> f32
     ensures { result ≡ of_bits binary32 n }
 {
-    if n % 0x8000_0000 > 0x7f80_0000 {
-        return 0.0 / 0.0;
-    }
-    f32::from_bits(n)
+    std::num::f32_from_bits_with_nan(n)
 }
 
 // The pattern of an `f64`. A NaN gives that of the quiet one with no payload, 0x7ff8_0000_0000_0000.
 pub fn bits_of(x: f64) -> u64
     ensures { result ≡ to_bits binary64 x }
 {
-    if x != x {
-        return 0x7ff8_0000_0000_0000;
-    }
-    f64::to_bits(x)
+    std::num::f64_to_bits_with_nan(x)
 }
 
 // The pattern of an `f32`. A NaN gives that of the quiet one with no payload, 0x7fc0_0000.
 pub fn bits_of_f32(x: f32) -> u32
     ensures { result ≡ to_bits binary32 x }
 {
-    if x != x {
-        return 0x7fc0_0000;
-    }
-    f32::to_bits(x)
+    std::num::f32_to_bits_with_nan(x)
 }

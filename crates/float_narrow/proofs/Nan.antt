@@ -1,7 +1,7 @@
 -- What the tests for a NaN say: `x != x` of a value, and a size above the infinity's of a pattern.
 use Rattle.std.proofs.Common.{◌≡◌, ℕ, ◌*◌, ◌%◌, ◌<◌, ◌≤◌, Bool, true, false, not, T, ltb, sym, refl, ◌∙◌, subst, true≢false, lt→ltb, nltb→le}
 use lib.Arith.{le→nltb}
-use lib.Ieee.{Float, nan, inf, fin, Format, ne, is_nan, nan_bits, of_bits, to_bits, fits, hid, ones, top}
+use lib.Ieee.{Float, nan, inf, fin, Format, binary32, binary64, ne, is_nan, nan_bits, of_bits, to_bits, fits, hid, ones, top}
 use lib.Ieee.Bits.{nan_bits_above, nan_bits_is, of_bits-to_bits}
 use lib.Ieee.Compare.{differs_from_itself}
 
@@ -34,3 +34,10 @@ pub size_of_bits : (f : Format) (x : Float) → T (fits f x) → T (not (is_nan 
 size_of_bits f x F N =
     nltb→le (ones f * hid f) (to_bits f x % top f)
     (subst (λ (b : Bool). T (not b)) (nan_bits_above f (to_bits f x)) (subst (λ (b : Bool). T (not b)) (sym (nan_bits_is f (to_bits f x))) (subst (λ (y : Float). T (not (is_nan y))) (sym (of_bits-to_bits f x F)) N)))
+
+-- ---- the same at each format, for the code's own tests
+pub no_nan32 : (n : ℕ) → n % 0x8000_0000 ≤ 0x7f80_0000 → T (not (nan_bits binary32 n))
+no_nan32 n h = no_nan_bits binary32 n h
+
+pub no_nan64 : (n : ℕ) → n % 0x8000_0000_0000_0000 ≤ 0x7ff0_0000_0000_0000 → T (not (nan_bits binary64 n))
+no_nan64 n h = no_nan_bits binary64 n h

@@ -271,18 +271,9 @@ mag_le f d D =
 
 -- ---- what the code asks
 -- in the normal range, and at an infinity's pattern, m being n rounded as a whole
-pub in_range : (n m : ℕ) → n ≤ 9218868437227405312 → 4039728865751334912 ≤ n → m ≡ (n + 268435455 + n / 536870912 % 2) / 536870912 - 7516192768
-    → (2139095040 < m → of_bits binary32 2139095040 ≡ narrow (of_bits binary64 n)) × (m ≤ 2139095040 → of_bits binary32 m ≡ narrow (of_bits binary64 n))
-in_range n m h l e = (λ g. at 2139095040 (capped m g), λ g. at m (kept_as m g))
-  where
-    at : (p : ℕ) → min m 2139095040 ≡ p → of_bits binary32 p ≡ narrow (of_bits binary64 n)
-    at p g = ap (of_bits binary32) (sym g ∙ ap (λ (x : ℕ). min x 2139095040) (e ∙ ap (λ (x : ℕ). x - 7516192768) (closest_half n 268435456 (pow_pos 28))) ∙ sym (whole_pattern n l)) ∙ sym (narrow_bits n h)
-
-    capped : (m : ℕ) → 2139095040 < m → min m 2139095040 ≡ 2139095040
-    capped m g = omega arith
-
-    kept_as : (m : ℕ) → m ≤ 2139095040 → min m 2139095040 ≡ m
-    kept_as m g = omega arith
+pub in_range : (n r : ℕ) → n ≤ 9218868437227405312 → 4039728865751334912 ≤ n → r ≡ min ((n + 268435455 + n / 536870912 % 2) / 536870912 - 7516192768) 2139095040 → of_bits binary32 r ≡ narrow (of_bits binary64 n)
+in_range n r h l e =
+    ap (of_bits binary32) (e ∙ ap (λ (x : ℕ). min (x - 7516192768) 2139095040) (closest_half n 268435456 (pow_pos 28)) ∙ sym (whole_pattern n l)) ∙ sym (narrow_bits n h)
 
 -- below the normal range, with the exponent's field f, half of the divisor being 1 << (925 - f)
 pub half_shl : (f : ℕ) → 872 ≤ f → f < 897 → (0 < 1 * 2 ^ (925 - f) % 18446744073709551616) × (1 * 2 ^ (925 - f) % 18446744073709551616 ≤ 18014398509481984) × (2 * (1 * 2 ^ (925 - f) % 18446744073709551616) ≡ 2 ^ (926 - f))

@@ -1,7 +1,7 @@
 -- `within-test`: a value is within a limit in size where it is neither above the limit nor below its negation; the test of `finite`; and what being within a finite limit says.
 use Rattle.std.proofs.Common.{◌≡◌, ℕ, ◌*◌, ◌≤◌, Bool, true, false, not, T, ℤ, sym, refl, ◌∙◌, subst, true≢false, le_of_eq}
 use mathlib.Core.Bool.{false≢true}
-use lib.Ieee.{Float, nan, inf, fin, up, down, lt, le, neg}
+use lib.Ieee.{Float, nan, inf, fin, binary64, up, down, lt, le, neg, div, of_bits}
 use lib.Ieee.Scale.{finite}
 use Rattle.float_rounding.proofs.Order.{Le, le_fin, fin_le}
 use Rattle.float_rounding.proofs.Val.{Val, le_val, val_le}
@@ -52,6 +52,27 @@ finite_test nan = (λ e. refl, λ e. refl)
 finite_test (inf true) = (λ e. refl, λ e. refl)
 finite_test (inf false) = (λ e. absurd (false≢true e), λ e. refl)
 finite_test (fin s m e) = (λ h. refl, λ h. absurd (true≢false h))
+
+-- the same, a law for each branch of the code's two tests
+pub within_low : (x l : Float) → le x l ≡ true → le (neg l) x ≡ within x l
+within_low x l = (within_test x l).0
+
+pub within_no : (x l : Float) → le x l ≡ false → le x l ≡ within x l
+within_no x l e = e ∙ (within_test x l).1 e
+
+abbrev infinity : Float
+infinity = div binary64 (of_bits binary64 0x3ff0_0000_0000_0000) (of_bits binary64 0)
+
+abbrev minus_infinity : Float
+minus_infinity = div binary64 (neg (of_bits binary64 0x3ff0_0000_0000_0000)) (of_bits binary64 0)
+
+pub finite_low : (x : Float) → lt x infinity ≡ true → lt minus_infinity x ≡ finite x
+unfolding div neg of_bits
+finite_low x = (finite_test x).0
+
+pub finite_no : (x : Float) → lt x infinity ≡ false → lt x infinity ≡ finite x
+unfolding div neg of_bits
+finite_no x e = e ∙ (finite_test x).1 e
 
 -- ---- for the crates above
 pub within_finite : (x : Float) (t : Bool) (n : ℕ) (d : ℤ) → T (within x (fin t n d)) → T (finite x)

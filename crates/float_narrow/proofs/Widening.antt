@@ -1,6 +1,7 @@
 -- An `f32` in the normal range has the `f64` pattern m + 896 * 2 ^ 23 with 29 zeros after it (`widened`). So an `f64` pattern in that range, rounded to its upper 35 bits, is a value that `f32` holds, and the nearest there (`rounded`).
 use Rattle.std.proofs.Common.{◌≡◌, ℕ, zero, suc, ◌+◌, ◌-◌, ◌*◌, ◌/◌, ◌%◌, ◌^◌, ◌<◌, ◌≤◌, Bool, true, false, cond, not, T, eqb, leb, pos, negsuc, sym, refl, ap, ◌∙◌, subst, inl, inr, lt_irrefl, eq-zero-or-pos, mul-one, mul-div_cancel, arith, le→leb, eqb→eq, leb→le, pow_pos, pow-add}
 use native.Mathlib.Nat.{div-div-eq-div-mul}
+use Prim.Native.Nat.{min}
 use lib.Dec.{nleb→lt}
 use lib.Arith.{lt→nleb}
 use lib.Bits.{shifted_half, shifted_even}
@@ -141,11 +142,14 @@ widened m lo hi =
 unfoldable pub upper : ℕ → ℕ
 upper b = (b + 268435455 + b / 536870912 % 2) / 536870912 * 536870912
 
+below_top : (m : ℕ) → m ≤ 2139095040 → m ≡ min m 2139095040
+below_top m h = omega arith
+
 clear : (n : ℕ) → 4039728865751334912 ≤ n → n < 5179139571476070400 → of_bits binary64 (upper n) ≡ narrow (of_bits binary64 n)
 unfolding upper
 clear n lo hi =
     let m = (n + 268435455 + n / 536870912 % 2) / 536870912 - 7516192768 in
-    ap (of_bits binary64) (back n lo) ∙ widened m (least n lo) (most n hi) ∙ (in_range n m (finite n hi) lo refl).1 (under_top n hi)
+    ap (of_bits binary64) (back n lo) ∙ widened m (least n lo) (most n hi) ∙ in_range n m (finite n hi) lo (below_top m (under_top n hi))
   where
     back : (n : ℕ) → 4039728865751334912 ≤ n → (n + 268435455 + n / 536870912 % 2) / 536870912 * 536870912 ≡ ((n + 268435455 + n / 536870912 % 2) / 536870912 - 7516192768 + 7516192768) * 536870912
     back n h = omega arith

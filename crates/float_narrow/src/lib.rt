@@ -38,7 +38,7 @@ fn magnitude(n: u64) -> u64
         return narrow_small(n);
     }
     let m = (n + 0xfff_ffff + n / 0x2000_0000 % 2) / 0x2000_0000 - 0x1_c000_0000;
-    if m > 0x7f80_0000 { 0x7f80_0000 } else { m }
+    m.min(0x7f80_0000)
 }
 
 // The `f32` of an `f64` pattern in the normal range: rounded as a whole to its upper 35 bits it is a value that `f32` holds, so that the cast loses nothing.
@@ -71,10 +71,7 @@ pub fn narrow(x: f64) -> f32
     }
     let bits = f64::to_bits(x);
     let size = bits % 0x8000_0000_0000_0000;
-    if size < 0x3810_0000_0000_0000 {
-        return narrow_any(x);
-    }
-    if size >= 0x47e0_0000_0000_0000 {
+    if size < 0x3810_0000_0000_0000 || 0x47e0_0000_0000_0000 <= size {
         return narrow_any(x);
     }
     narrow_normal(bits)

@@ -6,31 +6,25 @@ ghost use Rattle.std.specs.Float.Ieee.Scale.{finite as is_finite};
 ghost use Rattle.float_narrow.specs.Range.{within as isWithin};
 
 // x is neither a NaN nor an infinity.
+#[tactic(auto, using(float_narrow::proofs::Ranges::finite_low, float_narrow::proofs::Ranges::finite_no))]
 pub fn finite(x: f64) -> bool
     ensures { result ≡ is_finite x }
 {
-    if x < 1.0 / 0.0 {
-        return x > -1.0 / 0.0;
-    }
-    false
+    x < 1.0 / 0.0 && x > -1.0 / 0.0
 }
 
 // The size of x is at most limit. A NaN is within no limit.
+#[tactic(auto, using(float_narrow::proofs::Ranges::within_low, float_narrow::proofs::Ranges::within_no))]
 pub fn within(x: f64, limit: f64) -> bool
     ensures { result ≡ isWithin x limit }
 {
-    if x <= limit {
-        return x >= -limit;
-    }
-    false
+    x <= limit && x >= -limit
 }
 
-// The size of x is at most limit. A NaN is within no limit.
+// The same of an `f32`: widened to `f64`, the loop that tests a call's noise would take half as many values at a time.
+#[tactic(auto, using(float_narrow::proofs::Ranges::within_low, float_narrow::proofs::Ranges::within_no))]
 pub fn within_f32(x: f32, limit: f32) -> bool
     ensures { result ≡ isWithin x limit }
 {
-    if limit >= x {
-        return -limit <= x;
-    }
-    false
+    limit >= x && -limit <= x
 }

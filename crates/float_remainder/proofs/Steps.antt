@@ -1,10 +1,9 @@
 -- Taking multiples of a turn off a number, the largest first: each difference is exact, and what is left of the number by a turn stays.
 use mathlib.Core.Path.{◌≡◌, refl, sym, ap, ◌∙◌, subst}
-use Prim.Native.Nat.{ℕ, zero, suc, ◌+◌, ◌-◌, ◌*◌, ◌%◌, ◌^◌, ◌≤◌, ◌<◌}
-use native.Mathlib.Nat.{mul_assoc, mul_comm, mul_left_comm, mul-sub, mul-one, one-mul, mul-pos, pow-suc, lt_of_lt_of_le, lt_of_le_of_lt, le_of_lt, le_of_eq, lt_irrefl, lt_of_mul-lt-mul_right, mul-add-mod_self_right, mod-eq_of_lt, mul-mod_left, mul-le-mul_right, le_trans, sub-le, zero-mod}
+use Prim.Native.Nat.{ℕ, suc, ◌+◌, ◌-◌, ◌*◌, ◌%◌, ◌^◌, ◌≤◌, ◌<◌}
+use native.Mathlib.Nat.{mul_assoc, mul_comm, mul_left_comm, mul-sub, one-mul, mul-pos, pow-suc, lt_of_lt_of_le, lt_of_le_of_lt, le_of_lt, le_of_eq, lt_irrefl, lt_of_mul-lt-mul_right, mul-add-mod_self_right, mod-eq_of_lt, mul-mod_left, mul-le-mul_right, le_trans, sub-le, zero-mod}
 use native.Mathlib.Omega.{arith}
 use mathlib.Core.Bool.{Bool, true, false, not, cond, true≢false, false≢true}
-use mathlib.Core.Logic.{◌⊎◌, inl, inr}
 use lib.IntN.{ℤ, negsuc}
 use lib.Dec.{T, eqb, leb, lit<, lit≤}
 use borrow.Author.Tests.{leb-true, leb-false}
@@ -12,7 +11,7 @@ use lib.Pow.{pow-add, pow_pos, pow_mono, shl_lt}
 use lib.Ieee.{Float, nan, inf, fin, binary64, fits, le, sub, add, mul, neg, rem, div, eq, round, of_bits, up, down}
 use lib.Ieee.Scale.{finite}
 use lib.Ieee.Bits.{of_bits-fits}
-use lib.Ieee.Fits.{sub-fits, mul-fits, rem-fits, neg-fits}
+use lib.Ieee.Fits.{sub-fits, rem-fits, neg-fits}
 use Rattle.float_rounding.proofs.Units.{G}
 use Rattle.float_rounding.proofs.More.{Rep, G-rep, rep_of, sub_is}
 use Rattle.float_rounding.proofs.Units.{G-exact}

@@ -12,6 +12,7 @@ const TWO_PI: f64 = 6.283185307179586;
 const LARGEST: f64 = 1.4119048864730642e308;
 
 // What is left of r once t is taken off, where it can be.
+#[tactic(auto, unfolding(crate::specs::Turn::taken))]
 fn taken_off(r: f64, t: f64) -> f64
     ensures { result ≡ taken r t }
 {
@@ -33,16 +34,15 @@ fn far(x: f64) -> f64
     }
     let mut r = x;
     let mut t = LARGEST;
-    let mut i: usize = 1022;
-    while 0 < i {
+    for i in 0..1022usize {
         r = taken_off(r, t);
         t = t * 0.5;
-        i = i - 1;
     }
     r
 }
 
 // Rust's `x % (2.0 * PI)`.
+#[tactic(auto, using(crate::proofs::Steps::small, crate::proofs::Steps::rem_neg), unfolding(crate::specs::Turn::turn))]
 pub fn rem_two_pi(x: f64) -> f64
     ensures { result ≡ rem binary64 x turn }
 {

@@ -1,2 +1,1 @@
 mod Ceiling
-mod Truncation

@@ -1,4 +1,4 @@
-// What the language lacks: `as u64`, `as usize` and the ceiling of an `f64` as Rust has them.
+// The ceiling of an `f64` as an integer, and `as u64` and `as usize` of one, as Rust has them.
 #![tactic(auto)]
 
 ghost use Rattle.std.specs.Prelude.{◌≡◌, false, T, pos};
@@ -46,18 +46,12 @@ pub fn ceil_to_i64(x: f64) -> i64
 pub fn to_u64(x: f64) -> u64
     ensures { result ≡ to_unsigned 64 x }
 {
-    if x >= 1.0 {
-        if x < 18446744073709551616.0 {
-            return std::num::truncating_f64_to_u64(x);
-        }
-        return 18446744073709551615;
-    }
-    0
+    std::num::saturating_f64_to_u64(x)
 }
 
 // Rust's `x as usize`.
 pub fn to_usize(x: f64) -> usize
     ensures { result ≡ to_unsigned 64 x }
 {
-    to_u64(x) as usize
+    std::num::saturating_f64_to_usize(x)
 }

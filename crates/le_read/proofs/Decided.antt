@@ -1,5 +1,5 @@
 -- What the code's test of an offset decides: which case of a read or of a write holds.
-use Prim.Native.Nat.{ℕ, ◌+◌, ◌-◌, ◌≤◌}
+use Prim.Native.Nat.{ℕ, ◌+◌, ◌-◌, ◌≤◌, ◌<◌}
 use mathlib.Core.Path.{◌≡◌, refl, sym, ap, ◌∙◌}
 use mathlib.Core.Bool.{Bool, true, false, cond}
 use mathlib.Core.List.{List}
@@ -16,6 +16,9 @@ no_sum at n len h = go (leb at (len - n)) refl
     go : (b : Bool) → leb at (len - n) ≡ b → leb at (len - n) ≡ leb (at + n) len
     go true e = e ∙ sym (le-leb (at + n) len (omega (arith, leb-true at (len - n) e)))
     go false e = e ∙ sym (lt-leb (at + n) len (omega (arith, leb-false at (len - n) e)))
+
+pub too_long : (at n len : ℕ) → len < n → leb n len ≡ leb (at + n) len
+too_long at n len h = lt-leb n len h ∙ sym (lt-leb (at + n) len (omega arith))
 
 module _ (n : ℕ) (s : List ℕ) (at : ℕ) {r : Bool} (e : r ≡ inside n s at) where
   pub there : r ≡ true → at + n ≤ length s

@@ -47,6 +47,15 @@ le_one s at h = ap (λ (l : List ℕ). le_of (take 1 l)) (drop-cons s at 0 h) �
 pub joined : (m n : ℕ) (s : List ℕ) (at : ℕ) {a b : ℕ} → at + m ≤ length s → a ≡ le_at m s at → b ≡ le_at n s (at + m) → a + 256 ^ m * b ≡ le_at (m + n) s at
 joined m n s at h p q = (λ i. p i + 256 ^ m * q i) ∙ sym (le_halves m n s at h)
 
+pub joined_two : (s : List ℕ) (at : ℕ) → at + 2 ≤ length s → get_or s at 0 + 256 * get_or s (at + 1) 0 ≡ le_at 2 s at
+joined_two s at h = joined 1 1 s at (omega arith) (sym (le_one s at (omega arith))) (sym (le_one s (at + 1) (omega arith)))
+
+pub joined_four : (s : List ℕ) (at : ℕ) → at + 4 ≤ length s → le_at 2 s at + 65536 * le_at 2 s (at + 2) ≡ le_at 4 s at
+joined_four s at h = joined 2 2 s at (omega arith) refl refl
+
+pub joined_eight : (s : List ℕ) (at : ℕ) → at + 8 ≤ length s → le_at 4 s at + 4294967296 * le_at 4 s (at + 4) ≡ le_at 8 s at
+joined_eight s at h = joined 4 4 s at (omega arith) refl refl
+
 -- bytes written one part after the other
 pub overwritten_append : (s : List ℕ) (at : ℕ) (xs ys : List ℕ) → at + length xs ≤ length s → overwritten (overwritten s at xs) (at + length xs) ys ≡ overwritten s at (xs ++ ys)
 unfolding overwritten

@@ -1,4 +1,3 @@
 pub mod Halves
 pub mod Decided
-pub mod Numbers
 pub mod RoundTrip

@@ -1,4 +1,5 @@
 -- Writing, then reading at the same offset, gives back what was written, at every width (`back`); a write keeps the length and every other byte (`length-put`, `elsewhere`).
+use Rattle.std.specs.Prelude.{Some, None}
 use Prim.Native.Nat.{ℕ, zero, suc, ◌+◌, ◌-◌, ◌*◌, ◌/◌, ◌%◌, ◌^◌, ◌≤◌, ◌<◌}
 use mathlib.Core.Path.{◌≡◌, refl, sym, ap, ◌∙◌, subst}
 use mathlib.Core.Bool.{Bool, true, false, cond}
@@ -13,9 +14,6 @@ use lib.Seq.{length-take-le, drop_at, drop-drop, take-append-le, drop-append-le,
 use borrow.Author.Tests.{le-leb}
 use Rattle.le_read.specs.LeBytes.{le_of, bytes_of, inside, le_at, read_at, overwritten, put}
 use Rattle.le_read.specs.Reads.{read_u16, read_u32, read_u64}
-use Rattle.le_read.specs.declared.ReadU16.TheVariants as U16
-use Rattle.le_read.specs.declared.ReadU32.TheVariants as U32
-use Rattle.le_read.specs.declared.ReadU64.TheVariants as U64
 use Rattle.le_read.proofs.Halves.{length_bytes}
 use Rattle.le_read.proofs.Decided.{there, put_there, put_past}
 
@@ -123,11 +121,11 @@ back n value past s at v h b =
     let t : inside n (put n s at v) at ≡ true = le-leb (at + n) (length (put n s at v)) (let e = length_put n s at v in omega arith) in
     ap (λ (i : Bool). cond i (value (le_at n (put n s at v) at)) past) t ∙ ap value (back_low n s at v h ∙ mod-eq_of_lt b)
 
-pub u16_back : (s : List ℕ) (at v : ℕ) → at + 2 ≤ length s → v < 2 ^ 16 → read_u16 (put 2 s at v) at ≡ U16.Value v
-u16_back = back 2 U16.Value U16.OutOfBounds
+pub u16_back : (s : List ℕ) (at v : ℕ) → at + 2 ≤ length s → v < 2 ^ 16 → read_u16 (put 2 s at v) at ≡ Some v
+u16_back = back 2 Some None
 
-pub u32_back : (s : List ℕ) (at v : ℕ) → at + 4 ≤ length s → v < 2 ^ 32 → read_u32 (put 4 s at v) at ≡ U32.Value v
-u32_back = back 4 U32.Value U32.OutOfBounds
+pub u32_back : (s : List ℕ) (at v : ℕ) → at + 4 ≤ length s → v < 2 ^ 32 → read_u32 (put 4 s at v) at ≡ Some v
+u32_back = back 4 Some None
 
-pub u64_back : (s : List ℕ) (at v : ℕ) → at + 8 ≤ length s → v < 2 ^ 64 → read_u64 (put 8 s at v) at ≡ U64.Value v
-u64_back = back 8 U64.Value U64.OutOfBounds
+pub u64_back : (s : List ℕ) (at v : ℕ) → at + 8 ≤ length s → v < 2 ^ 64 → read_u64 (put 8 s at v) at ≡ Some v
+u64_back = back 8 Some None

@@ -4,42 +4,38 @@
 ghost use Rattle.std.specs.Prelude.{◌≡◌, get_or};
 ghost use Rattle.le_read.specs.LeBytes.{number_at};
 
-use le_read::{ReadU16, ReadU32, ReadU64};
+use le_read::LeRead;
 
 // The byte at an offset, 0 past the end.
 pub fn byte_at(s: &[u8], at: usize) -> u8
     ensures { result ≡ get_or s.now at 0 }
 {
-    if at < s.len() {
-        return s[at];
-    }
-    0
+    s.get(at).copied().unwrap_or(0)
 }
 
 // The number at an offset, 0 where its bytes run past the end.
+#[tactic(auto, unfolding(le_read::specs::LeBytes::read_at))]
+pub fn number<T: LeRead>(s: &[u8], at: usize) -> T
+    ensures { result ≡ T.value (number_at T.WIDTH s.now at) }
+{
+    le_read::le(s, at).unwrap_or(T::zero())
+}
+
+// The same at one type each, by the names that callers have.
 pub fn u16_at(s: &[u8], at: usize) -> u16
     ensures { result ≡ number_at 2 s.now at }
 {
-    match le_read::le_u16(s, at) {
-        ReadU16::Value(n) => n,
-        ReadU16::OutOfBounds => 0,
-    }
+    number::<u16>(s, at)
 }
 
 pub fn u32_at(s: &[u8], at: usize) -> u32
     ensures { result ≡ number_at 4 s.now at }
 {
-    match le_read::le_u32(s, at) {
-        ReadU32::Value(n) => n,
-        ReadU32::OutOfBounds => 0,
-    }
+    number::<u32>(s, at)
 }
 
 pub fn u64_at(s: &[u8], at: usize) -> u64
     ensures { result ≡ number_at 8 s.now at }
 {
-    match le_read::le_u64(s, at) {
-        ReadU64::Value(n) => n,
-        ReadU64::OutOfBounds => 0,
-    }
+    number::<u64>(s, at)
 }

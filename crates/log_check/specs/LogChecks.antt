@@ -1,12 +1,11 @@
 -- What is refused before a log is held against records, in its order (SPECIFICATION 13.4): 9, 18, 16.
+use Rattle.std.specs.Prelude.{Option, Some, None}
+use Rattle.std.specs.Option.{option_or}
 use Rattle.std.specs.Prelude.{Bool, true, cond, ◌&&◌, ◌||◌, List, ℕ, zero, suc, ◌+◌, ◌-◌, ◌/◌, ◌%◌, eqb, leb, length}
-use Rattle.std.proofs.Math.Option.{Option, none, some}
 use Rattle.refusals.specs.declared.Refusal.{Refusal}
 use Rattle.refusals.specs.declared.Refusal.TheVariants.{Length, Log}
 use Rattle.record_check.specs.FirstFault.{first_fault, record_refusal}
 use Rattle.log_entry.specs.Entries.{sample_of, heard_length}
-use Rattle.log_check.specs.declared.Checked.{Checked}
-use Rattle.log_check.specs.declared.Checked.TheVariants.{Accepted, Refused}
 
 -- messages have 2, 7 or 14 bytes
 unfoldable pub known_length : ℕ → Bool
@@ -28,18 +27,8 @@ log_accepted log = accepted_from log (length log / 23) 0
 unfoldable pub lengths_fit : ℕ → ℕ → ℕ → ℕ → Bool
 lengths_fit log records partners owners = eqb (log % 23) 0 && (eqb (records % 66) 0 && (eqb partners (log / 23) && eqb owners (records / 66)))
 
--- the first refusal, else the second
-unfoldable pub first_of : Option Refusal → Option Refusal → Option Refusal
-first_of none q = q
-first_of (some p) q = some p
-
 unfoldable pub contents_refusal : List ℕ → List ℕ → Option Refusal
-contents_refusal log records = first_of (record_refusal (first_fault records)) (cond (log_accepted log) none (some Log))
+contents_refusal log records = option_or (record_refusal (first_fault records)) (cond (log_accepted log) None (Some Log))
 
 unfoldable pub compare_refusal : List ℕ → List ℕ → ℕ → ℕ → Option Refusal
-compare_refusal log records partners owners = cond (lengths_fit (length log) (length records) partners owners) (contents_refusal log records) (some Length)
-
--- the answer of the check, as a refusal or none
-unfoldable pub checked_of : Checked → Option Refusal
-checked_of Accepted = none
-checked_of (Refused q) = some q
+compare_refusal log records partners owners = cond (lengths_fit (length log) (length records) partners owners) (contents_refusal log records) (Some Length)

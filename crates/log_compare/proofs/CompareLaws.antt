@@ -1,8 +1,9 @@
 -- What is shown of a log held against records holds.
+use Rattle.std.specs.Prelude.{Option, Some, None}
+use Rattle.std.specs.Option.{option_or}
 use mathlib.Core.Path.{◌≡◌, refl, sym, ap, subst}
 use mathlib.Core.Bool.{Bool, true, false, cond}
 use mathlib.Core.List.{List}
-use mathlib.Core.Option.{Option, none, some}
 use Prim.Native.Nat.{ℕ}
 use native.Mathlib.Omega.{arith}
 use lib.ListN.{length}
@@ -13,32 +14,32 @@ use Rattle.log_theory.specs.Report.{report_of}
 use Rattle.log_theory.proofs.PairingLaws.{pairing_laws}
 use Rattle.log_entry.specs.Entries.{logs}
 use Rattle.log_entry.proofs.Bytes.{logs_orderly}
-use Rattle.log_check.specs.LogChecks.{log_accepted, lengths_fit, first_of, contents_refusal, compare_refusal}
+use Rattle.log_check.specs.LogChecks.{log_accepted, lengths_fit, contents_refusal, compare_refusal}
 use Rattle.log_check.proofs.Rising.{rises}
 use Rattle.log_compare.specs.Comparison.{counts_of, reported, decided, compared_of}
 use Rattle.log_compare.specs.CompareLaws.{Reported, CompareLaws}
 
-clash : (q : Refusal) → some q ≡ none → ⊥
+clash : (q : Refusal) → Some q ≡ None → ⊥
 clash q e = let z : ◌≡◌ {A = ℕ} 0 1 = cc in omega arith
 
 module _ (log records : List ℕ) (d : ℕ) (p o : List ℕ) where
-  log_accepted_lem : compare_refusal log records (length p) (length o) ≡ none → log_accepted log ≡ true
-  unfolding compare_refusal contents_refusal first_of
+  log_accepted_lem : compare_refusal log records (length p) (length o) ≡ None → log_accepted log ≡ true
+  unfolding compare_refusal contents_refusal
   log_accepted_lem e = lengths (lengths_fit (length log) (length records) (length p) (length o)) e
     where
-      last : (t : Bool) → cond t none (some Log) ≡ none → t ≡ true
+      last : (t : Bool) → cond t None (Some Log) ≡ None → t ≡ true
       last true e = refl
       last false e = absurd (clash Log e)
 
-      first : (q : Option Refusal) → first_of q (cond (log_accepted log) none (some Log)) ≡ none → log_accepted log ≡ true
-      first none e = last (log_accepted log) e
-      first (some q) e = absurd (clash q e)
+      first : (q : Option Refusal) → option_or q (cond (log_accepted log) None (Some Log)) ≡ None → log_accepted log ≡ true
+      first None e = last (log_accepted log) e
+      first (Some q) e = absurd (clash q e)
 
-      lengths : (t : Bool) → cond t (contents_refusal log records) (some Length) ≡ none → log_accepted log ≡ true
+      lengths : (t : Bool) → cond t (contents_refusal log records) (Some Length) ≡ None → log_accepted log ≡ true
       lengths true e = first (record_refusal (first_fault records)) e
       lengths false e = absurd (clash Length e)
 
-  report : compare_refusal log records (length p) (length o) ≡ none → Reported (logs log records d) (reported (logs log records d) (report_of (logs log records d)))
+  report : compare_refusal log records (length p) (length o) ≡ None → Reported (logs log records d) (reported (logs log records d) (report_of (logs log records d)))
   unfolding reported counts_of report_of
   report e =
       let L = logs log records d in

@@ -1,21 +1,20 @@
 -- The answer, case by case.
+use Rattle.std.specs.Prelude.{Some, None}
+use Rattle.std.specs.Prelude.{Result, Ok, Err}
 use mathlib.Core.Path.{◌≡◌, refl, sym, ap, ◌∙◌, subst}
 use mathlib.Core.Bool.{Bool, true, false, cond, ◌&&◌}
 use mathlib.Core.List.{List}
-use mathlib.Core.Option.{none, some}
 use Prim.Native.Nat.{ℕ, ◌/◌, ◌%◌, ◌≤◌}
 use native.Mathlib.Omega.{arith}
 use lib.Dec.{T, eqb, eqb→eq}
 use lib.ListN.{length}
-use Rattle.refusals.specs.Answer.{refused}
 use Rattle.refusals.specs.declared.Refusal.{Refusal}
 use Rattle.log_theory.specs.Pairing.{Logs}
 use Rattle.log_theory.specs.Report.{Lists, report_of}
 use Rattle.log_theory.proofs.PairingLaws.{pairing_laws}
 use Rattle.log_entry.specs.Entries.{logs}
-use Rattle.log_check.specs.declared.Checked.{Checked}
-use Rattle.log_check.specs.declared.Checked.TheVariants.{Accepted, Refused}
-use Rattle.log_check.specs.LogChecks.{lengths_fit, contents_refusal, compare_refusal, checked_of}
+use Rattle.log_check.specs.LogChecks.{lengths_fit, contents_refusal, compare_refusal}
+use Rattle.std.specs.Result.{result_err}
 use Rattle.log_pairs.specs.Paired.{paired_of}
 use Rattle.log_pairs.proofs.Marks.{both_fits}
 use Rattle.log_compare.specs.Comparison.{reported, decided, compared_of}
@@ -28,16 +27,16 @@ eq_of : (a b : ℕ) → eqb a b ≡ true → a ≡ b
 eq_of a b e = eqb→eq a b (subst (λ (x : Bool). T x) (sym e) tt)
 
 module _ (log records : List ℕ) (p o : ℕ) where
-  fit_true : compare_refusal log records p o ≡ none → lengths_fit (length log) (length records) p o ≡ true
+  fit_true : compare_refusal log records p o ≡ None → lengths_fit (length log) (length records) p o ≡ true
   unfolding compare_refusal
   fit_true e = go (lengths_fit (length log) (length records) p o) e
     where
-      go : (t : Bool) → cond t (contents_refusal log records) (some Rattle.refusals.specs.declared.Refusal.TheVariants.Length) ≡ none → t ≡ true
+      go : (t : Bool) → cond t (contents_refusal log records) (Some Rattle.refusals.specs.declared.Refusal.TheVariants.Length) ≡ None → t ≡ true
       go true q = refl
       go false q = absurd (let z : ◌≡◌ {A = ℕ} 0 1 = cc in omega arith)
 
   -- lists that are accepted have one number for each entry and each record
-  pub lists_fit : compare_refusal log records p o ≡ none → (p ≡ length log / 23) × (o ≡ length records / 66)
+  pub lists_fit : compare_refusal log records p o ≡ None → (p ≡ length log / 23) × (o ≡ length records / 66)
   unfolding lengths_fit
   lists_fit e =
       let a = (both_true (eqb (length log % 23) 0) (eqb (length records % 66) 0 && (eqb p (length log / 23) && eqb o (length records / 66))) (fit_true e)).1 in
@@ -49,15 +48,14 @@ pub few_pairs : (L : Logs) → ((report_of L).pairs ≤ L.sent) × ((report_of L
 unfolding report_of
 few_pairs L = (omega (arith, (pairing_laws L).records_counted), omega (arith, (pairing_laws L).entries_counted))
 
-module _ (log records : List ℕ) (d : ℕ) (p o : List ℕ) (k : Checked) (e : checked_of k ≡ compare_refusal log records (length p) (length o)) where
-  pub refusal_is : {q : Refusal} → k ≡ Refused q → record { answer = refused q; partners = p; owners = o } ≡ compared_of log records d p o
-  unfolding compared_of decided checked_of
-  refusal_is h = sym (ap (decided (logs log records d) p o) (sym e ∙ ap checked_of h))
+module _ (log records : List ℕ) (d : ℕ) (p o : List ℕ) (k : (Result (Unit {0}) Refusal)) (e : result_err k ≡ compare_refusal log records (length p) (length o)) where
+  pub refusal_is : {q : Refusal} → k ≡ Err q → record { answer = Err q; partners = p; owners = o } ≡ compared_of log records d p o
+  unfolding compared_of decided
+  refusal_is h = sym (ap (decided (logs log records d) p o) (sym e ∙ ap result_err h))
 
-  module _ (h : k ≡ Accepted) where
-    none_refused : compare_refusal log records (length p) (length o) ≡ none
-    unfolding checked_of
-    none_refused = sym e ∙ ap checked_of h
+  module _ (h : k ≡ (Ok tt)) where
+    none_refused : compare_refusal log records (length p) (length o) ≡ None
+    none_refused = sym e ∙ ap result_err h
 
     pub is_report : (s : Lists) → s ≡ paired_of log records d p o → s ≡ report_of (logs log records d)
     is_report s q = let f = lists_fit log records (length p) (length o) none_refused in q ∙ both_fits log records d p o f.0 f.1

@@ -1,26 +1,15 @@
 -- What holding a log against records answers, and what it leaves in the two lists (SPECIFICATION 13).
+use Rattle.std.specs.Prelude.{Option, Some, None, Result, Ok, Err}
 use Rattle.std.specs.Prelude.{List, ℕ, ◌-◌, length}
-use Rattle.std.proofs.Math.Option.{Option, none, some}
-use Rattle.refusals.specs.Answer.{Answer, accepted, refused}
 use Rattle.refusals.specs.declared.Refusal.{Refusal}
 use Rattle.log_theory.specs.Pairing.{Logs}
 use Rattle.log_theory.specs.Report.{Lists, report_of}
 use Rattle.log_entry.specs.Entries.{logs}
 use Rattle.log_check.specs.LogChecks.{compare_refusal}
-use Rattle.log_compare.specs.declared.Compared as Compared
-
-pub record Counts : Type 0 where
-  pub pairs : ℕ
-  pub unheard : ℕ
-  pub unsent : ℕ
-
--- each case of the enum, in the specification's terms
-unfoldable pub answer_of : Compared.Compared → Answer Counts
-answer_of (Compared.TheVariants.Counts p h s) = accepted (record { pairs = p; unheard = h; unsent = s })
-answer_of (Compared.TheVariants.Refused q) = refused q
+use Rattle.log_compare.specs.declared.Counts.{Counts}
 
 pub record Comparison : Type 0 where
-  pub answer : Answer Counts
+  pub answer : Result Counts Refusal
   pub partners : List ℕ
   pub owners : List ℕ
 
@@ -29,12 +18,12 @@ counts_of L n = record { pairs = n; unheard = L.sent - n; unsent = L.heard - n }
 
 -- the report of a pairing
 unfoldable pub reported : Logs → Lists → Comparison
-reported L r = record { answer = accepted (counts_of L r.pairs); partners = r.partners; owners = r.owners }
+reported L r = record { answer = Ok (counts_of L r.pairs); partners = r.partners; owners = r.owners }
 
 -- a refusal leaves both lists as they are
 unfoldable pub decided : Logs → List ℕ → List ℕ → Option Refusal → Comparison
-decided L partners owners none = reported L (report_of L)
-decided L partners owners (some q) = record { answer = refused q; partners = partners; owners = owners }
+decided L partners owners None = reported L (report_of L)
+decided L partners owners (Some q) = record { answer = Err q; partners = partners; owners = owners }
 
 unfoldable pub compared_of : List ℕ → List ℕ → ℕ → List ℕ → List ℕ → Comparison
 compared_of log records tolerance partners owners = decided (logs log records tolerance) partners owners (compare_refusal log records (length partners) (length owners))

@@ -1,14 +1,13 @@
 -- Bytes compared one by one, messages that are alike, and reads past the end.
-use mathlib.Core.Path.{◌≡◌, refl, sym, ap, ◌∙◌, subst}
-use mathlib.Core.Bool.{Bool, true, false, cond}
+use mathlib.Core.Path.{◌≡◌, sym, ap, ◌∙◌, subst}
+use mathlib.Core.Bool.{Bool, true, false, cond, ◌&&◌}
 use mathlib.Core.List.{List}
 use Prim.Native.Nat.{ℕ, zero, suc, ◌+◌, ◌-◌, ◌*◌, ◌/◌, ◌≤◌, ◌<◌}
 use native.Mathlib.Omega.{arith}
 use lib.Dec.{T, eqb, ltb, eqb→eq, eqb_refl}
 use lib.ListN.{length, get_or}
-use borrow.Author.Tests.{eq-eqb, ne_eqb, lt-ltb, le-ltb, lt-leb}
+use borrow.Author.Tests.{eq-eqb, ne_eqb, lt-leb}
 use Rattle.le_read.specs.LeBytes.{le_at, read_at, number_at}
-use Rattle.log_theory.specs.Pairing.{both, near, allowed}
 use Rattle.log_theory.specs.PairingLaws.{Orderly}
 use Rattle.log_theory.proofs.Basics.{both_left, both_right, both_in}
 use Rattle.log_entry.specs.Entries.{sample_of, first_of, heard_length, sent_length, same_from, message_alike, alike_of, logs}
@@ -33,7 +32,7 @@ module _ (s t : List ℕ) (a b n : ℕ) where
       let r : b + 0 ≡ b = omega arith in
       ap (λ (x : ℕ). same_from x s (a + 0) t (b + 0)) p ∙ ap (λ (x : ℕ). same_from n s x t (b + 0)) q ∙ ap (λ (x : ℕ). same_from n s a t x) r
 
-  head_is : (k : ℕ) → k < n → same_from (n - k) s (a + k) t (b + k) ≡ both (eqb (get_or s (a + k) 0) (get_or t (b + k) 0)) (same_from (n - (k + 1)) s (a + k + 1) t (b + k + 1))
+  head_is : (k : ℕ) → k < n → same_from (n - k) s (a + k) t (b + k) ≡ (eqb (get_or s (a + k) 0) (get_or t (b + k) 0) && same_from (n - (k + 1)) s (a + k + 1) t (b + k + 1))
   unfolding same_from
   head_is k h =
       let p : n - k ≡ suc (n - (k + 1)) = omega arith in
@@ -44,11 +43,11 @@ module _ (s t : List ℕ) (a b n : ℕ) where
       let q : a + k + 1 ≡ a + (k + 1) = omega arith in
       let r : b + k + 1 ≡ b + (k + 1) = omega arith in
       head_is k h
-      ∙ ap (λ (x : Bool). both x (same_from (n - (k + 1)) s (a + k + 1) t (b + k + 1))) (eq-eqb (get_or s (a + k) 0) (get_or t (b + k) 0) e)
+      ∙ ap (λ (x : Bool). x && same_from (n - (k + 1)) s (a + k + 1) t (b + k + 1)) (eq-eqb (get_or s (a + k) 0) (get_or t (b + k) 0) e)
       ∙ ap (λ (x : ℕ). same_from (n - (k + 1)) s x t (b + k + 1)) q ∙ ap (λ (x : ℕ). same_from (n - (k + 1)) s (a + (k + 1)) t x) r
 
   pub same_off : (k : ℕ) → k < n → (get_or s (a + k) 0 ≡ get_or t (b + k) 0 → ⊥) → same_from (n - k) s (a + k) t (b + k) ≡ false
-  same_off k h e = head_is k h ∙ ap (λ (x : Bool). both x (same_from (n - (k + 1)) s (a + k + 1) t (b + k + 1))) (ne_eqb (get_or s (a + k) 0) (get_or t (b + k) 0) e)
+  same_off k h e = head_is k h ∙ ap (λ (x : Bool). x && same_from (n - (k + 1)) s (a + k + 1) t (b + k + 1)) (ne_eqb (get_or s (a + k) 0) (get_or t (b + k) 0) e)
 
   pub same_end : (k : ℕ) → n ≤ k → same_from (n - k) s (a + k) t (b + k) ≡ true
   unfolding same_from
@@ -96,8 +95,8 @@ module _ (log records : List ℕ) where
   there : (i j : ℕ) → T (alike_of log records i j) → T (ltb i (length log / 23)) × T (ltb j (length records / 66)) × T (message_alike log records i j)
   unfolding alike_of
   there i j t =
-      let r = both_right (ltb i (length log / 23)) (both (ltb j (length records / 66)) (message_alike log records i j)) t in (
-        both_left (ltb i (length log / 23)) (both (ltb j (length records / 66)) (message_alike log records i j)) t,
+      let r = both_right (ltb i (length log / 23)) (ltb j (length records / 66) && message_alike log records i j) t in (
+        both_left (ltb i (length log / 23)) (ltb j (length records / 66) && message_alike log records i j) t,
         both_left (ltb j (length records / 66)) (message_alike log records i j) r,
         both_right (ltb j (length records / 66)) (message_alike log records i j) r,
       )
@@ -105,56 +104,9 @@ module _ (log records : List ℕ) where
   alike_across : (i k g s : ℕ) → T (alike_of log records i g) → T (alike_of log records i s) → T (alike_of log records k g) → T (alike_of log records k s)
   unfolding alike_of
   alike_across i k g s p q o =
-      both_in (ltb k (length log / 23)) (both (ltb s (length records / 66)) (message_alike log records k s)) (there k g o).0
+      both_in (ltb k (length log / 23)) (ltb s (length records / 66) && message_alike log records k s) (there k g o).0
       (both_in (ltb s (length records / 66)) (message_alike log records k s) (there i s q).1 (message_across i k g s (there i g p).2 (there i s q).2 (there k g o).2))
 
   -- a log in rising order is what the pairing asks
   pub logs_orderly : (d : ℕ) → ((i k : ℕ) → i ≤ k → k < length log / 23 → sample_of log i ≤ sample_of log k) → Orderly (logs log records d)
   logs_orderly d r = record { rising = r; across = alike_across }
-
-  pub alike_no : (i j n m : ℕ) → n ≡ heard_length log i → m ≡ sent_length records j → (n ≡ m → ⊥) → false ≡ message_alike log records i j
-  unfolding message_alike
-  alike_no i j n m a b e = sym (ap (λ (x : Bool). both x (same_from (heard_length log i) log (23 * i + 9) records (66 * j + 52))) (ne_eqb (heard_length log i) (sent_length records j) (λ q. e (a ∙ q ∙ sym b))))
-
-  pub alike_yes : (i j n m : ℕ) (r : Bool) → n ≡ heard_length log i → m ≡ sent_length records j → n ≡ m → r ≡ same_from n log (23 * i + 9) records (66 * j + 52) → r ≡ message_alike log records i j
-  unfolding message_alike
-  alike_yes i j n m r a b e q =
-      q ∙ ap (λ (x : ℕ). same_from x log (23 * i + 9) records (66 * j + 52)) a
-      ∙ sym (ap (λ (x : Bool). both x (same_from (heard_length log i) log (23 * i + 9) records (66 * j + 52))) (eq-eqb (heard_length log i) (sent_length records j) (sym a ∙ e ∙ b)))
-
-  -- ---- allowed, test by test
-  module _ (d i j : ℕ) where
-    pub near_is : (h f : ℕ) (n t : Bool) → h ≡ sample_of log i → f ≡ first_of records j → n ≡ near h f d → n ≡ t → t ≡ near (sample_of log i) (first_of records j) d
-    near_is h f n t a b e q = sym q ∙ e ∙ ap (λ (x : ℕ). near x f d) a ∙ ap (λ (x : ℕ). near (sample_of log i) x d) b
-
-    pub no_entry : length log / 23 ≤ i → false ≡ allowed (logs log records d) i j
-    unfolding alike_of
-    no_entry h = sym (ap (λ (t : Bool). both (both t (both (ltb j (length records / 66)) (message_alike log records i j))) (near (sample_of log i) (first_of records j) d)) (le-ltb i (length log / 23) h))
-
-    module _ (a : i < length log / 23) where
-      pub no_record : length records / 66 ≤ j → false ≡ allowed (logs log records d) i j
-      unfolding alike_of
-      no_record h =
-          sym (ap (λ (t : Bool). both (both t (both (ltb j (length records / 66)) (message_alike log records i j))) (near (sample_of log i) (first_of records j) d)) (lt-ltb i (length log / 23) a)
-          ∙ ap (λ (t : Bool). both (both t (message_alike log records i j)) (near (sample_of log i) (first_of records j) d)) (le-ltb j (length records / 66) h))
-
-      module _ (b : j < length records / 66) where
-        both_there : allowed (logs log records d) i j ≡ both (message_alike log records i j) (near (sample_of log i) (first_of records j) d)
-        unfolding alike_of
-        both_there =
-            ap (λ (t : Bool). both (both t (both (ltb j (length records / 66)) (message_alike log records i j))) (near (sample_of log i) (first_of records j) d)) (lt-ltb i (length log / 23) a)
-            ∙ ap (λ (t : Bool). both (both t (message_alike log records i j)) (near (sample_of log i) (first_of records j) d)) (lt-ltb j (length records / 66) b)
-
-        pub too_far : false ≡ near (sample_of log i) (first_of records j) d → false ≡ allowed (logs log records d) i j
-        too_far e = sym (both_there ∙ ap (both (message_alike log records i j)) (sym e) ∙ never (message_alike log records i j))
-          where
-            never : (t : Bool) → both t false ≡ false
-            never true = refl
-            never false = refl
-
-        pub in_reach : (r : Bool) → true ≡ near (sample_of log i) (first_of records j) d → r ≡ message_alike log records i j → r ≡ allowed (logs log records d) i j
-        in_reach r e q = q ∙ sym (both_there ∙ ap (both (message_alike log records i j)) (sym e) ∙ as_is (message_alike log records i j))
-          where
-            as_is : (t : Bool) → both t true ≡ t
-            as_is true = refl
-            as_is false = refl

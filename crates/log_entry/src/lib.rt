@@ -27,6 +27,7 @@ const TOO_MANY_ENTRIES: usize = 0x0800_0000_0000_0000;
 const TOO_MANY_RECORDS: usize = 0x0200_0000_0000_0000;
 
 // The sample of an entry, 0 past the end.
+#[tactic(auto, unfolding(crate::specs::Entries::sample_of))]
 pub fn sample_at(log: &[u8], i: usize) -> u64
     ensures { result ≡ sample_of log.now i }
 {
@@ -37,6 +38,7 @@ pub fn sample_at(log: &[u8], i: usize) -> u64
 }
 
 // The first sample of a record, 0 past the end.
+#[tactic(auto, unfolding(crate::specs::Entries::first_of))]
 pub fn first_at(records: &[u8], j: usize) -> u64
     ensures { result ≡ first_of records.now j }
 {
@@ -51,49 +53,39 @@ fn same_bytes(s: &[u8], a: usize, t: &[u8], b: usize, n: usize) -> bool
     requires { (a + n < 0x1_0000_0000_0000_0000) × (b + n < 0x1_0000_0000_0000_0000) }
     ensures { result ≡ same_from n s.now a t.now b }
 {
-    let mut k: usize = 0;
-    while k < n {
+    for k in 0..n {
         if le_read_or_zero::byte_at(s, a + k) != le_read_or_zero::byte_at(t, b + k) {
             return false;
         }
-        k = k + 1;
     }
     true
 }
 
 // Whether their messages have equal lengths, and equal bytes up to it.
+#[tactic(auto, unfolding(crate::specs::Entries::message_alike))]
 fn message_alike(log: &[u8], i: usize, records: &[u8], j: usize) -> bool
     requires { (i < length log.now / 23) × (j < length records.now / 66) }
     ensures { result ≡ message_alike log.now records.now i j }
 {
-    let n = le_read::wide(log[ENTRY_LEN * i + HEARD_LENGTH]) as usize;
-    let m = le_read::wide(records[RECORD_LEN * j + SENT_LENGTH]) as usize;
-    if n != m {
-        return false;
-    }
-    same_bytes(
-        log,
-        ENTRY_LEN * i + HEARD_BYTES,
-        records,
-        RECORD_LEN * j + SENT_BYTES,
-        n,
-    )
+    let n = usize::from(log[ENTRY_LEN * i + HEARD_LENGTH]);
+    let m = usize::from(records[RECORD_LEN * j + SENT_LENGTH]);
+    n == m
+        && same_bytes(
+            log,
+            ENTRY_LEN * i + HEARD_BYTES,
+            records,
+            RECORD_LEN * j + SENT_BYTES,
+            n,
+        )
 }
 
 // Whether entry i may be paired with record j: both are there, their messages are alike, and their samples differ by at most d.
+#[tactic(auto, unfolding(crate::specs::Entries::alike_of))]
 pub fn allowed(log: &[u8], i: usize, records: &[u8], j: usize, d: u64) -> bool
     ensures { result ≡ allowedOf (logs log.now records.now d) i j }
 {
-    if i >= log.len() / ENTRY_LEN {
-        return false;
-    }
-    if j >= records.len() / RECORD_LEN {
-        return false;
-    }
-    let h = sample_at(log, i);
-    let f = first_at(records, j);
-    if log_tolerance::near(h, f, d) {
-        return message_alike(log, i, records, j);
-    }
-    false
+    i < log.len() / ENTRY_LEN
+        && j < records.len() / RECORD_LEN
+        && log_tolerance::near(sample_at(log, i), first_at(records, j), d)
+        && message_alike(log, i, records, j)
 }

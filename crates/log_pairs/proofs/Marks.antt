@@ -1,4 +1,5 @@
 -- Where the search for an entry's record begins and ends, and lists of other lengths.
+use Rattle.std.specs.Prelude.{Option, Some, None}
 use mathlib.Core.Path.{◌≡◌, refl, sym, ap, ◌∙◌, subst}
 use mathlib.Core.Bool.{Bool, true, false, cond}
 use mathlib.Core.Logic.{◌⊎◌, inl, inr}
@@ -8,10 +9,8 @@ use native.Mathlib.Omega.{arith}
 use lib.Dec.{eqb, leb, ltb}
 use lib.ListN.{length, get_or}
 use borrow.Author.Tests.{le-leb, lt-leb, eq-eqb, ne_eqb, ltb-true}
-use Rattle.log_theory.specs.declared.Partner.{Partner}
-use Rattle.log_theory.specs.declared.Partner.TheVariants.{Alone as alone, With as partner}
 use Rattle.log_theory.specs.Pairing.{Logs}
-use Rattle.log_theory.specs.Report.{nobody, Lists, report_of}
+use Rattle.log_theory.specs.Report.{nobody, report_of}
 use Rattle.log_theory.specs.PairsModel.{free_in, Back, Past}
 use Rattle.log_theory.proofs.Choices.{get_d_other}
 use Rattle.log_theory.proofs.Window.{Late, past_none, past_on}
@@ -22,31 +21,20 @@ use Rattle.log_pairs.specs.Paired.{kept, paired_of}
 use Rattle.log_pairs.specs.WindowModel.{limit_of}
 
 -- ---- the end
-pub limit_none : (first : ℕ → ℕ) (back latest : ℕ) (b : Partner) → b ≡ alone → latest ≡ limit_of first back latest b
-unfolding limit_of
-limit_none first back latest b e = sym (ap (limit_of first back latest) e)
-
-pub limit_found : (first : ℕ → ℕ) (back latest : ℕ) (b : Partner) (f r g : ℕ) → b ≡ partner g → f ≡ first g → r ≡ capped (f + back) → r ≡ limit_of first back latest b
-unfolding limit_of
-limit_found first back latest b f r g e p q = q ∙ ap (λ (x : ℕ). capped (x + back)) p ∙ sym (ap (limit_of first back latest) e)
-
 module _ (L : Logs) (F : ℕ → Bool) (i : ℕ) where
-  pub stops : (b : Partner) (j f h s latest last back n : ℕ) → h ≡ L.sample i → s ≡ capped (h + L.within) → latest ≡ capped (s + back) → last ≡ limit_of L.first back latest b
+  pub stops : (b : (Option ℕ)) (j f h s latest last back n : ℕ) → h ≡ L.sample i → s ≡ capped (h + L.within) → latest ≡ capped (s + back) → last ≡ limit_of L.first back latest b
       → f ≡ L.first j → f ≤ 18446744073709551615 → last < f → Back L.first n back → (k : ℕ) → j ≤ k → k < n → Late L F i b k
   unfolding limit_of
-  stops alone j f h s latest last back n a p q r e le lt w k jk kn =
+  stops None j f h s latest last back n a p q r e le lt w k jk kn =
       let x : s + back < f = capped_below (s + back) f le (omega (arith, q, r)) in
       let y : h + L.within < f - back = capped_below (h + L.within) (f - back) (omega arith) (omega (arith, p)) in
       omega (arith, w.steps j k jk kn)
-  stops (partner g) j f h s latest last back n a p q r e le lt w k jk kn =
+  stops (Some g) j f h s latest last back n a p q r e le lt w k jk kn =
       let x : L.first g + back < f = capped_below (L.first g + back) f le (omega (arith, r)) in
       omega (arith, w.steps j k jk kn)
 
 -- ---- the start
 module _ (owners : List ℕ) (k : ℕ) (lt : k < length owners) where
-  pub gone_taken : (x : Bool) → (get_or owners k 0 ≡ nobody → ⊥) → true ≡ cond (free_in owners k) x true
-  gone_taken x n = sym (ap (λ (t : Bool). cond t x true) (ne_eqb (get_or owners k nobody) nobody (λ e. n (get_d_other owners k 0 nobody lt ∙ e))))
-
   pub gone_early : (f d h r n : ℕ) → get_or owners k 0 ≡ nobody → h ≤ 18446744073709551615 → r ≡ f → n ≡ capped (r + d) → ltb n h ≡ cond (free_in owners k) (ltb (f + d) h) true
   gone_early f d h r n e le p q =
       ap (λ (x : ℕ). ltb x h) (q ∙ ap (λ (x : ℕ). capped (x + d)) p) ∙ capped_ltb (f + d) h le
@@ -74,28 +62,12 @@ module _ (previous h lo r : ℕ) (e : r ≡ cond (leb previous h) lo 0) where
       go true q = past_on first d F previous h lo (borrow.Author.Tests.leb-true previous h q) p
       go false q = past_none first d F h
 
-pub mark_kept : (previous h lo : ℕ) → previous ≤ h → lo ≡ cond (leb previous h) lo 0
-mark_kept previous h lo le = sym (ap (λ (t : Bool). cond t lo 0) (le-leb previous h le))
-
-pub mark_back : (previous h lo : ℕ) → h < previous → 0 ≡ cond (leb previous h) lo 0
-mark_back previous h lo lt = sym (ap (λ (t : Bool). cond t lo 0) (lt-leb previous h lt))
-
 -- ---- the lengths of the lists
 module _ (log records : List ℕ) (d : ℕ) (p o : List ℕ) where
-  pub other_partners : (length p ≡ length log / 23 → ⊥) → kept p o ≡ paired_of log records d p o
-  unfolding paired_of
-  other_partners h = sym (ap (λ (t : Bool). cond t (cond (eqb (length o) (length records / 66)) (report_of (logs log records d)) (kept p o)) (kept p o)) (ne_eqb (length p) (length log / 23) h))
-
   module _ (e : length p ≡ length log / 23) where
     partners_fit : paired_of log records d p o ≡ cond (eqb (length o) (length records / 66)) (report_of (logs log records d)) (kept p o)
     unfolding paired_of
     partners_fit = ap (λ (t : Bool). cond t (cond (eqb (length o) (length records / 66)) (report_of (logs log records d)) (kept p o)) (kept p o)) (eq-eqb (length p) (length log / 23) e)
 
-    pub other_owners : (length o ≡ length records / 66 → ⊥) → kept p o ≡ paired_of log records d p o
-    other_owners h = sym (partners_fit ∙ ap (λ (t : Bool). cond t (report_of (logs log records d)) (kept p o)) (ne_eqb (length o) (length records / 66) h))
-
     pub both_fits : length o ≡ length records / 66 → paired_of log records d p o ≡ report_of (logs log records d)
     both_fits h = partners_fit ∙ ap (λ (t : Bool). cond t (report_of (logs log records d)) (kept p o)) (eq-eqb (length o) (length records / 66) h)
-
-    pub both_fit : (s : Lists) → length o ≡ length records / 66 → s ≡ report_of (logs log records d) → s ≡ paired_of log records d p o
-    both_fit s h q = q ∙ sym (both_fits h)

@@ -1,19 +1,19 @@
 -- Tests, and records taken one after the other.
 use mathlib.Core.Path.{◌≡◌, refl, sym, ap, subst, fun_ext}
-use mathlib.Core.Bool.{Bool, true, false, cond}
+use mathlib.Core.Bool.{Bool, true, false, cond, ◌&&◌}
 use Prim.Native.Nat.{ℕ, ◌+◌, ◌≤◌}
 use lib.Dec.{T, leb, eqb, leb→le, le→leb, eqb→eq, eqb_refl}
-use Rattle.log_theory.specs.Pairing.{both, Logs, allowed, without, cand}
+use Rattle.log_theory.specs.Pairing.{Logs, allowed, without, cand}
 
-pub both_left : (a b : Bool) → T (both a b) → T a
+pub both_left : (a b : Bool) → T (a && b) → T a
 both_left true b t = tt
 both_left false b t = t
 
-pub both_right : (a b : Bool) → T (both a b) → T b
+pub both_right : (a b : Bool) → T (a && b) → T b
 both_right true b t = t
 both_right false b t = absurd t
 
-pub both_in : (a b : Bool) → T a → T b → T (both a b)
+pub both_in : (a b : Bool) → T a → T b → T (a && b)
 both_in true b s t = t
 both_in false b s t = s
 
@@ -59,16 +59,16 @@ module _ (L : Logs) where
 
   pub near : (i j : ℕ) → T (allowed L i j) → Near i j
   near i j t =
-      let r = both_right (L.alike i j) (both (leb (L.sample i) (L.first j + L.within)) (leb (L.first j) (L.sample i + L.within))) t in
+      let r = both_right (L.alike i j) (leb (L.sample i) (L.first j + L.within) && leb (L.first j) (L.sample i + L.within)) t in
       record {
-        same = both_left (L.alike i j) (both (leb (L.sample i) (L.first j + L.within)) (leb (L.first j) (L.sample i + L.within))) t;
+        same = both_left (L.alike i j) (leb (L.sample i) (L.first j + L.within) && leb (L.first j) (L.sample i + L.within)) t;
         late = leb→le (L.sample i) (L.first j + L.within) (both_left (leb (L.sample i) (L.first j + L.within)) (leb (L.first j) (L.sample i + L.within)) r);
         early = leb→le (L.first j) (L.sample i + L.within) (both_right (leb (L.sample i) (L.first j + L.within)) (leb (L.first j) (L.sample i + L.within)) r);
       }
 
   pub allow : (i j : ℕ) → Near i j → T (allowed L i j)
   allow i j n =
-      both_in (L.alike i j) (both (leb (L.sample i) (L.first j + L.within)) (leb (L.first j) (L.sample i + L.within))) n.same
+      both_in (L.alike i j) (leb (L.sample i) (L.first j + L.within) && leb (L.first j) (L.sample i + L.within)) n.same
       (both_in (leb (L.sample i) (L.first j + L.within)) (leb (L.first j) (L.sample i + L.within)) (le→leb (L.sample i) (L.first j + L.within) n.late) (le→leb (L.first j) (L.sample i + L.within) n.early))
 
   pub cand_free : (F : ℕ → Bool) (i j : ℕ) → T (cand L F i j) → T (F j)
@@ -87,4 +87,4 @@ module _ (L : Logs) where
       (cand_in F i j f.0 (cand_allowed (without g F) i j t), f.1)
 
   pub cand_other : (g : ℕ) (F : ℕ → Bool) (i j : ℕ) → T (cand L F i j) → (g ≡ j → ⊥) → T (cand L (without g F) i j)
-  cand_other g F i j t n = subst (λ (b : Bool). T (both b (allowed L i j))) (sym (without_other g j F n)) t
+  cand_other g F i j t n = subst (λ (b : Bool). T (b && allowed L i j)) (sym (without_other g j F n)) t

@@ -1,4 +1,5 @@
 -- The three counts, and each record's entry.
+use Rattle.std.specs.Prelude.{Option, Some, None}
 use mathlib.Core.Path.{◌≡◌, refl, sym, ap, ◌∙◌, subst}
 use mathlib.Core.Bool.{Bool, true, false, cond}
 use mathlib.Core.Logic.{inl, inr}
@@ -7,18 +8,16 @@ use Prim.Native.Nat.{ℕ, zero, suc, ◌+◌, ◌≤◌, ◌<◌}
 use native.Mathlib.Omega.{arith}
 use lib.Dec.{T}
 use lib.ListN.{length}
-use Rattle.log_theory.specs.declared.Partner.{Partner}
-use Rattle.log_theory.specs.declared.Partner.TheVariants.{Alone as alone, With as partner}
 use Rattle.log_theory.specs.Pairing.{Logs, Pair, All, Apart, Distinct, without, every, shown, count, pairs_of}
 use Rattle.log_theory.specs.Report.{entry_of, In, unsent, left, tally}
 use Rattle.log_theory.proofs.Basics.{true_at, same_or_not, without_other, cand_free}
 use Rattle.log_theory.proofs.Best.{Fits, equal_or_not, greedy_fits}
 use Rattle.log_theory.proofs.Lists.{greedy_long, pairs_many}
 
-pub pairs_unsent : (ps : List Partner) → count ps + unsent ps ≡ length ps
+pub pairs_unsent : (ps : List (Option ℕ)) → count ps + unsent ps ≡ length ps
 pairs_unsent [] = refl
-pairs_unsent (alone ∷ ps) = omega (arith, pairs_unsent ps)
-pairs_unsent (partner g ∷ ps) = omega (arith, pairs_unsent ps)
+pairs_unsent (None ∷ ps) = omega (arith, pairs_unsent ps)
+pairs_unsent (Some g ∷ ps) = omega (arith, pairs_unsent ps)
 
 tally_past : (n g : ℕ) (F : ℕ → Bool) → n ≤ g → tally n (without g F) ≡ tally n F
 tally_past zero g F h = refl
@@ -47,10 +46,10 @@ tally_every zero = refl
 tally_every (suc n) = omega (arith, tally_every n)
 
 module _ (L : Logs) where
-  left_over : (F : ℕ → Bool) (i : ℕ) (ps : List Partner) → Fits L F i ps → count ps + tally L.sent (left F ps) ≡ tally L.sent F
+  left_over : (F : ℕ → Bool) (i : ℕ) (ps : List (Option ℕ)) → Fits L F i ps → count ps + tally L.sent (left F ps) ≡ tally L.sent F
   left_over F i [] h = omega arith
-  left_over F i (alone ∷ ps) h = omega (arith, left_over F (suc i) ps h)
-  left_over F i (partner j ∷ ps) h = omega (arith, left_over (without j F) (suc i) ps h.2, tally_without L.sent j F h.0 (cand_free L F i j h.1))
+  left_over F i (None ∷ ps) h = omega (arith, left_over F (suc i) ps h)
+  left_over F i (Some j ∷ ps) h = omega (arith, left_over (without j F) (suc i) ps h.2, tally_without L.sent j F h.0 (cand_free L F i j h.1))
 
   -- pairs and unheard records are all records; pairs and unsent entries all entries
   pub sent_counted : length (pairs_of 0 (shown L)) + tally L.sent (left every (shown L)) ≡ L.sent
@@ -60,15 +59,15 @@ module _ (L : Logs) where
   heard_counted = omega (arith, pairs_many L 0 (shown L), pairs_unsent (shown L), greedy_long L every L.heard 0)
 
 -- ---- each record's partner
-pub entry_in : (ps : List Pair) (j k : ℕ) → entry_of ps j ≡ partner k → In (record { entry = k; reply = j }) ps
+pub entry_in : (ps : List Pair) (j k : ℕ) → entry_of ps j ≡ Some k → In (record { entry = k; reply = j }) ps
 entry_in [] j k e = absurd (let z : ◌≡◌ {A = ℕ} 0 1 = cc in omega arith)
 entry_in (x ∷ ps) j k e =
     equal_or_not x.reply j (In (record { entry = k; reply = j }) (x ∷ ps))
     (λ q.
-    let f : partner x.entry ≡ partner k = sym (ap (λ (t : Bool). cond t (partner x.entry) (entry_of ps j)) (true_at x.reply j q)) ∙ e in
+    let f : Some x.entry ≡ Some k = sym (ap (λ (t : Bool). cond t (Some x.entry) (entry_of ps j)) (true_at x.reply j q)) ∙ e in
     let g : x.entry ≡ k = cc in
     inl (same g q))
-    (λ n. inr (entry_in ps j k (sym (ap (λ (t : Bool). cond t (partner x.entry) (entry_of ps j)) (same_or_not x.reply j n)) ∙ e)))
+    (λ n. inr (entry_in ps j k (sym (ap (λ (t : Bool). cond t (Some x.entry) (entry_of ps j)) (same_or_not x.reply j n)) ∙ e)))
   where
     make : ℕ → ℕ → Pair
     make a b = record { entry = a; reply = b }
@@ -76,12 +75,12 @@ entry_in (x ∷ ps) j k e =
     same : x.entry ≡ k → x.reply ≡ j → x ≡ record { entry = k; reply = j }
     same p q = ap (λ (a : ℕ). make a x.reply) p ∙ ap (λ (b : ℕ). make k b) q
 
-pub in_entry : (ps : List Pair) (x : Pair) → Distinct ps → In x ps → entry_of ps x.reply ≡ partner x.entry
+pub in_entry : (ps : List Pair) (x : Pair) → Distinct ps → In x ps → entry_of ps x.reply ≡ Some x.entry
 in_entry [] x d i = absurd i
 in_entry (y ∷ ps) x d (inl e) =
-    ap (λ (t : Bool). cond t (partner y.entry) (entry_of ps x.reply)) (true_at y.reply x.reply (ap (λ (z : Pair). z.reply) e)) ∙ ap (λ (z : Pair). partner z.entry) e
+    ap (λ (t : Bool). cond t (Some y.entry) (entry_of ps x.reply)) (true_at y.reply x.reply (ap (λ (z : Pair). z.reply) e)) ∙ ap (λ (z : Pair). Some z.entry) e
 in_entry (y ∷ ps) x d (inr i) =
-    ap (λ (t : Bool). cond t (partner y.entry) (entry_of ps x.reply)) (same_or_not y.reply x.reply (λ q. (apart ps d.0 i).1 (sym q))) ∙ in_entry ps x d.1 i
+    ap (λ (t : Bool). cond t (Some y.entry) (entry_of ps x.reply)) (same_or_not y.reply x.reply (λ q. (apart ps d.0 i).1 (sym q))) ∙ in_entry ps x d.1 i
   where
     apart : (qs : List Pair) → All (Apart y) qs → In x qs → Apart y x
     apart [] a i = absurd i

@@ -1,11 +1,11 @@
 -- Logs worked out: the definitions are not empty, and each condition is needed.
+use Rattle.std.specs.Prelude.{Some, None}
 use mathlib.Core.Path.{◌≡◌, refl}
 use mathlib.Core.List.{List, [], ◌∷◌}
 use Prim.Native.Nat.{ℕ}
 use native.Mathlib.Omega.{arith}
 use lib.Dec.{eqb, lit<}
 use lib.ListN.{length, get_or}
-use Rattle.log_theory.specs.declared.Partner.TheVariants.{Alone as alone, With as partner}
 use Rattle.log_theory.specs.Pairing.{Logs, Pairing, earliest, shown}
 
 -- samples and messages heard, first samples and messages sent, and the tolerance
@@ -23,7 +23,7 @@ given samples heard firsts sent d = record {
 abbrev out_of_order : Logs
 out_of_order = given (100 ∷ 112 ∷ 112 ∷ []) (7 ∷ 7 ∷ 9 ∷ []) (108 ∷ 96 ∷ []) (7 ∷ 7 ∷ []) 10
 
-shown_out_of_order : shown out_of_order ≡ partner 1 ∷ partner 0 ∷ alone ∷ []
+shown_out_of_order : shown out_of_order ≡ Some 1 ∷ Some 0 ∷ None ∷ []
 unfolding earliest
 shown_out_of_order = refl
 
@@ -31,7 +31,7 @@ shown_out_of_order = refl
 abbrev ties : Logs
 ties = given (100 ∷ 100 ∷ 101 ∷ []) (7 ∷ 7 ∷ 7 ∷ []) (101 ∷ 100 ∷ 100 ∷ []) (7 ∷ 7 ∷ 7 ∷ []) 1
 
-shown_ties : shown ties ≡ partner 1 ∷ partner 2 ∷ partner 0 ∷ []
+shown_ties : shown ties ≡ Some 1 ∷ Some 2 ∷ Some 0 ∷ []
 unfolding earliest
 shown_ties = refl
 
@@ -39,7 +39,7 @@ shown_ties = refl
 abbrev nearest_last : Logs
 nearest_last = given (5 ∷ 10 ∷ []) (7 ∷ 7 ∷ []) (10 ∷ 0 ∷ []) (7 ∷ 7 ∷ []) 5
 
-shown_nearest_last : shown nearest_last ≡ partner 1 ∷ partner 0 ∷ []
+shown_nearest_last : shown nearest_last ≡ Some 1 ∷ Some 0 ∷ []
 unfolding earliest
 shown_nearest_last = refl
 
@@ -47,7 +47,7 @@ shown_nearest_last = refl
 abbrev falling : Logs
 falling = given (10 ∷ 5 ∷ []) (7 ∷ 7 ∷ []) (6 ∷ 12 ∷ []) (7 ∷ 7 ∷ []) 4
 
-shown_falling : shown falling ≡ partner 0 ∷ alone ∷ []
+shown_falling : shown falling ≡ Some 0 ∷ None ∷ []
 unfolding earliest
 shown_falling = refl
 

@@ -1,4 +1,5 @@
 -- Pairings as lists of indices, and partners entry by entry.
+use Rattle.std.specs.Prelude.{Option, Some, None}
 use mathlib.Core.Path.{◌≡◌, refl, sym, ap, ◌∙◌, subst}
 use mathlib.Core.Bool.{Bool, true, false}
 use mathlib.Core.Logic.{◌⊎◌, inl, inr}
@@ -7,8 +8,6 @@ use Prim.Native.Nat.{ℕ, zero, suc, ◌+◌, ◌≤◌, ◌<◌}
 use native.Mathlib.Omega.{arith}
 use lib.Dec.{T, eqb, eqb→eq}
 use lib.ListN.{length}
-use Rattle.log_theory.specs.declared.Partner.{Partner}
-use Rattle.log_theory.specs.declared.Partner.TheVariants.{Alone as alone, With as partner}
 use Rattle.log_theory.specs.Pairing.{Logs, Pair, All, Apart, Distinct, May, Pairing, without, cand, earliest, taking, greedy, every, shown, count, pairs_of}
 use Rattle.log_theory.specs.PairingLaws.{Orderly}
 use Rattle.log_theory.proofs.Basics.{cand_allowed, cand_without, cand_other}
@@ -57,7 +56,7 @@ module _ (L : Logs) where
   From F l i x = (i ≤ x.entry) × (x.entry < i + l) × (x.reply < L.sent) × T (cand L F x.entry x.reply)
 
   pub record Listed (F : ℕ → Bool) (l i : ℕ) (ps : List Pair) : Type 0 where
-    pub list : List Partner
+    pub list : List (Option ℕ)
     pub fits : Fits L F i list
     pub long : length list ≡ l
     pub many : count list ≡ length ps
@@ -70,7 +69,7 @@ module _ (L : Logs) where
       go : Out i ps ⊎ All (λ (y : Pair). y.entry ≡ i → ⊥) ps → ((G : ℕ → Bool) (qs : List Pair) → All (From G l (suc i)) qs → Distinct qs → Listed G l (suc i) qs) → Listed F (suc l) i ps
       go (inr n) ih =
           let r = ih F ps (all_map (λ (x : Pair). From F (suc l) i x × (x.entry ≡ i → ⊥)) (From F l (suc i)) (λ x q. later x q.0 q.1) ps (all_both (From F (suc l) i) (λ (y : Pair). y.entry ≡ i → ⊥) ps a n)) d in
-          record { list = alone ∷ r.list; fits = r.fits; long = omega (arith, r.long); many = omega (arith, r.many) }
+          record { list = None ∷ r.list; fits = r.fits; long = omega (arith, r.long); many = omega (arith, r.many) }
         where
           later : (x : Pair) → From F (suc l) i x → (x.entry ≡ i → ⊥) → From F l (suc i) x
           later x q n = (lib.Arith.lt_of_le-ne q.0 (λ e. n (sym e)), omega (arith, q.1), q.2, q.3)
@@ -80,7 +79,7 @@ module _ (L : Logs) where
           let p = o.once d in
           let r = ih (without j F) o.rest (all_map (λ (x : Pair). From F (suc l) i x × Apart o.pair x) (From (without j F) l (suc i)) (λ x z. later x z.0 z.1) o.rest (all_both (From F (suc l) i) (Apart o.pair) o.rest q.1 p.0)) p.1 in
           record {
-            list = partner j ∷ r.list;
+            list = Some j ∷ r.list;
             fits = (q.0.2, subst (λ (k : ℕ). T (cand L F k j)) o.is q.0.3, r.fits);
             long = omega (arith, r.long);
             many = omega (arith, r.many, o.long);
@@ -90,26 +89,26 @@ module _ (L : Logs) where
           later x q n = (lib.Arith.lt_of_le-ne q.0 (λ e. n.0 (sym e ∙ sym o.is)), omega (arith, q.1), q.2, cand_other L o.pair.reply F x.entry x.reply q.3 (λ e. n.1 (sym e)))
 
   -- the pairs of partners that fit
-  pub pairs_from : (F : ℕ → Bool) (i : ℕ) (ps : List Partner) → Fits L F i ps → All (From F (length ps) i) (pairs_of i ps)
+  pub pairs_from : (F : ℕ → Bool) (i : ℕ) (ps : List (Option ℕ)) → Fits L F i ps → All (From F (length ps) i) (pairs_of i ps)
   pairs_from F i [] h = tt
-  pairs_from F i (alone ∷ ps) h = all_map (From F (length ps) (suc i)) (From F (suc (length ps)) i) (λ x q. (omega (arith, q.0), omega (arith, q.1), q.2, q.3)) (pairs_of (suc i) ps) (pairs_from F (suc i) ps h)
-  pairs_from F i (partner j ∷ ps) h = (
+  pairs_from F i (None ∷ ps) h = all_map (From F (length ps) (suc i)) (From F (suc (length ps)) i) (λ x q. (omega (arith, q.0), omega (arith, q.1), q.2, q.3)) (pairs_of (suc i) ps) (pairs_from F (suc i) ps h)
+  pairs_from F i (Some j ∷ ps) h = (
     (omega arith, omega arith, h.0, h.1),
     all_map (From (without j F) (length ps) (suc i)) (From F (suc (length ps)) i) (λ x q. (omega (arith, q.0), omega (arith, q.1), q.2, (cand_without L j F x.entry x.reply q.3).0)) (pairs_of (suc i) ps) (pairs_from (without j F) (suc i) ps h.2),
   )
 
-  pub pairs_once : (F : ℕ → Bool) (i : ℕ) (ps : List Partner) → Fits L F i ps → Distinct (pairs_of i ps)
+  pub pairs_once : (F : ℕ → Bool) (i : ℕ) (ps : List (Option ℕ)) → Fits L F i ps → Distinct (pairs_of i ps)
   pairs_once F i [] h = tt
-  pairs_once F i (alone ∷ ps) h = pairs_once F (suc i) ps h
-  pairs_once F i (partner j ∷ ps) h = (
+  pairs_once F i (None ∷ ps) h = pairs_once F (suc i) ps h
+  pairs_once F i (Some j ∷ ps) h = (
     all_map (From (without j F) (length ps) (suc i)) (Apart (record { entry = i; reply = j })) (λ x q. (λ e. omega (arith, q.0), λ e. (cand_without L j F x.entry x.reply q.3).1 (sym e))) (pairs_of (suc i) ps) (pairs_from (without j F) (suc i) ps h.2),
     pairs_once (without j F) (suc i) ps h.2,
   )
 
-  pub pairs_many : (i : ℕ) (ps : List Partner) → length (pairs_of i ps) ≡ count ps
+  pub pairs_many : (i : ℕ) (ps : List (Option ℕ)) → length (pairs_of i ps) ≡ count ps
   pairs_many i [] = refl
-  pairs_many i (alone ∷ ps) = omega (arith, pairs_many (suc i) ps)
-  pairs_many i (partner j ∷ ps) = omega (arith, pairs_many (suc i) ps)
+  pairs_many i (None ∷ ps) = omega (arith, pairs_many (suc i) ps)
+  pairs_many i (Some j ∷ ps) = omega (arith, pairs_many (suc i) ps)
 
   pub greedy_long : (F : ℕ → Bool) (l i : ℕ) → length (greedy L F l i) ≡ l
   greedy_long F zero i = refl

@@ -1,4 +1,5 @@
 -- As many numbers of each list name nobody as entries or records are left over.
+use Rattle.std.specs.Prelude.{Option, Some, None}
 use mathlib.Core.Path.{◌≡◌, refl, sym, ap, ◌∙◌}
 use mathlib.Core.Bool.{Bool, true, false, cond}
 use mathlib.Core.List.{List, [], ◌∷◌}
@@ -7,8 +8,6 @@ use native.Mathlib.Omega.{arith}
 use lib.Dec.{eqb}
 use lib.ListN.{length}
 use borrow.Author.Tests.{ne_eqb, eq-eqb}
-use Rattle.log_theory.specs.declared.Partner.{Partner}
-use Rattle.log_theory.specs.declared.Partner.TheVariants.{Alone as alone, With as partner}
 use Rattle.log_theory.specs.Pairing.{Logs, without, every, shown, pairs_of}
 use Rattle.log_theory.specs.Report.{nobody, index, indices, entry_of, entries_from, unnamed, left, tally, unsent}
 use Rattle.log_theory.proofs.Basics.{same_or_not, true_at, without_other}
@@ -17,10 +16,10 @@ use Rattle.log_theory.proofs.Lists.{greedy_long}
 
 module _ (L : Logs) where
   -- ---- entries
-  entries : (F : ℕ → Bool) (i : ℕ) (ps : List Partner) → L.sent ≤ nobody → Fits L F i ps → unsent ps ≡ unnamed (indices ps)
+  entries : (F : ℕ → Bool) (i : ℕ) (ps : List (Option ℕ)) → L.sent ≤ nobody → Fits L F i ps → unsent ps ≡ unnamed (indices ps)
   entries F i [] few h = refl
-  entries F i (alone ∷ ps) few h = ap (λ (n : ℕ). 1 + n) (entries F (suc i) ps few h)
-  entries F i (partner g ∷ ps) few h =
+  entries F i (None ∷ ps) few h = ap (λ (n : ℕ). 1 + n) (entries F (suc i) ps few h)
+  entries F i (Some g ∷ ps) few h =
       ap (λ (n : ℕ). 0 + n) (entries (without g F) (suc i) ps few h.2)
       ∙ sym (ap (λ (t : Bool). cond t 1 0 + unnamed (indices ps)) (ne_eqb g nobody (λ e. omega (arith, h.0))))
 
@@ -28,27 +27,27 @@ module _ (L : Logs) where
   entries_unnamed few = entries every 0 (shown L) few (greedy_fits L every L.heard 0)
 
   -- ---- records
-  stays_taken : (G : ℕ → Bool) (ps : List Partner) (j : ℕ) → G j ≡ false → left G ps j ≡ false
+  stays_taken : (G : ℕ → Bool) (ps : List (Option ℕ)) (j : ℕ) → G j ≡ false → left G ps j ≡ false
   stays_taken G [] j e = e
-  stays_taken G (alone ∷ ps) j e = stays_taken G ps j e
-  stays_taken G (partner g ∷ ps) j e = stays_taken (without g G) ps j (go (eqb g j))
+  stays_taken G (None ∷ ps) j e = stays_taken G ps j e
+  stays_taken G (Some g ∷ ps) j e = stays_taken (without g G) ps j (go (eqb g j))
     where
       go : (t : Bool) → cond t false (G j) ≡ false
       go true = refl
       go false = e
 
   -- a record that was free is still free exactly where no entry has it
-  free_still : (F : ℕ → Bool) (i : ℕ) (ps : List Partner) (j : ℕ) → i + length ps ≤ nobody → F j ≡ true → left F ps j ≡ eqb (index (entry_of (pairs_of i ps) j)) nobody
+  free_still : (F : ℕ → Bool) (i : ℕ) (ps : List (Option ℕ)) (j : ℕ) → i + length ps ≤ nobody → F j ≡ true → left F ps j ≡ eqb (index (entry_of (pairs_of i ps) j)) nobody
   free_still F i [] j few e = e ∙ sym (eq-eqb nobody nobody refl)
-  free_still F i (alone ∷ ps) j few e = free_still F (suc i) ps j (omega arith) e
-  free_still F i (partner g ∷ ps) j few e =
-      equal_or_not g j (left (without g F) ps j ≡ eqb (index (cond (eqb g j) (partner i) (entry_of (pairs_of (suc i) ps) j))) nobody)
+  free_still F i (None ∷ ps) j few e = free_still F (suc i) ps j (omega arith) e
+  free_still F i (Some g ∷ ps) j few e =
+      equal_or_not g j (left (without g F) ps j ≡ eqb (index (cond (eqb g j) (Some i) (entry_of (pairs_of (suc i) ps) j))) nobody)
       (λ q.
       stays_taken (without g F) ps j (ap (λ (t : Bool). cond t false (F j)) (true_at g j q))
-      ∙ sym (ap (λ (t : Bool). eqb (index (cond t (partner i) (entry_of (pairs_of (suc i) ps) j))) nobody) (true_at g j q) ∙ ne_eqb i nobody (λ z. omega arith)))
+      ∙ sym (ap (λ (t : Bool). eqb (index (cond t (Some i) (entry_of (pairs_of (suc i) ps) j))) nobody) (true_at g j q) ∙ ne_eqb i nobody (λ z. omega arith)))
       (λ n.
       free_still (without g F) (suc i) ps j (omega arith) (without_other g j F n ∙ e)
-      ∙ sym (ap (λ (t : Bool). eqb (index (cond t (partner i) (entry_of (pairs_of (suc i) ps) j))) nobody) (same_or_not g j n)))
+      ∙ sym (ap (λ (t : Bool). eqb (index (cond t (Some i) (entry_of (pairs_of (suc i) ps) j))) nobody) (same_or_not g j n)))
 
 -- counted from the first on, and from the last one back
 upwards : (ℕ → Bool) → ℕ → ℕ → ℕ

@@ -1,13 +1,12 @@
 -- Records before a window are taken or too early, and those behind it too late or later than what was found: the earliest one in it is the earliest of all.
+use Rattle.std.specs.Prelude.{Option, Some, None}
 use mathlib.Core.Path.{◌≡◌, sym, subst}
 use mathlib.Core.Bool.{Bool, true, false}
 use mathlib.Core.Logic.{◌⊎◌, inl, inr}
-use Prim.Native.Nat.{ℕ, suc, ◌+◌, ◌-◌, ◌≤◌, ◌<◌}
+use Prim.Native.Nat.{ℕ, suc, ◌+◌, ◌≤◌, ◌<◌}
 use native.Mathlib.Omega.{arith}
 use native.Mathlib.Nat.{eq-or-lt_of_le, le_refl}
 use lib.Dec.{T, leb, leb→le, nleb→lt}
-use Rattle.log_theory.specs.declared.Partner.{Partner}
-use Rattle.log_theory.specs.declared.Partner.TheVariants.{Alone as alone, With as partner}
 use Rattle.log_theory.specs.Pairing.{Logs, cand, better, earliest}
 use Rattle.log_theory.specs.PairingLaws.{Before, Earliest}
 use Rattle.log_theory.specs.PairsModel.{Below, Back, Past, Taken}
@@ -22,50 +21,50 @@ le_or_lt a b = go (leb a b) (leb→le a b) (nleb→lt a b)
     go false h g = inr (g tt)
 
 module _ (L : Logs) (F : ℕ → Bool) (i : ℕ) where
-  pub none_before : (lo : ℕ) → Past L.first L.within F (L.sample i) lo → Earliest L F i lo alone
+  pub none_before : (lo : ℕ) → Past L.first L.within F (L.sample i) lo → Earliest L F i lo None
   none_before lo p k lt c = at (p.gone k lt)
     where
       at : (F k ≡ false) ⊎ (L.first k + L.within < L.sample i) → ⊥
       at (inl e) = subst (λ (b : Bool). T b) e (cand_free L F i k c)
       at (inr h) = omega (arith, h, (near L i k (cand_allowed L F i k c)).late)
 
-  pub one_more : (j : ℕ) (b : Partner) → Earliest L F i j b → Earliest L F i (j + 1) (better L F i j b)
+  pub one_more : (j : ℕ) (b : (Option ℕ)) → Earliest L F i j b → Earliest L F i (j + 1) (better L F i j b)
   one_more j b h = subst (λ (x : ℕ). Earliest L F i x (better L F i j b)) {x = suc j} {y = j + 1} (omega arith) (step L F i j b h)
 
   -- record k comes too late, or after what was found
-  abbrev pub Late : Partner → ℕ → Type 0
-  Late alone k = L.sample i + L.within < L.first k
-  Late (partner g) k = L.first g < L.first k
+  abbrev pub Late : (Option ℕ) → ℕ → Type 0
+  Late None k = L.sample i + L.within < L.first k
+  Late (Some g) k = L.first g < L.first k
 
-  pub none_behind : (j : ℕ) (b : Partner) → j ≤ L.sent → ((k : ℕ) → j ≤ k → k < L.sent → Late b k) → Earliest L F i j b → Earliest L F i L.sent b
-  none_behind j alone le h e = λ k lt c. elim (le_or_lt j k) [ inl g ↦ omega (arith, h k g lt, (near L i k (cand_allowed L F i k c)).early) | inr g ↦ e k g c ]
-  none_behind j (partner g) le h e = (omega (arith, e.0), e.1, λ k lt c. at k lt c (le_or_lt j k))
+  pub none_behind : (j : ℕ) (b : (Option ℕ)) → j ≤ L.sent → ((k : ℕ) → j ≤ k → k < L.sent → Late b k) → Earliest L F i j b → Earliest L F i L.sent b
+  none_behind j None le h e = λ k lt c. elim (le_or_lt j k) [ inl g ↦ omega (arith, h k g lt, (near L i k (cand_allowed L F i k c)).early) | inr g ↦ e k g c ]
+  none_behind j (Some g) le h e = (omega (arith, e.0), e.1, λ k lt c. at k lt c (le_or_lt j k))
     where
       at : (k : ℕ) → k < L.sent → T (cand L F i k) → (j ≤ k) ⊎ (k < j) → Before L F i g k
       at k lt c (inl q) = record { no_later = omega (arith, h k q lt); in_order_lem = λ z. absurd (omega (arith, h k q lt)) }
       at k lt c (inr q) = e.2 k q c
 
   -- taken records may be passed by
-  pub skipped : (j k : ℕ) (b : Partner) → Taken F j k → Earliest L F i j b → Earliest L F i k b
-  skipped j k alone t e = λ m lt c. at m lt c (le_or_lt j m)
+  pub skipped : (j k : ℕ) (b : (Option ℕ)) → Taken F j k → Earliest L F i j b → Earliest L F i k b
+  skipped j k None t e = λ m lt c. at m lt c (le_or_lt j m)
     where
       at : (m : ℕ) → m < k → T (cand L F i m) → (j ≤ m) ⊎ (m < j) → ⊥
       at m lt c (inl q) = subst (λ (b : Bool). T b) (t.taken m q lt) (cand_free L F i m c)
       at m lt c (inr q) = e m q c
-  skipped j k (partner g) t e = (omega (arith, e.0, t.from), e.1, λ m lt c. at m lt c (le_or_lt j m))
+  skipped j k (Some g) t e = (omega (arith, e.0, t.from), e.1, λ m lt c. at m lt c (le_or_lt j m))
     where
       at : (m : ℕ) → m < k → T (cand L F i m) → (j ≤ m) ⊎ (m < j) → Before L F i g m
       at m lt c (inl q) = absurd (subst (λ (b : Bool). T b) (t.taken m q lt) (cand_free L F i m c))
       at m lt c (inr q) = e.2 m q c
 
-  pub is_earliest : (b : Partner) → Earliest L F i L.sent b → b ≡ earliest L F i
+  pub is_earliest : (b : (Option ℕ)) → Earliest L F i L.sent b → b ≡ earliest L F i
   is_earliest b h = only L F i L.sent b (earliest L F i) h (found L F i)
 
-  pub below : (n m : ℕ) (b : Partner) → n ≤ m → Earliest L F i n b → Below m b
-  below n m alone le h = tt
-  below n m (partner g) le h = omega (arith, h.0)
+  pub below : (n m : ℕ) (b : (Option ℕ)) → n ≤ m → Earliest L F i n b → Below m b
+  below n m None le h = tt
+  below n m (Some g) le h = omega (arith, h.0)
 
-  pub finish : (b : Partner) → Earliest L F i L.sent b → (b ≡ earliest L F i) × Below L.sent b
+  pub finish : (b : (Option ℕ)) → Earliest L F i L.sent b → (b ≡ earliest L F i) × Below L.sent b
   finish b h = (is_earliest b h, below L.sent L.sent b (le_refl L.sent) h)
 
 last_or : (k n : ℕ) → k < n + 1 → (k ≡ n) ⊎ (k < n)

@@ -1,11 +1,6 @@
 -- Log entries and records, held against each other (SPECIFICATION 13.2): which may be paired, what a pairing is, and the pairing that is reported.
-use Rattle.std.specs.Prelude.{◌≡◌, Bool, true, false, cond, List, [], ◌∷◌, ℕ, zero, suc, ◌+◌, ◌<◌, T, leb, ltb, eqb}
-use Rattle.log_theory.specs.declared.Partner.{Partner}
-use Rattle.log_theory.specs.declared.Partner.TheVariants.{Alone as alone, With as partner}
-
-abbrev pub both : Bool → Bool → Bool
-both true b = b
-both false b = false
+use Rattle.std.specs.Prelude.{Option, Some, None}
+use Rattle.std.specs.Prelude.{◌≡◌, Bool, true, false, cond, List, [], ◌∷◌, ℕ, zero, suc, ◌+◌, ◌<◌, T, leb, ltb, eqb, ◌&&◌}
 
 -- a log of `heard` entries and `sent` records, by their indices from 0
 pub record Logs : Type 0 where
@@ -18,11 +13,11 @@ pub record Logs : Type 0 where
 
 -- h and f differ by at most d
 abbrev pub near : ℕ → ℕ → ℕ → Bool
-near h f d = both (leb h (f + d)) (leb f (h + d))
+near h f d = leb h (f + d) && leb f (h + d)
 
 -- entry i may be paired with record j
 abbrev pub allowed : Logs → ℕ → ℕ → Bool
-allowed L i j = both (L.alike i j) (near (L.sample i) (L.first j) L.within)
+allowed L i j = L.alike i j && near (L.sample i) (L.first j) L.within
 
 -- ---- pairings, as lists of indices
 pub record Pair : Type 0 where
@@ -54,51 +49,51 @@ without g F k = cond (eqb g k) false (F k)
 
 -- record j is free and allowed for entry i
 abbrev pub cand : Logs → (ℕ → Bool) → ℕ → ℕ → Bool
-cand L F i j = both (F j) (allowed L i j)
+cand L F i j = F j && allowed L i j
 
 -- the earlier one of what was found and record j
-abbrev pub better : Logs → (ℕ → Bool) → ℕ → ℕ → Partner → Partner
-better L F i j alone = cond (cand L F i j) (partner j) alone
-better L F i j (partner g) = cond (both (cand L F i j) (ltb (L.first j) (L.first g))) (partner j) (partner g)
+abbrev pub better : Logs → (ℕ → Bool) → ℕ → ℕ → (Option ℕ) → (Option ℕ)
+better L F i j None = cond (cand L F i j) (Some j) None
+better L F i j (Some g) = cond (cand L F i j && ltb (L.first j) (L.first g)) (Some j) (Some g)
 
 -- r records are left, from j on
-abbrev pub scan : Logs → (ℕ → Bool) → ℕ → ℕ → ℕ → Partner → Partner
+abbrev pub scan : Logs → (ℕ → Bool) → ℕ → ℕ → ℕ → (Option ℕ) → (Option ℕ)
 scan L F i zero j b = b
 scan L F i (suc r) j b = scan L F i r (suc j) (better L F i j b)
 
 -- the earliest free and allowed record, of equal ones the first in the records' order
-unfoldable pub earliest : Logs → (ℕ → Bool) → ℕ → Partner
-earliest L F i = scan L F i L.sent 0 alone
+unfoldable pub earliest : Logs → (ℕ → Bool) → ℕ → (Option ℕ)
+earliest L F i = scan L F i L.sent 0 None
 
-abbrev pub taking : Partner → (ℕ → Bool) → ℕ → Bool
-taking alone F = F
-taking (partner g) F = without g F
+abbrev pub taking : (Option ℕ) → (ℕ → Bool) → ℕ → Bool
+taking None F = F
+taking (Some g) F = without g F
 
 -- l entries are left, from i on: the partner of each
-abbrev pub greedy : Logs → (ℕ → Bool) → ℕ → ℕ → List Partner
+abbrev pub greedy : Logs → (ℕ → Bool) → ℕ → ℕ → List (Option ℕ)
 greedy L F zero i = []
 greedy L F (suc l) i = earliest L F i ∷ greedy L (taking (earliest L F i) F) l (suc i)
 
 abbrev pub every : ℕ → Bool
 every j = true
 
-abbrev pub shown : Logs → List Partner
+abbrev pub shown : Logs → List (Option ℕ)
 shown L = greedy L every L.heard 0
 
 -- ---- counts
-abbrev pub one : Partner → ℕ
-one alone = 0
-one (partner g) = 1
+abbrev pub one : (Option ℕ) → ℕ
+one None = 0
+one (Some g) = 1
 
-abbrev pub count : List Partner → ℕ
+abbrev pub count : List (Option ℕ) → ℕ
 count [] = 0
 count (p ∷ ps) = one p + count ps
 
-abbrev pub push : ℕ → Partner → List Pair → List Pair
-push i alone ps = ps
-push i (partner j) ps = record { entry = i; reply = j } ∷ ps
+abbrev pub push : ℕ → (Option ℕ) → List Pair → List Pair
+push i None ps = ps
+push i (Some j) ps = record { entry = i; reply = j } ∷ ps
 
 -- the pairs of a list of partners, entries counted from i
-abbrev pub pairs_of : ℕ → List Partner → List Pair
+abbrev pub pairs_of : ℕ → List (Option ℕ) → List Pair
 pairs_of i [] = []
 pairs_of i (p ∷ ps) = push i p (pairs_of (suc i) ps)

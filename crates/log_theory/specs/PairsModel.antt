@@ -1,7 +1,6 @@
 -- The pairing as the code makes it: two lists of indices and a count, changed entry by entry.
+use Rattle.std.specs.Prelude.{Option, Some, None}
 use Rattle.std.specs.Prelude.{Bool, false, ◌⊎◌, ◌≡◌, List, ℕ, zero, suc, ◌+◌, ◌≤◌, ◌<◌, eqb, get_or, set, replicate}
-use Rattle.log_theory.specs.declared.Partner.{Partner}
-use Rattle.log_theory.specs.declared.Partner.TheVariants.{Alone as alone, With as partner}
 use Rattle.log_theory.specs.Pairing.{Logs, earliest}
 use Rattle.log_theory.specs.Report.{nobody, Lists}
 
@@ -10,13 +9,13 @@ abbrev pub free_in : List ℕ → ℕ → Bool
 free_in owners j = eqb (get_or owners j nobody) nobody
 
 -- a partner's index is below n
-abbrev pub Below : ℕ → Partner → Type 0
-Below n alone = Unit {0}
-Below n (partner g) = g < n
+abbrev pub Below : ℕ → (Option ℕ) → Type 0
+Below n None = Unit {0}
+Below n (Some g) = g < n
 
-abbrev pub paired : Lists → ℕ → Partner → Lists
-paired s i alone = s
-paired s i (partner g) = record { partners = set s.partners i g; owners = set s.owners g i; pairs = s.pairs + 1 }
+abbrev pub paired : Lists → ℕ → (Option ℕ) → Lists
+paired s i None = s
+paired s i (Some g) = record { partners = set s.partners i g; owners = set s.owners g i; pairs = s.pairs + 1 }
 
 -- l entries are left, from i on
 unfoldable pub pair_up : Logs → ℕ → ℕ → Lists → Lists

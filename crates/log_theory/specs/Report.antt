@@ -1,25 +1,24 @@
 -- What is reported of a pairing (SPECIFICATION 13.3): each entry's record and each record's entry, by their indices, and what is left over.
+use Rattle.std.specs.Prelude.{Option, Some, None}
 use Rattle.std.specs.Prelude.{◌≡◌, Bool, cond, ◌⊎◌, List, [], ◌∷◌, ℕ, zero, suc, ◌+◌, eqb, length}
-use Rattle.log_theory.specs.declared.Partner.{Partner}
-use Rattle.log_theory.specs.declared.Partner.TheVariants.{Alone as alone, With as partner}
 use Rattle.log_theory.specs.Pairing.{Logs, Pair, taking, shown, pairs_of}
 
 -- 2^64 - 1 for no partner
 abbrev pub nobody : ℕ
 nobody = 18446744073709551615
 
-abbrev pub index : Partner → ℕ
-index alone = nobody
-index (partner g) = g
+abbrev pub index : (Option ℕ) → ℕ
+index None = nobody
+index (Some g) = g
 
-abbrev pub indices : List Partner → List ℕ
+abbrev pub indices : List (Option ℕ) → List ℕ
 indices [] = []
 indices (p ∷ ps) = index p ∷ indices ps
 
 -- the entry that a record is paired with
-abbrev pub entry_of : List Pair → ℕ → Partner
-entry_of [] j = alone
-entry_of (x ∷ ps) j = cond (eqb x.reply j) (partner x.entry) (entry_of ps j)
+abbrev pub entry_of : List Pair → ℕ → (Option ℕ)
+entry_of [] j = None
+entry_of (x ∷ ps) j = cond (eqb x.reply j) (Some x.entry) (entry_of ps j)
 
 -- those of n records, from j on
 unfoldable pub entries_from : List Pair → ℕ → ℕ → List ℕ
@@ -45,16 +44,16 @@ In x [] = ⊥
 In x (y ∷ ps) = (y ≡ x) ⊎ In x ps
 
 -- entries with no partner
-abbrev pub lone : Partner → ℕ
-lone alone = 1
-lone (partner g) = 0
+abbrev pub lone : (Option ℕ) → ℕ
+lone None = 1
+lone (Some g) = 0
 
-abbrev pub unsent : List Partner → ℕ
+abbrev pub unsent : List (Option ℕ) → ℕ
 unsent [] = 0
 unsent (p ∷ ps) = lone p + unsent ps
 
 -- the records still free after these partners
-abbrev pub left : (ℕ → Bool) → List Partner → ℕ → Bool
+abbrev pub left : (ℕ → Bool) → List (Option ℕ) → ℕ → Bool
 left F [] = F
 left F (p ∷ ps) = left (taking p F) ps
 

@@ -1,12 +1,13 @@
 -- Laws of distances and of sums kept to 64 bits.
 use mathlib.Core.Path.{◌≡◌, refl, sym, ap, ◌∙◌}
-use mathlib.Core.Bool.{Bool, true, false, not, cond}
+use mathlib.Core.Bool.{Bool, true, false, not, cond, ◌&&◌}
 use mathlib.Core.Logic.{◌⊎◌, inl, inr}
 use Prim.Native.Nat.{ℕ, suc, ◌+◌, ◌-◌, ◌≤◌, ◌<◌}
 use native.Mathlib.Omega.{arith}
 use lib.Dec.{T, leb, ltb, leb→le, nleb→lt}
 use borrow.Author.Tests.{le-leb, lt-leb}
-use Rattle.log_theory.specs.Pairing.{both, near}
+use Rattle.std.specs.Prelude.{min}
+use Rattle.log_theory.specs.Pairing.{near}
 use Rattle.log_tolerance.specs.Capped.{capped}
 
 le_or_lt : (a b : ℕ) → (a ≤ b) ⊎ (b < a)
@@ -27,17 +28,28 @@ leb_same a b c e f g =
     not_le h (inl q) = absurd (omega (arith, g q))
     not_le h (inr q) = q
 
-pub near_up : (h f d : ℕ) → h ≤ f → leb (f - h) d ≡ near h f d
+near_up : (h f d : ℕ) → h ≤ f → leb (f - h) d ≡ near h f d
 near_up h f d le =
     leb_same (f - h) d f (h + d) (λ q. omega arith) (λ q. omega arith)
-    ∙ sym (ap (λ (x : Bool). both x (leb f (h + d))) (le-leb h (f + d) (omega arith)))
+    ∙ sym (ap (λ (x : Bool). x && leb f (h + d)) (le-leb h (f + d) (omega arith)))
 
-pub near_down : (h f d : ℕ) → f < h → leb (h - f) d ≡ near h f d
-near_down h f d lt = leb_same (h - f) d h (f + d) (λ q. omega arith) (λ q. omega arith) ∙ sym (ap (both (leb h (f + d))) (le-leb f (h + d) (omega arith)) ∙ both_true (leb h (f + d)))
+near_down : (h f d : ℕ) → f < h → leb (h - f) d ≡ near h f d
+near_down h f d lt = leb_same (h - f) d h (f + d) (λ q. omega arith) (λ q. omega arith) ∙ sym (ap (λ (b : Bool). leb h (f + d) && b) (le-leb f (h + d) (omega arith)) ∙ both_true (leb h (f + d)))
   where
-    both_true : (x : Bool) → both x true ≡ x
+    both_true : (x : Bool) → (x && true) ≡ x
     both_true true = refl
     both_true false = refl
+
+pub near_is : (h f d r : ℕ) → r ≡ (h - f) + (f - h) → leb r d ≡ near h f d
+near_is h f d r e = ap (λ (x : ℕ). leb x d) e ∙ go (le_or_lt h f)
+  where
+    go : (h ≤ f) ⊎ (f < h) → leb ((h - f) + (f - h)) d ≡ near h f d
+    go (inl le) =
+        let q : (h - f) + (f - h) ≡ f - h = omega arith in
+        ap (λ (x : ℕ). leb x d) q ∙ near_up h f d le
+    go (inr lt) =
+        let q : (h - f) + (f - h) ≡ h - f = omega arith in
+        ap (λ (x : ℕ). leb x d) q ∙ near_down h f d lt
 
 pub capped_within : (n : ℕ) → n ≤ 18446744073709551615 → n ≡ capped n
 unfolding capped
@@ -46,6 +58,17 @@ capped_within n h = sym (ap (λ (t : Bool). cond t n 18446744073709551615) (le-l
 pub capped_over : (n : ℕ) → 18446744073709551615 < n → 18446744073709551615 ≡ capped n
 unfolding capped
 capped_over n h = sym (ap (λ (t : Bool). cond t n 18446744073709551615) (lt-leb n 18446744073709551615 h))
+
+pub capped_is : (n : ℕ) → min n 18446744073709551615 ≡ capped n
+capped_is n = go (le_or_lt n 18446744073709551615)
+  where
+    go : (n ≤ 18446744073709551615) ⊎ (18446744073709551615 < n) → min n 18446744073709551615 ≡ capped n
+    go (inl h) =
+        let q : min n 18446744073709551615 ≡ n = omega arith in
+        q ∙ capped_within n h
+    go (inr h) =
+        let q : min n 18446744073709551615 ≡ 18446744073709551615 = omega arith in
+        q ∙ capped_over n h
 
 -- what is above a capped number, and is itself a u64, is above the number
 pub capped_below : (n f : ℕ) → f ≤ 18446744073709551615 → capped n < f → n < f

@@ -1,5 +1,5 @@
 -- Sine and cosine of a phase (SPECIFICATION 6.11): reduction, quadrant, Horner sums, each operation rounded once. For every `f64`.
-use Rattle.std.specs.Prelude.{ℕ, zero, suc, ◌+◌, ◌*◌, Bool, false, cond, not, from_bits, Float}
+use Rattle.std.specs.Prelude.{ℕ, zero, suc, ◌+◌, ◌*◌, Bool, false, cond, not, from_bits, List, [], ◌∷◌, Float}
 use Rattle.std.specs.Float.{binary64}
 use Rattle.std.specs.Float.Ieee.{round, add, sub, mul, div, neg, lt}
 use Rattle.math.specs.Phase.{pi}
@@ -47,6 +47,11 @@ cosine_coefficient n = round binary64 (odd n) 1 (factorial (2 * n))
 unfoldable pub horner : (ℕ → Float) → ℕ → ℕ → Float → Float
 horner coefficient zero n z = coefficient n
 horner coefficient (suc k) n z = add binary64 (mul binary64 (horner coefficient k (suc n) z) z) (coefficient n)
+
+-- the same sum of coefficients that are listed, the highest of them apart
+unfoldable pub horner_of : Float → List Float → Float → Float
+horner_of sum [] z = sum
+horner_of sum (a ∷ others) z = horner_of (add binary64 (mul binary64 sum z) a) others z
 
 -- S and C: z = r times r; n 0 to 6, and n 0 to 7
 unfoldable pub sine_sum : Float → Float

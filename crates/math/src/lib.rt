@@ -3,13 +3,14 @@
 
 ghost use Rattle.std.specs.Prelude.{◌≡◌};
 ghost use Rattle.math.specs.Phase.{rem_euclid, two_pi, phase_wrap, phase_wrap_once};
-ghost use Rattle.math.specs.Carrier.{reduced, sine_sum, cosine_sum, quadrant, sin_cos};
+ghost use Rattle.math.specs.Carrier.{reduced, horner_of, sine_sum, cosine_sum, quadrant, sin_cos};
 
 pub const PI: f64 = 3.141592653589793;
 
 const TWO_PI: f64 = 6.283185307179586;
 
 // The remainder by 2 PI that is not negative, as Rust's `rem_euclid`.
+#[tactic(auto, using(crate::proofs::Literals::two_pi_is), unfolding(crate::specs::Phase::rem_euclid, float_remainder::specs::Turn::turn))]
 fn rem_two_pi(x: f64) -> f64
     ensures { result ≡ rem_euclid x two_pi }
 {
@@ -18,6 +19,7 @@ fn rem_two_pi(x: f64) -> f64
 }
 
 // Wraps a phase to -PI to PI.
+#[tactic(auto, using(crate::proofs::Literals::pi_is), unfolding(crate::specs::Phase::phase_wrap))]
 pub fn phase_wrap_f64(phase: f64) -> f64
     ensures { result ≡ phase_wrap phase }
 {
@@ -25,6 +27,7 @@ pub fn phase_wrap_f64(phase: f64) -> f64
 }
 
 // Wraps a phase that lies within 3 PI of 0.
+#[tactic(auto, using(crate::proofs::Literals::pi_is, crate::proofs::Literals::two_pi_is), unfolding(crate::specs::Phase::phase_wrap_once))]
 pub fn phase_wrap_once_f64(phase: f64) -> f64
     ensures { result ≡ phase_wrap_once phase }
 {
@@ -57,6 +60,7 @@ const OUTER_LIMIT: f64 = 2.356194490192345;
 
 const INNER_LIMIT: f64 = 0.7853981633974483;
 
+#[tactic(auto, using(crate::proofs::Literals::pi_is, crate::proofs::Literals::half_pi_is, crate::proofs::Literals::outer_limit_is, crate::proofs::Literals::inner_limit_is), unfolding(crate::specs::Carrier::reduced))]
 fn reduce(p: f64) -> Reduced
     ensures { result ≡ reduced p }
 {
@@ -81,35 +85,57 @@ fn reduce(p: f64) -> Reduced
     Reduced { r: p - PI, q: 2 }
 }
 
+// A sum in z of coefficients, the highest first, by Horner's steps. The highest stands apart, so that no step is spent on a 0.
+#[tactic(auto, using(crate::proofs::Horner::horner_step, crate::proofs::Horner::horner_end))]
+fn polynomial(highest: f64, others: &[f64], z: f64) -> f64
+    ensures { result ≡ horner_of highest others.now z }
+{
+    let mut sum = highest;
+    for a in others {
+        sum = sum * z + *a;
+    }
+    sum
+}
+
 // r times the Horner sum of (-1)^n/(2n+1)!, n 0 to 6, in r times r.
 fn sine_sum(r: f64) -> f64
     ensures { result ≡ sine_sum r }
 {
-    let z = r * r;
-    let s5 = 1.6059043836821613e-10 * z + -2.505210838544172e-8;
-    let s4 = s5 * z + 2.7557319223985893e-6;
-    let s3 = s4 * z + -0.0001984126984126984;
-    let s2 = s3 * z + 0.008333333333333333;
-    let s1 = s2 * z + -0.16666666666666666;
-    let s0 = s1 * z + 1.0;
-    r * s0
+    r * polynomial(
+        1.6059043836821613e-10,
+        &[
+            -2.505210838544172e-8,
+            2.7557319223985893e-6,
+            -0.0001984126984126984,
+            0.008333333333333333,
+            -0.16666666666666666,
+            1.0,
+        ],
+        r * r,
+    )
 }
 
 // The Horner sum of (-1)^n/(2n)!, n 0 to 7, in r times r.
 fn cosine_sum(r: f64) -> f64
     ensures { result ≡ cosine_sum r }
 {
-    let z = r * r;
-    let c6 = -1.1470745597729725e-11 * z + 2.08767569878681e-9;
-    let c5 = c6 * z + -2.755731922398589e-7;
-    let c4 = c5 * z + 2.48015873015873e-5;
-    let c3 = c4 * z + -0.001388888888888889;
-    let c2 = c3 * z + 0.041666666666666664;
-    let c1 = c2 * z + -0.5;
-    c1 * z + 1.0
+    polynomial(
+        -1.1470745597729725e-11,
+        &[
+            2.08767569878681e-9,
+            -2.755731922398589e-7,
+            2.48015873015873e-5,
+            -0.001388888888888889,
+            0.041666666666666664,
+            -0.5,
+            1.0,
+        ],
+        r * r,
+    )
 }
 
 // The sine and the cosine from S and C of the reduced phase.
+#[tactic(auto, unfolding(crate::specs::Carrier::quadrant))]
 fn by_quadrant(q: u8, s: f64, c: f64) -> SinCos
     ensures { result ≡ quadrant q s c }
 {
@@ -121,6 +147,7 @@ fn by_quadrant(q: u8, s: f64, c: f64) -> SinCos
     }
 }
 
+#[tactic(auto, unfolding(crate::specs::Carrier::sin_cos))]
 pub fn sin_cos(p: f64) -> SinCos
     ensures { result ≡ sin_cos p }
 {

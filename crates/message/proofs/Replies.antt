@@ -1,5 +1,5 @@
 -- The definition of a reply at each type, in the form in which the code writes its bytes.
-use mathlib.Core.Path.{◌≡◌, sym, ap, ap₂, ◌∙◌}
+use mathlib.Core.Path.{◌≡◌, sym, ap, ◌∙◌}
 use mathlib.Core.List.{List, [], ◌∷◌, ◌++◌, append-nil}
 use Prim.Native.Nat.{ℕ, ◌+◌, ◌-◌, ◌*◌, ◌/◌, ◌%◌}
 use borrow.Author.Tests.{eq-eqb, ne_eqb}
@@ -25,7 +25,7 @@ use Rattle.message.specs.Making.{
   filled,
   reply_of,
 }
-use Rattle.message.proofs.Bytes.{bytes_1_to_3, bytes_1_to_6}
+use Rattle.message.proofs.Bytes.{each, four, bytes_1_to_3, bytes_1_to_6}
 
 abbrev pub reply : ReplyKind → List ℕ → Reply
 reply k m = record { kind = k; bytes = m }
@@ -34,14 +34,30 @@ filled_whole : (m : List ℕ) → length m ≡ 14 → m ≡ filled m
 unfolding filled
 filled_whole m h = sym (ap (λ (n : ℕ). m ++ replicate (14 - n) 0) h ∙ append-nil m)
 
--- four bytes, their parity and an overlay, and zeros
-pub sealed_reply : (a b c d o p x y : ℕ) → p ≡ parity_of (a ∷ b ∷ c ∷ d ∷ []) → x ≡ p / 65536 % 256 → y ≡ p / 256 % 256
-    → reply Short (a ∷ b ∷ c ∷ d ∷ x ∷ y ∷ bit_xor o (p % 256) ∷ 0 ∷ 0 ∷ 0 ∷ 0 ∷ 0 ∷ 0 ∷ 0 ∷ [])
-    ≡ reply Short (filled (with_parity (a ∷ b ∷ c ∷ d ∷ []) o))
-unfolding filled with_parity parity_bytes
-sealed_reply a b c d o p x y e ex ey =
-    ap₂ (λ (m n : ℕ). reply Short (filled (a ∷ b ∷ c ∷ d ∷ m ∷ n ∷ bit_xor o (p % 256) ∷ []))) ex ey
-    ∙ ap (λ (n : ℕ). reply Short (filled ((a ∷ b ∷ c ∷ d ∷ []) ++ parity_bytes n o))) e
+-- four bytes, their parity, as the list of its three bytes, and an overlay, and zeros
+pub sealed_reply : (l : List ℕ) (o p : ℕ) (three : List ℕ) → length l ≡ 4 → p ≡ parity_of l → three ≡ p / 65536 % 256 ∷ p / 256 % 256 ∷ p % 256 ∷ []
+    → reply Short
+    (get_or l 0 0
+    ∷ get_or l 1 0
+    ∷ get_or l 2 0
+    ∷ get_or l 3 0
+    ∷ get_or three 0 0
+    ∷ get_or three 1 0
+    ∷ bit_xor o (get_or three 2 0)
+    ∷ 0
+    ∷ 0
+    ∷ 0
+    ∷ 0
+    ∷ 0
+    ∷ 0
+    ∷ 0
+    ∷ [])
+    ≡ reply Short (filled (with_parity l o))
+unfolding filled with_parity parity_bytes each
+sealed_reply l o p three h e f =
+    ap (λ (m : List ℕ). reply Short (filled (m ++ (get_or three 0 0 ∷ get_or three 1 0 ∷ bit_xor o (get_or three 2 0) ∷ [])))) (four l h)
+    ∙ ap (λ (t : List ℕ). reply Short (filled (l ++ (get_or t 0 0 ∷ get_or t 1 0 ∷ bit_xor o (get_or t 2 0) ∷ [])))) f
+    ∙ ap (λ (n : ℕ). reply Short (filled (l ++ parity_bytes n o))) e
 
 module _ (p : Picks) (fourteen : length p.bytes ≡ 14) where
   pub short_ap_reply

@@ -1,7 +1,6 @@
 -- Making a reply (SPECIFICATION 7.2, 7.3): formats, CA and control; picks; byte 0; later bytes; parity; overlay.
 -- Last, what is refused: the first field at fault, in the order of the tape.
-use Rattle.std.specs.Prelude.{ℕ, ◌+◌, ◌-◌, ◌*◌, ◌/◌, ◌%◌, Bool, true, false, List, [], ◌∷◌, ◌++◌, eqb, ltb, length, get_or, take, drop, replicate}
-use Rattle.std.proofs.Math.Option.{Option, none, some}
+use Rattle.std.specs.Prelude.{Option, Some, None, Result, Ok, Err, ℕ, ◌+◌, ◌-◌, ◌*◌, ◌/◌, ◌%◌, Bool, true, false, cond, ◌&&◌, List, [], ◌∷◌, ◌++◌, eqb, ltb, length, get_or, take, drop, replicate}
 use Rattle.mode_s.specs.Formats.{
   extended_formats,
   short_ap_formats,
@@ -14,7 +13,6 @@ use Rattle.mode_s.specs.Formats.{
 use Rattle.mode_s.specs.Parity.{with_parity}
 use Rattle.refusals.specs.declared.Refusal.{Refusal}
 use Rattle.refusals.specs.declared.Refusal.TheVariants.{Draw}
-use Rattle.refusals.specs.Answer.{Answer, unless}
 use Rattle.message.specs.declared.MessageType.{MessageType}
 use Rattle.message.specs.declared.MessageType.TheVariants.{
   ExtendedSquitter,
@@ -29,9 +27,6 @@ use Rattle.message.specs.declared.ReplyKind.{ReplyKind}
 use Rattle.message.specs.declared.ReplyKind.TheVariants.{Short, Long, ModeAc as ModeAcKind}
 use Rattle.message.specs.declared.Reply.{Reply}
 use Rattle.message.specs.declared.Picks.{Picks}
-use Rattle.message.specs.declared.FieldFault.{FieldFault}
-use Rattle.message.specs.declared.FieldFault.TheVariants.{NoFault, Field}
-use Rattle.message.specs.declared.Made.{Made}
 
 -- the list that a type's downlink format comes from; Mode A/C has none
 unfoldable pub formats : MessageType → List ℕ
@@ -43,13 +38,9 @@ formats LongAp = long_ap_formats
 formats MilitaryExtendedSquitter = military_formats
 formats ModeAc = []
 
-abbrev pub choose : Bool → List ℕ → List ℕ → List ℕ
-choose true a b = a
-choose false a b = b
-
 -- the list that CA, or the control of DF 18, comes from; the other types have neither
 unfoldable pub subfields : MessageType → ℕ → List ℕ
-subfields ExtendedSquitter df = choose (eqb df 18) controls capabilities
+subfields ExtendedSquitter df = cond (eqb df 18) controls capabilities
 subfields AcquisitionSquitter df = capabilities
 subfields ShortAp df = []
 subfields AllCallReply df = capabilities
@@ -119,16 +110,12 @@ reply_of t p = record { kind = kind_of t; bytes = filled (message_bytes t p) }
 
 -- ---- what is refused
 
-abbrev pub all_of : Bool → Bool → Bool
-all_of true b = b
-all_of false b = false
-
 -- an all-call's overlay is 1 to 127
 unfoldable pub overlay_fits : MessageType → ℕ → Bool
 overlay_fits ExtendedSquitter o = true
 overlay_fits AcquisitionSquitter o = true
 overlay_fits ShortAp o = true
-overlay_fits AllCallReply o = all_of (ltb 0 o) (ltb o 128)
+overlay_fits AllCallReply o = ltb 0 o && ltb o 128
 overlay_fits LongAp o = true
 overlay_fits MilitaryExtendedSquitter o = true
 overlay_fits ModeAc o = true
@@ -144,33 +131,34 @@ mode_ac_fits MilitaryExtendedSquitter n limit = true
 mode_ac_fits ModeAc n limit = ltb n limit
 
 -- a field's number where it does not fit, or else what comes of the later fields
-abbrev pub checked : ℕ → Bool → FieldFault → FieldFault
+abbrev pub checked : ℕ → Bool → Option ℕ → Option ℕ
 checked field true rest = rest
-checked field false rest = Field field
+checked field false rest = Some field
 
 -- the first field at fault, counted from 0 in the order of the tape: the DF pick is 7, the CA pick 8, the overlay 9, the data 11, SPI 12
-unfoldable pub field_fault : MessageType → Picks → FieldFault
+unfoldable pub field_fault : MessageType → Picks → Option ℕ
 field_fault t p =
     checked 7 (pick_fits (formats t) p.format)
     (checked 8 (pick_fits (subfields t (format_of t p)) p.capability)
     (checked 9 (overlay_fits t p.overlay)
     (checked 11 (mode_ac_fits t p.«data» 4096)
-    (checked 12 (mode_ac_fits t p.spi 2) NoFault))))
+    (checked 12 (mode_ac_fits t p.spi 2) None))))
 
--- a reply of zeros stands beside a fault
-unfoldable pub made_where : FieldFault → Reply → Made
-made_where NoFault r = record { fault = NoFault; reply = r }
-made_where (Field field) r = record { fault = Field field; reply = record { kind = Short; bytes = replicate 14 0 } }
+-- the reply, where no field is at fault
+unfoldable pub made_where : Option ℕ → Reply → Result Reply ℕ
+made_where None r = Ok r
+made_where (Some field) r = Err field
 
--- what making answers: the fault, and the reply
-unfoldable pub made : MessageType → Picks → Made
+-- what making answers: the reply, or the field at fault
+unfoldable pub made : MessageType → Picks → Result Reply ℕ
 made t p = made_where (field_fault t p) (reply_of t p)
 
 -- in the specification's terms: "a draw field out of range" is refusal 7, with the index of the draw and the field
-unfoldable pub field_refusal : ℕ → FieldFault → Option Refusal
-field_refusal draw NoFault = none
-field_refusal draw (Field field) = some (Draw draw field)
+unfoldable pub field_refusal : ℕ → Option ℕ → Option Refusal
+field_refusal draw None = None
+field_refusal draw (Some field) = Some (Draw draw field)
 
--- what making answers for the draw at a index: a reply, or that refusal
-unfoldable pub made_answer : ℕ → Made → Answer Reply
-made_answer draw m = unless (field_refusal draw m.fault) m.reply
+-- what making answers for the draw at an index: a reply, or that refusal
+unfoldable pub made_answer : ℕ → Result Reply ℕ → Result Reply Refusal
+made_answer draw (Ok r) = Ok r
+made_answer draw (Err field) = Err (Draw draw field)

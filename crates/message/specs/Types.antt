@@ -1,5 +1,5 @@
 -- The numbers of the message types (SPECIFICATION 7.1), in the order of the Rust's `MessageType::ALL`.
-use Rattle.std.specs.Prelude.{ℕ, List, [], ◌∷◌, get_or}
+use Rattle.std.specs.Prelude.{Option, Some, None, ℕ, List, [], ◌∷◌, get_or}
 use Rattle.message.specs.declared.MessageType.{MessageType}
 use Rattle.message.specs.declared.MessageType.TheVariants.{
   ExtendedSquitter,
@@ -10,8 +10,6 @@ use Rattle.message.specs.declared.MessageType.TheVariants.{
   MilitaryExtendedSquitter,
   ModeAc,
 }
-use Rattle.message.specs.declared.TypeFound.{TypeFound}
-use Rattle.message.specs.declared.TypeFound.TheVariants.{Of, Unknown}
 
 -- the number of a type
 unfoldable pub type_number : MessageType → ℕ
@@ -24,17 +22,17 @@ type_number MilitaryExtendedSquitter = 5
 type_number ModeAc = 6
 
 -- the types in the order of their numbers
-abbrev pub all_types : List TypeFound
+abbrev pub all_types : List (Option MessageType)
 all_types =
-    Of ExtendedSquitter
-    ∷ Of AcquisitionSquitter
-    ∷ Of ShortAp
-    ∷ Of AllCallReply
-    ∷ Of LongAp
-    ∷ Of MilitaryExtendedSquitter
-    ∷ Of ModeAc
+    Some ExtendedSquitter
+    ∷ Some AcquisitionSquitter
+    ∷ Some ShortAp
+    ∷ Some AllCallReply
+    ∷ Some LongAp
+    ∷ Some MilitaryExtendedSquitter
+    ∷ Some ModeAc
     ∷ []
 
 -- the type of a number; none above 6
-unfoldable pub type_numbered : ℕ → TypeFound
-type_numbered n = get_or all_types n Unknown
+unfoldable pub type_numbered : ℕ → Option MessageType
+type_numbered n = get_or all_types n None

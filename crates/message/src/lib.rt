@@ -31,13 +31,6 @@ pub enum MessageType {
     ModeAc,
 }
 
-// A type, or none.
-#[derive(Clone, Copy)]
-pub enum TypeFound {
-    Of(MessageType),
-    Unknown,
-}
-
 // The fields of a draw that a reply is made of.
 #[derive(Clone, Copy)]
 pub struct Picks {
@@ -49,49 +42,25 @@ pub struct Picks {
     pub spi: u8,
 }
 
-// Whether a draw's fields are in range, or the first that is not, counted from 0 in the order of the tape.
-#[derive(Clone, Copy)]
-pub enum FieldFault {
-    NoFault,
-    Field(u64),
-}
-
-// What making answers: a reply, or the field at fault beside a reply of zeros.
-#[derive(Clone, Copy)]
-pub struct Made {
-    pub fault: FieldFault,
-    pub reply: Reply,
-}
-
 // The type of a number.
-pub fn message_type(n: u8) -> TypeFound
+#[tactic(auto, using(crate::proofs::Numbers::none_above), unfolding(crate::specs::Types::type_numbered))]
+pub fn message_type(n: u8) -> Option<MessageType>
     ensures { result ≡ type_numbered n }
 {
-    if n == 0 {
-        return TypeFound::Of(MessageType::ExtendedSquitter);
+    match n {
+        0 => Some(MessageType::ExtendedSquitter),
+        1 => Some(MessageType::AcquisitionSquitter),
+        2 => Some(MessageType::ShortAp),
+        3 => Some(MessageType::AllCallReply),
+        4 => Some(MessageType::LongAp),
+        5 => Some(MessageType::MilitaryExtendedSquitter),
+        6 => Some(MessageType::ModeAc),
+        _ => None,
     }
-    if n == 1 {
-        return TypeFound::Of(MessageType::AcquisitionSquitter);
-    }
-    if n == 2 {
-        return TypeFound::Of(MessageType::ShortAp);
-    }
-    if n == 3 {
-        return TypeFound::Of(MessageType::AllCallReply);
-    }
-    if n == 4 {
-        return TypeFound::Of(MessageType::LongAp);
-    }
-    if n == 5 {
-        return TypeFound::Of(MessageType::MilitaryExtendedSquitter);
-    }
-    if n == 6 {
-        return TypeFound::Of(MessageType::ModeAc);
-    }
-    TypeFound::Unknown
 }
 
 // The number of a type.
+#[tactic(auto, unfolding(crate::specs::Types::type_number))]
 pub fn type_number(t: MessageType) -> u8
     ensures { result ≡ type_number t }
 {

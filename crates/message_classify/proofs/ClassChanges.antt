@@ -1,4 +1,6 @@
 -- Theorem `class-changes`: class 7 changes the answers of long messages of DF 18 with control 2, 3 or 5, from 0, and no others.
+use Rattle.std.specs.Prelude.{Option, Some, None}
+use Rattle.std.specs.Option.{option_or}
 use mathlib.Core.Path.{◌≡◌, refl, sym, ap, ◌∙◌}
 use mathlib.Core.Bool.{Bool, true, false, cond}
 use mathlib.Core.List.{List, [], ◌∷◌}
@@ -13,9 +15,6 @@ use Rattle.message.specs.declared.ReplyKind.{ReplyKind}
 use Rattle.message.specs.declared.ReplyKind.TheVariants.{Short, Long, ModeAc}
 use Rattle.message.specs.declared.Reply.{Reply}
 use Rattle.message.specs.declared.Picks.{Picks}
-use Rattle.message.specs.declared.FieldFault.TheVariants.{NoFault}
-use Rattle.message.specs.declared.TypeFound.{TypeFound}
-use Rattle.message.specs.declared.TypeFound.TheVariants.{Of, Unknown}
 use Rattle.message.specs.Types.{type_number}
 use Rattle.message.specs.Making.{formats, reply_of, field_fault}
 use Rattle.message_classify.specs.declared.Class.{Class}
@@ -30,7 +29,6 @@ use Rattle.message_classify.specs.Classing.{
   is_long,
   relay_class,
   type_class,
-  first_of,
   class_by,
   class_of,
   class_number,
@@ -70,43 +68,43 @@ eighteen : (t x : Bool) → cond t x false ≡ true → t ≡ true
 eighteen true x e = refl
 eighteen false x e = e
 
-a_relay : (b : List ℕ) → is_tis_b (get_or b 0 0) ≡ true → relay_class true (get_or b 0 0) ≡ TisB
+a_relay : (b : List ℕ) → is_tis_b (get_or b 0 0) ≡ true → relay_class true (get_or b 0 0) ≡ Some TisB
 unfolding relay_class
 a_relay b e = rw e
 
-an_extended_squitter : (b : List ℕ) → is_tis_b (get_or b 0 0) ≡ true → kind_class Long b ≡ Of ExtendedSquitter
+an_extended_squitter : (b : List ℕ) → is_tis_b (get_or b 0 0) ≡ true → kind_class Long b ≡ Some ExtendedSquitter
 unfolding kind_class is_tis_b long_class formats
 an_extended_squitter b e =
     ap long_class (eqb-true (get_or b 0 0 / 8) 18 (eighteen (eqb (get_or b 0 0 / 8) 18) (listed tis_b_controls (get_or b 0 0 % 8)) e))
 
 -- ---- their order
 
-first_class : (b : List ℕ) → is_tis_b (get_or b 0 0) ≡ true → class_by Long b ≡ TisB
-unfolding class_by is_long first_of
-first_class b e = ap (λ (x : Class). first_of x (type_class (kind_class Long b))) (a_relay b e)
+first_class : (b : List ℕ) → is_tis_b (get_or b 0 0) ≡ true → class_by Long b ≡ Some TisB
+unfolding class_by is_long
+first_class b e = ap (λ (x : Option Class). option_or x (type_class (kind_class Long b))) (a_relay b e)
 
 changed : (b : List ℕ) → is_tis_b (get_or b 0 0) ≡ true → (class_number (type_class (kind_class Long b)) ≡ 0) × (class_number (class_by Long b) ≡ 7)
 unfolding class_number type_class type_number
-changed b e = (ap (λ (t : TypeFound). class_number (type_class t)) (an_extended_squitter b e), ap class_number (first_class b e))
+changed b e = (ap (λ (t : (Option MessageType)). class_number (type_class t)) (an_extended_squitter b e), ap class_number (first_class b e))
 
 long_kept : (b : List ℕ) → is_tis_b (get_or b 0 0) ≡ false → class_by Long b ≡ type_class (kind_class Long b)
-unfolding class_by is_long relay_class first_of
+unfolding class_by is_long relay_class
 long_kept b e = rw e
 
 short_kept : (b : List ℕ) → class_by Short b ≡ type_class (kind_class Short b)
-unfolding class_by is_long relay_class first_of
+unfolding class_by is_long relay_class
 short_kept b = refl
 
 mode_ac_kept : (b : List ℕ) → class_by ModeAc b ≡ type_class (kind_class ModeAc b)
-unfolding class_by is_long relay_class first_of
+unfolding class_by is_long relay_class
 mode_ac_kept b = refl
 
 -- ---- 7 read as 0
 
-type_kept : (f : TypeFound) → seven_as_zero (type_class f) ≡ f
+type_kept : (f : (Option MessageType)) → seven_as_zero (type_class f) ≡ f
 unfolding seven_as_zero type_class
-type_kept (Of t) = refl
-type_kept Unknown = refl
+type_kept (Some t) = refl
+type_kept None = refl
 
 read_long : (t : Bool) (b : List ℕ) → is_tis_b (get_or b 0 0) ≡ t → seven_as_zero (class_by Long b) ≡ kind_class Long b
 unfolding seven_as_zero
@@ -122,7 +120,7 @@ read_as_zero : (r : Reply) → seven_as_zero (class_of r) ≡ type_of r
 unfolding class_of type_of
 read_as_zero r = read_kind r.kind r.bytes
 
-made_as_its_type : (p : Picks) → length p.bytes ≡ 14 → (t : MessageType) → field_fault t p ≡ NoFault → seven_as_zero (class_of (reply_of t p)) ≡ Of t
+made_as_its_type : (p : Picks) → length p.bytes ≡ 14 → (t : MessageType) → field_fault t p ≡ None → seven_as_zero (class_of (reply_of t p)) ≡ Some t
 made_as_its_type p h t e = read_as_zero (reply_of t p) ∙ made_classed p h t e
 
 pub class_changes : ClassChanges

@@ -1,4 +1,3 @@
 pub mod Listed
 pub mod MadeClassed
-mod ClassArms
 pub mod ClassChanges

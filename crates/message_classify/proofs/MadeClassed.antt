@@ -1,6 +1,7 @@
 -- Theorem `made-classed`: every message that is made of fields in range is of its type by length and format.
-use mathlib.Core.Path.{◌≡◌, refl, ap, ◌∙◌}
-use mathlib.Core.Bool.{Bool, true, false}
+use Rattle.std.specs.Prelude.{Option, Some, None, Ok}
+use mathlib.Core.Path.{◌≡◌, refl, sym, ap, ◌∙◌}
+use mathlib.Core.Bool.{Bool, true, false, cond}
 use mathlib.Core.List.{List, [], ◌∷◌}
 use Prim.Native.Nat.{ℕ, zero, suc, ◌-◌, ◌/◌, ◌<◌}
 use borrow.Author.Tests.{eq-eqb, ne_eqb}
@@ -23,12 +24,9 @@ use Rattle.message.specs.declared.MessageType.TheVariants.{
   ModeAc,
 }
 use Rattle.message.specs.declared.Picks.{Picks}
-use Rattle.message.specs.declared.FieldFault.{FieldFault}
-use Rattle.message.specs.declared.FieldFault.TheVariants.{NoFault, Field}
-use Rattle.message.specs.declared.TypeFound.TheVariants.{Of}
+use Rattle.message.specs.declared.Reply.{Reply}
 use Rattle.message.specs.Making.{
   formats,
-  choose,
   subfields,
   entry,
   format_of,
@@ -56,7 +54,7 @@ use Rattle.message_classify.proofs.Listed.{long_ap_listed}
 
 -- ---- byte 0 holds the format
 
-subfield_lt : (control : Bool) (k : ℕ) → entry (choose control controls capabilities) k < 8
+subfield_lt : (control : Bool) (k : ℕ) → entry (cond control controls capabilities) k < 8
 subfield_lt true k = entry_lt 8 controls (lit< tt) tt k
 subfield_lt false k = entry_lt 8 capabilities (lit< tt) tt k
 
@@ -76,11 +74,11 @@ byte0_format t p = omega (arith, low_lt t p)
 
 -- ---- a short message of DF 11, by its parity
 
-pub eleven_sealed : (m : List ℕ) → parity_of m ≡ 0 → short_class 11 m ≡ Of AcquisitionSquitter
+pub eleven_sealed : (m : List ℕ) → parity_of m ≡ 0 → short_class 11 m ≡ Some AcquisitionSquitter
 unfolding short_class eleven_class formats
 eleven_sealed m h = simp (eq-eqb (parity_of m) 0 h)
 
-pub eleven_overlaid : (m : List ℕ) → (parity_of m ≡ 0 → ⊥) → short_class 11 m ≡ Of AllCallReply
+pub eleven_overlaid : (m : List ℕ) → (parity_of m ≡ 0 → ⊥) → short_class 11 m ≡ Some AllCallReply
 unfolding short_class eleven_class formats
 eleven_overlaid m h = simp (ne_eqb (parity_of m) 0 h)
 
@@ -91,13 +89,13 @@ first_seven m h = take_at m (replicate (14 - length m) 0) 7 h
 
 -- ---- each type
 
-extended_listed : (k : ℕ) → k < 2 → long_class (get_or extended_formats k 0) ≡ Of ExtendedSquitter
+extended_listed : (k : ℕ) → k < 2 → long_class (get_or extended_formats k 0) ≡ Some ExtendedSquitter
 unfolding long_class formats
 extended_listed zero h = refl
 extended_listed (suc zero) h = refl
 extended_listed (suc (suc k)) h = absurd (omega arith)
 
-short_ap_listed : (k : ℕ) → k < 3 → (m : List ℕ) → short_class (get_or short_ap_formats k 0) m ≡ Of ShortAp
+short_ap_listed : (k : ℕ) → k < 3 → (m : List ℕ) → short_class (get_or short_ap_formats k 0) m ≡ Some ShortAp
 unfolding short_class formats
 short_ap_listed zero h m = refl
 short_ap_listed (suc zero) h m = refl
@@ -109,7 +107,7 @@ module _ (p : Picks) (fourteen : length p.bytes ≡ 14) where
   unfolding with_parity parity_bytes
   acquisition_length = simp (length-append, length-take, length-drop) (omega arith)
 
-  acquisition_classed : type_of (reply_of AcquisitionSquitter p) ≡ Of AcquisitionSquitter
+  acquisition_classed : type_of (reply_of AcquisitionSquitter p) ≡ Some AcquisitionSquitter
   unfolding type_of kind_class reply_of kind_of message_bytes later filled with_parity format_of formats
   acquisition_classed =
       let head = byte0 AcquisitionSquitter p ∷ take 3 (drop 1 p.bytes) in
@@ -117,7 +115,7 @@ module _ (p : Picks) (fourteen : length p.bytes ≡ 14) where
       ∙ ap (short_class 11) (first_seven (with_parity head 0) acquisition_length)
       ∙ eleven_sealed (with_parity head 0) (sealed_parity head)
 
-  all_call_classed : field_fault AllCallReply p ≡ NoFault → type_of (reply_of AllCallReply p) ≡ Of AllCallReply
+  all_call_classed : field_fault AllCallReply p ≡ None → type_of (reply_of AllCallReply p) ≡ Some AllCallReply
   unfolding type_of kind_class reply_of kind_of message_bytes filled with_parity parity_bytes format_of formats
   all_call_classed e =
       let head = byte0 AllCallReply p ∷ 0 ∷ 0 ∷ 0 ∷ [] in
@@ -125,7 +123,7 @@ module _ (p : Picks) (fourteen : length p.bytes ≡ 14) where
       ap (λ (df : ℕ). short_class df (with_parity head p.overlay)) (byte0_format AllCallReply p)
       ∙ eleven_overlaid (with_parity head p.overlay) (overlay_seen head p.overlay (overlay_above p e) (omega arith))
 
-  pub made_classed : (t : MessageType) → field_fault t p ≡ NoFault → type_of (reply_of t p) ≡ Of t
+  pub made_classed : (t : MessageType) → field_fault t p ≡ None → type_of (reply_of t p) ≡ Some t
   unfolding type_of kind_class reply_of kind_of message_bytes filled with_parity format_of formats long_class
   made_classed ExtendedSquitter e = ap long_class (byte0_format ExtendedSquitter p) ∙ extended_listed p.format (extended_format p e)
   made_classed AcquisitionSquitter e = acquisition_classed
@@ -138,10 +136,10 @@ module _ (p : Picks) (fourteen : length p.bytes ≡ 14) where
   made_classed ModeAc e = refl
 
   -- the same of what making answers
-  pub answer_classed : (t : MessageType) → (made t p).fault ≡ NoFault → type_of (made t p).reply ≡ Of t
+  pub answer_classed : (t : MessageType) (r : Reply) → made t p ≡ Ok r → type_of r ≡ Some t
   unfolding made made_where
-  answer_classed t e = by (field_fault t p) refl e
+  answer_classed t r e = by (field_fault t p) refl e
     where
-      by : (f : FieldFault) → field_fault t p ≡ f → (made_where f (reply_of t p)).fault ≡ NoFault → type_of (made_where f (reply_of t p)).reply ≡ Of t
-      by NoFault q h = made_classed t q
-      by (Field k) q h = let z : ◌≡◌ {A = ℕ} 0 1 = cc in absurd (omega arith)
+      by : (f : Option ℕ) → field_fault t p ≡ f → made_where f (reply_of t p) ≡ Ok r → type_of r ≡ Some t
+      by None q h = let same : reply_of t p ≡ r = cc in ap type_of (sym same) ∙ made_classed t q
+      by (Some k) q h = absurd (cc)

@@ -1,171 +1,100 @@
 // Classing: TIS-B, or the message type of a reply by its length and format.
 #![tactic(auto)]
 
-ghost use Rattle.std.specs.Prelude.{◌≡◌, ◌/◌, get_or, take};
-ghost use Rattle.message_classify.specs.Classing.{eleven_class, short_class, long_class, is_tis_b, relay_class, type_class, first_of, class_of, class_of_bytes};
+ghost use Rattle.std.specs.Prelude.{◌≡◌, ◌/◌};
+ghost use Rattle.std.specs.Option.{option_or};
+ghost use Rattle.message_classify.specs.Classing.{eleven_class, short_class, long_class, is_tis_b, relay_class, type_class, class_of, class_of_bytes};
 
-use message::{MessageType, Reply, ReplyKind, TypeFound};
+use message::{MessageType, Reply, ReplyKind};
 
 // What classing answers. TIS-B is no type: no draw is of it, no rate is its, and no record holds it.
 #[derive(Clone, Copy)]
 pub enum Class {
     OfType(MessageType),
     TisB,
-    NoClass,
 }
 
 // An acquisition squitter's parity is right; an all-call reply's has an overlay.
-fn eleven_class(m: &[u8]) -> TypeFound
+#[tactic(auto, unfolding(crate::specs::Classing::eleven_class))]
+fn eleven_class(m: &[u8]) -> MessageType
     ensures { result ≡ eleven_class m.now }
 {
     if mode_s::parity(m) == 0 {
-        TypeFound::Of(MessageType::AcquisitionSquitter)
+        MessageType::AcquisitionSquitter
     } else {
-        TypeFound::Of(MessageType::AllCallReply)
+        MessageType::AllCallReply
     }
 }
 
-fn short_class(df: u8, m: &[u8]) -> TypeFound
+#[tactic(auto, unfolding(crate::specs::Classing::short_class, message::specs::Making::formats))]
+fn short_class(df: u8, m: &[u8]) -> Option<MessageType>
     ensures { result ≡ short_class df m.now }
 {
-    if df == 11 {
-        return eleven_class(m);
+    match df {
+        0 | 4 | 5 => Some(MessageType::ShortAp),
+        11 => Some(eleven_class(m)),
+        _ => None,
     }
-    if df == 0 {
-        return TypeFound::Of(MessageType::ShortAp);
-    }
-    if df == 4 {
-        return TypeFound::Of(MessageType::ShortAp);
-    }
-    if df == 5 {
-        return TypeFound::Of(MessageType::ShortAp);
-    }
-    TypeFound::Unknown
 }
 
 // By the format, which is the high five bits of the first byte.
-fn long_class(first: u8) -> TypeFound
+#[tactic(auto, unfolding(crate::specs::Classing::long_class, message::specs::Making::formats))]
+fn long_class(first: u8) -> Option<MessageType>
     ensures { result ≡ long_class (first / 8) }
 {
-    let df = first / 8;
-    if df == 17 {
-        return TypeFound::Of(MessageType::ExtendedSquitter);
+    match first / 8 {
+        17 | 18 => Some(MessageType::ExtendedSquitter),
+        19 => Some(MessageType::MilitaryExtendedSquitter),
+        16 | 20 | 21 | 24.. => Some(MessageType::LongAp),
+        _ => None,
     }
-    if df == 18 {
-        return TypeFound::Of(MessageType::ExtendedSquitter);
-    }
-    if df == 19 {
-        return TypeFound::Of(MessageType::MilitaryExtendedSquitter);
-    }
-    if df == 16 {
-        return TypeFound::Of(MessageType::LongAp);
-    }
-    if df == 20 {
-        return TypeFound::Of(MessageType::LongAp);
-    }
-    if df == 21 {
-        return TypeFound::Of(MessageType::LongAp);
-    }
-    if 24 <= df {
-        return TypeFound::Of(MessageType::LongAp);
-    }
-    TypeFound::Unknown
-}
-
-// The first seven of a reply's bytes are a short message.
-fn short_type(b: [u8; 14]) -> TypeFound
-    ensures { result ≡ short_class (get_or b 0 0 / 8) (take 7 b) }
-{
-    let df = b[0] / 8;
-    short_class(df, &b[..7])
 }
 
 // The control of DF 18 is the low three bits of the first byte.
+#[tactic(auto, unfolding(crate::specs::Classing::is_tis_b))]
 fn is_tis_b(first: u8) -> bool
     ensures { result ≡ is_tis_b first }
 {
-    let control = first % 8;
-    if first / 8 == 18 {
-        if control == 2 {
-            return true;
-        }
-        if control == 3 {
-            return true;
-        }
-        return control == 5;
-    }
-    false
+    first / 8 == 18 && matches!(first % 8, 2 | 3 | 5)
 }
 
-fn relay_class(long: bool, first: u8) -> Class
+#[tactic(auto, unfolding(crate::specs::Classing::relay_class))]
+fn relay_class(long: bool, first: u8) -> Option<Class>
     ensures { result ≡ relay_class long first }
 {
-    if long {
-        if is_tis_b(first) {
-            return Class::TisB;
-        }
-    }
-    Class::NoClass
-}
-
-fn type_class(found: TypeFound) -> Class
-    ensures { result ≡ type_class found }
-{
-    match found {
-        TypeFound::Of(t) => Class::OfType(t),
-        TypeFound::Unknown => Class::NoClass,
-    }
-}
-
-// Of two answers the first that is a class.
-fn first_of(before: Class, after: Class) -> Class
-    ensures { result ≡ first_of before after }
-{
-    match before {
-        Class::OfType(t) => Class::OfType(t),
-        Class::TisB => Class::TisB,
-        Class::NoClass => after,
-    }
+    (long && is_tis_b(first)).then_some(Class::TisB)
 }
 
 // Both rules hold for a TIS-B message, so their order counts.
-fn classed(long: bool, first: u8, found: TypeFound) -> Class
-    ensures { result ≡ first_of (relay_class long first) (type_class found) }
+#[tactic(auto, unfolding(crate::specs::Classing::type_class))]
+fn classed(long: bool, first: u8, found: Option<MessageType>) -> Option<Class>
+    ensures { result ≡ option_or (relay_class long first) (type_class found) }
 {
-    let relay = relay_class(long, first);
-    let typed = type_class(found);
-    first_of(relay, typed)
+    relay_class(long, first).or(found.map(Class::OfType))
 }
 
 // The class of a reply.
-pub fn from_message(r: Reply) -> Class
+#[tactic(auto, unfolding(crate::specs::Classing::class_of, crate::specs::Classing::class_by, crate::specs::Classing::is_long, crate::specs::Classing::kind_class, crate::specs::Classing::relay_class, crate::specs::Classing::type_class))]
+pub fn from_message(r: Reply) -> Option<Class>
     ensures { result ≡ class_of r }
 {
-    let k = r.kind;
-    let b = r.bytes;
-    let first = b[0];
-    match k {
-        ReplyKind::Short => classed(false, first, short_type(b)),
+    let first = r.bytes[0];
+    match r.kind {
+        ReplyKind::Short => classed(false, first, short_class(first / 8, &r.bytes[..7])),
         ReplyKind::Long => classed(true, first, long_class(first)),
-        ReplyKind::ModeAc => Class::OfType(MessageType::ModeAc),
+        ReplyKind::ModeAc => Some(Class::OfType(MessageType::ModeAc)),
     }
 }
 
 // The class of message bytes, however many.
-pub fn of_bytes(m: &[u8]) -> Class
+#[tactic(auto, unfolding(crate::specs::Classing::class_of_bytes, crate::specs::Classing::class_by, crate::specs::Classing::is_long, crate::specs::Classing::kind_class, crate::specs::Classing::relay_class, crate::specs::Classing::type_class))]
+pub fn of_bytes(m: &[u8]) -> Option<Class>
     ensures { result ≡ class_of_bytes m.now }
 {
-    let n = m.len();
-    if n == 7 {
-        let short = m[0];
-        return classed(false, short, short_class(short / 8, m));
+    match m.len() {
+        7 => classed(false, m[0], short_class(m[0] / 8, m)),
+        14 => classed(true, m[0], long_class(m[0])),
+        2 => Some(Class::OfType(MessageType::ModeAc)),
+        _ => None,
     }
-    if n == 14 {
-        let long = m[0];
-        return classed(true, long, long_class(long));
-    }
-    if n == 2 {
-        return Class::OfType(MessageType::ModeAc);
-    }
-    Class::NoClass
 }

@@ -1,5 +1,5 @@
 -- What the theorems of this crate take as in range: a draw's time and clock error, and the filters' delays. Each is what the checks of SPECIFICATION 3.1, or the theorem about group delays, gives.
-use Rattle.std.proofs.Common.{ℕ, ◌-◌, ◌*◌, ◌/◌, ◌^◌, ◌≤◌, Bool, true, false, T, pos, sym, refl, ap, ◌∙◌, true≢false, zero-le, le_trans, le_of_eq, zero-mul, mul-one, mul_right_comm, arith}
+use Rattle.std.proofs.Common.{ℕ, ◌*◌, ◌/◌, ◌^◌, ◌≤◌, Bool, true, false, T, pos, sym, refl, ap, ◌∙◌, true≢false, zero-le, le_trans, le_of_eq, zero-mul, mul-one, mul_right_comm, arith}
 use lib.Ieee.{Float, nan, inf, fin, binary64, up, down, of_bits, le, fits, mul, add, of_int}
 use lib.Ieee.Fits.{sub-fits}
 use lib.Ieee.Exact.{HasValue}

@@ -1,5 +1,4 @@
 pub mod Literals
-pub mod Joined
 pub mod InRange
 pub mod Starts
 pub mod HoldBack

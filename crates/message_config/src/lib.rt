@@ -39,17 +39,18 @@ pub struct Onset {
 
 const MODE_AC_SAMP_RATE_RATIO: f64 = 1.0344827586206897;
 
+#[tactic(auto, unfolding(crate::specs::Timing::delay_of))]
 fn group_delay(delays: Delays, kind: ReplyKind) -> f64
     ensures { result ≡ delay_of delays kind }
 {
     match kind {
-        ReplyKind::Short => delays.mode_s,
-        ReplyKind::Long => delays.mode_s,
+        ReplyKind::Short | ReplyKind::Long => delays.mode_s,
         ReplyKind::ModeAc => delays.mode_ac,
     }
 }
 
 // The start before it is rounded up.
+#[tactic(auto, unfolding(crate::specs::Timing::unrounded_start), using(crate::proofs::Literals::one_is))]
 fn unrounded_start(time: f64, delay: f64, e: f64) -> f64
     ensures { result ≡ unrounded_start time delay e }
 {
@@ -57,33 +58,32 @@ fn unrounded_start(time: f64, delay: f64, e: f64) -> f64
 }
 
 // The clock error of the filter.
+#[tactic(auto, unfolding(crate::specs::Timing::filter_clock_error), using(crate::proofs::Literals::one_is, crate::proofs::Literals::mode_ac_ratio_is))]
 pub fn filter_clock_error(kind: ReplyKind, e: f64) -> f64
     ensures { result ≡ filter_clock_error kind e }
 {
     match kind {
-        ReplyKind::Short => e,
-        ReplyKind::Long => e,
+        ReplyKind::Short | ReplyKind::Long => e,
         ReplyKind::ModeAc => MODE_AC_SAMP_RATE_RATIO * (1.0 + e) - 1.0,
     }
 }
 
 impl MessageConfig {
     // The first sample.
+    #[tactic(auto, unfolding(crate::specs::Config::config_start, crate::specs::Timing::start_of))]
     pub fn first_sample_index(self, delays: Delays) -> i64
         ensures { result ≡ config_start delays self }
     {
-        let reply = self.reply;
-        let kind = reply.kind;
-        let delay = group_delay(delays, kind);
+        let delay = group_delay(delays, self.reply.kind);
         float_to_int::ceil_to_i64(unrounded_start(self.time, delay, self.error))
     }
 
     // How the samples begin.
+    #[tactic(auto, unfolding(crate::specs::Config::onset_of, crate::specs::Config::config_start, crate::specs::Config::config_clock_error, crate::specs::Config::config_clock_phase, crate::specs::Config::config_rate, crate::specs::Config::config_phase, crate::specs::Timing::start_of, crate::specs::Timing::clock_phase, crate::specs::Carrier::carrier_rate, crate::specs::Carrier::first_phase), using(crate::proofs::Literals::one_is, math::proofs::Literals::two_pi_is))]
     pub fn onset(self, setting: SamplesPerPulse, delays: Delays) -> Onset
         ensures { result ≡ onset_of (per_pulse setting) delays self }
     {
-        let reply = self.reply;
-        let kind = reply.kind;
+        let kind = self.reply.kind;
         let unrounded = unrounded_start(self.time, group_delay(delays, kind), self.error);
         let first = std::num::nearest_i64_to_f64(float_to_int::ceil_to_i64(unrounded));
         let error = filter_clock_error(kind, self.error);

@@ -1,7 +1,8 @@
 -- Theorem `interrogator-laws`: the table of overlays, the overlay found back, and the readings of all that is made.
+use Rattle.std.specs.Prelude.{Some, None}
 use mathlib.Core.Path.{◌≡◌, refl, sym, ap, ◌∙◌}
 use mathlib.Core.List.{List, [], ◌∷◌}
-use Prim.Native.Nat.{ℕ, zero, suc, ◌+◌, ◌-◌, ◌*◌, ◌/◌, ◌%◌, ◌^◌, ◌≤◌, ◌<◌}
+use Prim.Native.Nat.{ℕ, zero, suc, ◌+◌, ◌*◌, ◌/◌, ◌%◌, ◌^◌, ◌≤◌, ◌<◌}
 use native.Mathlib.Omega.{arith}
 use lib.ListN.{length, get_or, length-append, length-take, length-drop}
 use lib.Bits.{bit_xor, xor_lt}
@@ -20,11 +21,10 @@ use Rattle.message.specs.declared.MessageType.TheVariants.{
   ModeAc,
 }
 use Rattle.message.specs.declared.Picks.{Picks}
-use Rattle.message.specs.declared.FieldFault.TheVariants.{NoFault}
 use Rattle.message.specs.Making.{formats, format_of, byte0, later, message_bytes, field_fault}
 use Rattle.message.proofs.InRange.{short_ap_format, overlay_below}
 use Rattle.message_classify.proofs.MadeClassed.{byte0_format}
-use Rattle.message_interrogator.specs.declared.Interrogator.TheVariants.{Ii, Si, Unassigned, NoReading}
+use Rattle.message_interrogator.specs.declared.Interrogator.TheVariants.{Ii, Si, Unassigned}
 use Rattle.message_interrogator.specs.Interrogators.{code_of, last_three, overlay_of, interrogator_of}
 use Rattle.message_interrogator.specs.InterrogatorLaws.{three_bytes, overlaid_with, InterrogatorLaws}
 use Rattle.message_interrogator.proofs.Readings.{inside, before, behind, ii_code, si_code, no_code, reading, another_format, another_length}
@@ -78,7 +78,7 @@ sealed_back (a ∷ b ∷ c ∷ d ∷ e ∷ m) h o l = absurd (omega arith)
 -- ---- what is made
 
 module _ (p : Picks) (fourteen : length p.bytes ≡ 14) where
-  all_call : field_fault AllCallReply p ≡ NoFault → interrogator_of (message_bytes AllCallReply p) ≡ code_of p.overlay
+  all_call : field_fault AllCallReply p ≡ None → interrogator_of (message_bytes AllCallReply p) ≡ Some (code_of p.overlay)
   unfolding message_bytes with_parity parity_bytes format_of formats
   all_call e =
       let head = byte0 AllCallReply p ∷ 0 ∷ 0 ∷ 0 ∷ [] in
@@ -93,7 +93,7 @@ module _ (p : Picks) (fourteen : length p.bytes ≡ 14) where
   unfolding with_parity parity_bytes
   acquisition_length = simp length-append (omega (arith, head_length_lem))
 
-  acquisition : field_fault AcquisitionSquitter p ≡ NoFault → interrogator_of (message_bytes AcquisitionSquitter p) ≡ Ii 0
+  acquisition : field_fault AcquisitionSquitter p ≡ None → interrogator_of (message_bytes AcquisitionSquitter p) ≡ Some (Ii 0)
   unfolding message_bytes with_parity format_of formats
   acquisition e =
       let head = byte0 AcquisitionSquitter p ∷ later p 3 in
@@ -114,7 +114,7 @@ module _ (p : Picks) (fourteen : length p.bytes ≡ 14) where
   short_ap_eleven (suc (suc zero)) h q = omega arith
   short_ap_eleven (suc (suc (suc k))) h q = omega arith
 
-  others : (t : MessageType) → field_fault t p ≡ NoFault → (t ≡ AllCallReply → ⊥) → (t ≡ AcquisitionSquitter → ⊥) → interrogator_of (message_bytes t p) ≡ NoReading
+  others : (t : MessageType) → field_fault t p ≡ None → (t ≡ AllCallReply → ⊥) → (t ≡ AcquisitionSquitter → ⊥) → interrogator_of (message_bytes t p) ≡ None
   unfolding message_bytes format_of formats
   others ExtendedSquitter e n m = sym (another_length (message_bytes ExtendedSquitter p) (λ q. omega (arith, extended_length)))
   others AcquisitionSquitter e n m = absurd (m refl)

@@ -1,13 +1,14 @@
 -- The table of overlays and the reading of a message, case by case.
+use Rattle.std.specs.Prelude.{Option, Some, None}
 use mathlib.Core.Path.{◌≡◌, refl, sym, ap, ◌∙◌}
 use mathlib.Core.Bool.{Bool, true, false, cond}
 use mathlib.Core.List.{List}
 use Prim.Native.Nat.{ℕ, ◌-◌, ◌/◌, ◌≤◌, ◌<◌}
-use borrow.Author.Tests.{leb-true, le-leb, lt-leb, eq-eqb, ne_eqb}
-use lib.Dec.{leb, eqb}
+use borrow.Author.Tests.{le-leb, lt-leb, eq-eqb, ne_eqb}
+use lib.Dec.{eqb}
 use lib.ListN.{length, get_or}
 use Rattle.message_interrogator.specs.declared.Interrogator.{Interrogator}
-use Rattle.message_interrogator.specs.declared.Interrogator.TheVariants.{Ii, Si, Unassigned, NoReading}
+use Rattle.message_interrogator.specs.declared.Interrogator.TheVariants.{Ii, Si, Unassigned}
 use Rattle.message_interrogator.specs.Interrogators.{within, code_of, overlay_of, interrogator_of}
 
 -- ---- a stretch of overlays
@@ -23,14 +24,6 @@ before first last o a = rw (lt-leb first o a)
 pub behind : (first last o : ℕ) → first ≤ o → last < o → within first last o ≡ false
 unfolding within
 behind first last o a b = rw (le-leb first o a) (lt-leb o last b)
-
-both : (t u : Bool) → cond t u false ≡ true → t ≡ true
-both true u e = refl
-both false u e = e
-
-pub at_least : (first last o : ℕ) → within first last o ≡ true → first ≤ o
-unfolding within
-at_least first last o e = leb-true first o (both (leb first o) (leb o last) e)
 
 -- ---- the table's three answers
 
@@ -48,19 +41,19 @@ no_code o f g = rw (f, g)
 
 -- ---- the reading
 
-pub reading : (m : List ℕ) (r : Interrogator) → length m ≡ 7 → get_or m 0 0 / 8 ≡ 11 → r ≡ code_of (overlay_of m) → r ≡ interrogator_of m
+pub reading : (m : List ℕ) (r : Interrogator) → length m ≡ 7 → get_or m 0 0 / 8 ≡ 11 → r ≡ code_of (overlay_of m) → Some r ≡ interrogator_of m
 unfolding interrogator_of
-reading m r h f e = rw (eq-eqb (length m) 7 h, eq-eqb (get_or m 0 0 / 8) 11 f) e
+reading m r h f e = rw (eq-eqb (length m) 7 h, eq-eqb (get_or m 0 0 / 8) 11 f) (ap Some e)
 
-same : (t : Bool) (x y : Interrogator) → x ≡ y → cond t x y ≡ y
+same : (t : Bool) (x y : Option Interrogator) → x ≡ y → cond t x y ≡ y
 same true x y e = e
 same false x y e = refl
 
-pub another_format : (m : List ℕ) → (get_or m 0 0 / 8 ≡ 11 → ⊥) → NoReading ≡ interrogator_of m
+pub another_format : (m : List ℕ) → (get_or m 0 0 / 8 ≡ 11 → ⊥) → None ≡ interrogator_of m
 unfolding interrogator_of
 another_format m n =
-    sym (same (eqb (length m) 7) (cond (eqb (get_or m 0 0 / 8) 11) (code_of (overlay_of m)) NoReading) NoReading (rw (ne_eqb (get_or m 0 0 / 8) 11 n)))
+    sym (same (eqb (length m) 7) (cond (eqb (get_or m 0 0 / 8) 11) (Some (code_of (overlay_of m))) None) None (rw (ne_eqb (get_or m 0 0 / 8) 11 n)))
 
-pub another_length : (m : List ℕ) → (length m ≡ 7 → ⊥) → NoReading ≡ interrogator_of m
+pub another_length : (m : List ℕ) → (length m ≡ 7 → ⊥) → None ≡ interrogator_of m
 unfolding interrogator_of
 another_length m n = rw (ne_eqb (length m) 7 n)

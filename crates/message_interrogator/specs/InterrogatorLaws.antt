@@ -1,13 +1,12 @@
 -- What is claimed of the interrogators that messages answer.
-use Rattle.std.specs.Prelude.{ℕ, ◌+◌, ◌/◌, ◌%◌, ◌^◌, ◌≤◌, ◌<◌, ◌≡◌, List, [], ◌∷◌, ◌++◌, length}
+use Rattle.std.specs.Prelude.{Some, None, ℕ, ◌+◌, ◌/◌, ◌%◌, ◌^◌, ◌≤◌, ◌<◌, ◌≡◌, List, [], ◌∷◌, ◌++◌, length}
 use Rattle.std.specs.Int.Bits.{bit_xor}
 use Rattle.mode_s.specs.Parity.{parity_of}
 use Rattle.message.specs.declared.MessageType.{MessageType}
 use Rattle.message.specs.declared.MessageType.TheVariants.{AcquisitionSquitter, AllCallReply}
 use Rattle.message.specs.declared.Picks.{Picks}
-use Rattle.message.specs.declared.FieldFault.TheVariants.{NoFault}
 use Rattle.message.specs.Making.{message_bytes, field_fault}
-use Rattle.message_interrogator.specs.declared.Interrogator.TheVariants.{Ii, Si, Unassigned, NoReading}
+use Rattle.message_interrogator.specs.declared.Interrogator.TheVariants.{Ii, Si, Unassigned}
 use Rattle.message_interrogator.specs.Interrogators.{code_of, overlay_of, interrogator_of}
 
 -- the three bytes of a number below 2^24, high first
@@ -27,9 +26,9 @@ pub record InterrogatorLaws : Type 0 where
   -- an overlay of 24 bits is found back, whatever the first four bytes are
   pub found_back : (head : List ℕ) → length head ≡ 4 → (o : ℕ) → o < 2 ^ 24 → overlay_of (overlaid_with head o) ≡ o
   -- of messages made of fields in range: an all-call reads as the table has its overlay,
-  pub all_call : (p : Picks) → length p.bytes ≡ 14 → field_fault AllCallReply p ≡ NoFault → interrogator_of (message_bytes AllCallReply p) ≡ code_of p.overlay
+  pub all_call : (p : Picks) → length p.bytes ≡ 14 → field_fault AllCallReply p ≡ None → interrogator_of (message_bytes AllCallReply p) ≡ Some (code_of p.overlay)
   -- an acquisition squitter reads II 0,
-  pub acquisition : (p : Picks) → length p.bytes ≡ 14 → field_fault AcquisitionSquitter p ≡ NoFault → interrogator_of (message_bytes AcquisitionSquitter p) ≡ Ii 0
+  pub acquisition : (p : Picks) → length p.bytes ≡ 14 → field_fault AcquisitionSquitter p ≡ None → interrogator_of (message_bytes AcquisitionSquitter p) ≡ Some (Ii 0)
   -- and nothing else has a reading
-  pub others : (p : Picks) → length p.bytes ≡ 14 → (t : MessageType) → field_fault t p ≡ NoFault
-      → (t ≡ AllCallReply → ⊥) → (t ≡ AcquisitionSquitter → ⊥) → interrogator_of (message_bytes t p) ≡ NoReading
+  pub others : (p : Picks) → length p.bytes ≡ 14 → (t : MessageType) → field_fault t p ≡ None
+      → (t ≡ AllCallReply → ⊥) → (t ≡ AcquisitionSquitter → ⊥) → interrogator_of (message_bytes t p) ≡ None

@@ -1,9 +1,9 @@
 -- Which interrogator a message answers, as SPECIFICATION 7.10 says it.
-use Rattle.std.specs.Prelude.{ℕ, ◌+◌, ◌-◌, ◌*◌, ◌/◌, Bool, false, cond, List, eqb, leb, length, get_or, take}
+use Rattle.std.specs.Prelude.{Option, Some, None, ℕ, ◌+◌, ◌-◌, ◌*◌, ◌/◌, Bool, false, cond, List, eqb, leb, length, get_or, take}
 use Rattle.std.specs.Int.Bits.{bit_xor}
 use Rattle.mode_s.specs.Parity.{parity_of}
 use Rattle.message_interrogator.specs.declared.Interrogator.{Interrogator}
-use Rattle.message_interrogator.specs.declared.Interrogator.TheVariants.{Ii, Si, Unassigned, NoReading}
+use Rattle.message_interrogator.specs.declared.Interrogator.TheVariants.{Ii, Si, Unassigned}
 
 -- whether an overlay lies in a stretch, both ends in it
 unfoldable pub within : ℕ → ℕ → ℕ → Bool
@@ -22,18 +22,18 @@ unfoldable pub overlay_of : List ℕ → ℕ
 overlay_of m = bit_xor (parity_of (take 4 m)) (last_three m)
 
 -- a message of seven bytes and DF 11 has a reading; others have none
-unfoldable pub interrogator_of : List ℕ → Interrogator
-interrogator_of m = cond (eqb (length m) 7) (cond (eqb (get_or m 0 0 / 8) 11) (code_of (overlay_of m)) NoReading) NoReading
+unfoldable pub interrogator_of : List ℕ → Option Interrogator
+interrogator_of m = cond (eqb (length m) 7) (cond (eqb (get_or m 0 0 / 8) 11) (Some (code_of (overlay_of m))) None) None
 
 -- a reading as two numbers: its kind, 0 for none, 1 for II, 2 for SI, 3 for unassigned; and its code, 0 where it has none
-unfoldable pub kind_number : Interrogator → ℕ
-kind_number (Ii n) = 1
-kind_number (Si n) = 2
-kind_number Unassigned = 3
-kind_number NoReading = 0
+unfoldable pub kind_number : Option Interrogator → ℕ
+kind_number (Some (Ii n)) = 1
+kind_number (Some (Si n)) = 2
+kind_number (Some Unassigned) = 3
+kind_number None = 0
 
-unfoldable pub code_number : Interrogator → ℕ
-code_number (Ii n) = n
-code_number (Si n) = n
-code_number Unassigned = 0
-code_number NoReading = 0
+unfoldable pub code_number : Option Interrogator → ℕ
+code_number (Some (Ii n)) = n
+code_number (Some (Si n)) = n
+code_number (Some Unassigned) = 0
+code_number None = 0

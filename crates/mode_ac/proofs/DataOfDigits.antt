@@ -1,12 +1,9 @@
 -- Data and digits are each other's: the digits of data that digits make, and the data that the digits of data below 4096 make.
 use mathlib.Core.Path.{◌≡◌}
-use Prim.Native.Nat.{ℕ, ◌+◌, ◌*◌, ◌/◌, ◌%◌, ◌<◌, ◌≤◌}
-use mathlib.Core.Bool.{Bool}
-use borrow.Author.Tests.{lt-ltb, le-ltb}
+use Prim.Native.Nat.{ℕ, ◌+◌, ◌*◌, ◌/◌, ◌%◌, ◌<◌}
 use native.Mathlib.Nat.{div-div-eq-div-mul}
 use native.Mathlib.Omega.{arith}
 use Rattle.mode_ac.specs.Data.{data_of, digit_a, digit_b, digit_c, digit_d}
-use Rattle.mode_ac.specs.Building.{refusal, from_data, from_digits}
 
 eighth : (n w : ℕ) → n / w ≡ n / (w * 8) * 8 + n / w % 8
 eighth n w = let e : n / w / 8 ≡ n / (w * 8) = div-div-eq-div-mul n w 8 in omega arith
@@ -22,29 +19,3 @@ pub data_of_digits : (n : ℕ) → n < 4096 → data_of (digit_a n) (digit_b n) 
 data_of_digits n h =
     join n (n / 8) (n / 64) (n / 512) (n % 8) (n / 8 % 8) (n / 64 % 8) (n / 512 % 8)
     (omega arith) (eighth n 8) (eighth n 64) (omega arith)
-
-data_below : (a b c d : ℕ) → a < 8 → b < 8 → c < 8 → d < 8 → data_of a b c d < 4096
-data_below a b c d ha hb hc hd = omega arith
-
--- digits below 8 make a reply of their data
-pub accepted : (n a b c d : ℕ) (spi : Bool) → n ≡ data_of a b c d → a < 8 → b < 8 → c < 8 → d < 8 → from_data n spi ≡ from_digits a b c d spi
-unfolding from_data from_digits
-accepted n a b c d spi e ha hb hc hd =
-    simp (e, lt-ltb a 8 ha, lt-ltb b 8 hb, lt-ltb c 8 hc, lt-ltb d 8 hd, lt-ltb (data_of a b c d) 4096 (data_below a b c d ha hb hc hd))
-
--- and each digit of 8 or more is refused
-pub wrong_a : (a b c d : ℕ) (spi : Bool) → 8 ≤ a → refusal 10 ≡ from_digits a b c d spi
-unfolding from_digits
-wrong_a a b c d spi h = simp (le-ltb a 8 h)
-
-pub wrong_b : (a b c d : ℕ) (spi : Bool) → a < 8 → 8 ≤ b → refusal 10 ≡ from_digits a b c d spi
-unfolding from_digits
-wrong_b a b c d spi ha h = simp (lt-ltb a 8 ha, le-ltb b 8 h)
-
-pub wrong_c : (a b c d : ℕ) (spi : Bool) → a < 8 → b < 8 → 8 ≤ c → refusal 10 ≡ from_digits a b c d spi
-unfolding from_digits
-wrong_c a b c d spi ha hb h = simp (lt-ltb a 8 ha, lt-ltb b 8 hb, le-ltb c 8 h)
-
-pub wrong_d : (a b c d : ℕ) (spi : Bool) → a < 8 → b < 8 → c < 8 → 8 ≤ d → refusal 10 ≡ from_digits a b c d spi
-unfolding from_digits
-wrong_d a b c d spi ha hb hc h = simp (lt-ltb a 8 ha, lt-ltb b 8 hb, lt-ltb c 8 hc, le-ltb d 8 h)

@@ -1,5 +1,4 @@
 pub mod DataOfDigits
 pub mod RisingPositions
-pub mod PlaceRule
 pub mod BasePlaces
 mod Shifts

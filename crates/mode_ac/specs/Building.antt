@@ -1,32 +1,19 @@
--- What building a Mode A/C reply answers.
-use Rattle.std.specs.Prelude.{ℕ, Bool, true, false, ltb}
+-- What building a Mode A/C reply answers: the reply, or the refusal whose number is 10.
+use Rattle.std.specs.Prelude.{ℕ, Bool, cond, ltb, Result, Ok, Err}
+use Rattle.refusals.specs.declared.Refusal.{Refusal}
+use Rattle.refusals.specs.declared.Refusal.TheVariants as Refused
 use Rattle.mode_ac.specs.Data.{data_of}
-use Rattle.mode_ac.specs.declared.Built.{Built}
-use Rattle.mode_ac.specs.declared.Built.TheVariants.{Reply, Refused}
-
--- a reply with its data and SPI, or the number of a refusal
-pub data Answer : Type 0 where
-  reply : ℕ → Bool → Answer
-  refusal : ℕ → Answer
-
--- the code's answer in the specification's terms
-unfoldable pub answer_of : Built → Answer
-answer_of (Reply r) = reply r.data r.spi
-answer_of Refused = refusal 10
-
-abbrev pub pick : Bool → Answer → Answer → Answer
-pick true a b = a
-pick false a b = b
+use Rattle.mode_ac.specs.declared.ModeACReply.{ModeACReply}
 
 -- data of 4096 or more is refused
-unfoldable pub from_data : ℕ → Bool → Answer
-from_data n spi = pick (ltb n 4096) (reply n spi) (refusal 10)
+unfoldable pub from_data : ℕ → Bool → Result ModeACReply Refusal
+from_data n spi = cond (ltb n 4096) (Ok (record { «data» = n; spi = spi })) (Err Refused.Reply)
 
 -- and so is a digit of 8 or more
-unfoldable pub from_digits : ℕ → ℕ → ℕ → ℕ → Bool → Answer
+unfoldable pub from_digits : ℕ → ℕ → ℕ → ℕ → Bool → Result ModeACReply Refusal
 from_digits a b c d spi =
-    pick (ltb a 8)
-    (pick (ltb b 8)
-    (pick (ltb c 8) (pick (ltb d 8) (reply (data_of a b c d) spi) (refusal 10)) (refusal 10))
-    (refusal 10))
-    (refusal 10)
+    cond (ltb a 8)
+    (cond (ltb b 8)
+    (cond (ltb c 8) (cond (ltb d 8) (Ok (record { «data» = data_of a b c d; spi = spi })) (Err Refused.Reply)) (Err Refused.Reply))
+    (Err Refused.Reply))
+    (Err Refused.Reply)

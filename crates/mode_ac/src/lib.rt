@@ -3,8 +3,10 @@
 
 ghost use Rattle.std.specs.Prelude.{◌≡◌, ◌%◌};
 ghost use Rattle.mode_ac.specs.Data.{digit_a, digit_b, digit_c, digit_d, digits_of, bit_of};
-ghost use Rattle.mode_ac.specs.Building.{answer_of, from_data, from_digits};
+ghost use Rattle.mode_ac.specs.Building.{from_data, from_digits};
 ghost use Rattle.mode_ac.specs.Positions.{position_of};
+
+use refusals::Refusal;
 
 #[derive(Clone, Copy)]
 pub struct ModeACReply {
@@ -20,13 +22,6 @@ pub struct Digits {
     pub d: u8,
 }
 
-// What building a reply answers: the reply, or refusal 10.
-#[derive(Clone, Copy)]
-pub enum Built {
-    Reply(ModeACReply),
-    Refused,
-}
-
 // The lowest octal digit of a number.
 fn octal(x: u16) -> u8
     ensures { result ≡ x % 8 }
@@ -35,37 +30,28 @@ fn octal(x: u16) -> u8
 }
 
 impl ModeACReply {
-    pub fn new(data: u16, spi: bool) -> Built
-        ensures { answer_of result ≡ from_data «data» spi }
+    // Data of 4096 or more is refused.
+    #[tactic(auto, unfolding(crate::specs::Building::from_data))]
+    pub fn new(data: u16, spi: bool) -> Result<ModeACReply, Refusal>
+        ensures { result ≡ from_data «data» spi }
     {
         if data < 4096 {
-            return Built::Reply(ModeACReply {
-                data: data,
-                spi: spi,
-            });
+            Ok(ModeACReply { data, spi })
+        } else {
+            Err(Refusal::Reply)
         }
-        Built::Refused
     }
 
-    pub fn from_abcd(a: u8, b: u8, c: u8, d: u8, spi: bool) -> Built
-        ensures { answer_of result ≡ from_digits a b c d spi }
+    // A digit of 8 or more is refused.
+    #[tactic(auto, unfolding(crate::specs::Building::from_digits, crate::specs::Building::from_data))]
+    pub fn from_abcd(a: u8, b: u8, c: u8, d: u8, spi: bool) -> Result<ModeACReply, Refusal>
+        ensures { result ≡ from_digits a b c d spi }
     {
-        if a >= 8 {
-            return Built::Refused;
+        if a >= 8 || b >= 8 || c >= 8 || d >= 8 {
+            return Err(Refusal::Reply);
         }
-        if b >= 8 {
-            return Built::Refused;
-        }
-        if c >= 8 {
-            return Built::Refused;
-        }
-        if d >= 8 {
-            return Built::Refused;
-        }
-        ModeACReply::new(
-            (a as u16) * 512 + (b as u16) * 64 + (c as u16) * 8 + (d as u16),
-            spi,
-        )
+        let data = u16::from(a) * 512 + u16::from(b) * 64 + u16::from(c) * 8 + u16::from(d);
+        ModeACReply::new(data, spi)
     }
 
     pub fn a(self) -> u8
@@ -95,12 +81,11 @@ impl ModeACReply {
     pub fn abcd(self) -> Digits
         ensures { result ≡ digits_of self.data }
     {
-        let data = self.data;
         Digits {
-            a: octal(data / 512),
-            b: octal(data / 64),
-            c: octal(data / 8),
-            d: octal(data),
+            a: self.a(),
+            b: self.b(),
+            c: self.c(),
+            d: self.d(),
         }
     }
 }
@@ -109,24 +94,23 @@ impl ModeACReply {
 const SHIFTS: [u16; 12] = [3, 9, 4, 10, 5, 11, 6, 0, 7, 1, 8, 2];
 
 // The position of the n-th bit: every third from 3 on, with one left out in the middle.
+#[tactic(auto, unfolding(crate::specs::Positions::position_of))]
 pub fn position_of(n: usize) -> usize
     ensures { result ≡ position_of n }
 {
     if n < 6 {
-        return 3 * (n + 1);
+        3 * (n + 1)
+    } else if n < 12 {
+        3 * (n + 2)
+    } else {
+        0
     }
-    if n < 12 {
-        return 3 * (n + 2);
-    }
-    0
 }
 
 // The n-th bit of the data.
+#[tactic(auto, unfolding(crate::specs::Data::bit_of, crate::specs::Data::bits_of))]
 pub fn bit_of(data: u16, n: usize) -> bool
     ensures { result ≡ bit_of «data» n }
 {
-    if n < 12 {
-        return (data >> (SHIFTS[n] % 16)) % 2 == 1;
-    }
-    false
+    n < 12 && (data >> (SHIFTS[n] % 16)) % 2 == 1
 }

@@ -59,36 +59,24 @@ const PARITIES: [u32; 256] = [
     0x05ec92, 0xfa189b, 0x05f089, 0xfa0480,
 ];
 
-fn wide(x: u8) -> u32
-    ensures { (result ≡ x) × (result < 256) }
-{
-    x as u32
-}
-
-fn index(x: u32) -> usize
-    ensures { result ≡ x }
-{
-    x as usize
-}
-
 // The parity with one more byte, from the parity c of what stands before it.
+#[tactic(auto, using(crate::proofs::ByTable::place_lt))]
 fn with_byte(c: u32, b: u8) -> u32
     requires { c < 0x1000000 }
     ensures { (result ≡ bit_xor (c % 65536 * 256) (parity_of (bit_xor (c / 65536) b ∷ []))) × (result < 0x1000000) }
 {
-    let at = index((c / 65536) ^ wide(b));
-    (c % 65536 * 256) ^ PARITIES[at]
+    let at = (c / 65536) ^ u32::from(b);
+    (c % 65536 * 256) ^ PARITIES[at as usize]
 }
 
 // The remainder of the bytes times x^24 by 0xFFF409, x^24 implied.
+#[tactic(auto, using(crate::proofs::ByTable::onward_whole, crate::proofs::ByTable::turn, crate::proofs::ByTable::done))]
 pub fn parity(bytes: &[u8]) -> u32
     ensures { result ≡ parity_of bytes.now }
 {
     let mut c: u32 = 0;
-    let mut i: usize = 0;
-    while i < bytes.len() {
-        c = with_byte(c, bytes[i]);
-        i += 1;
+    for b in bytes {
+        c = with_byte(c, *b);
     }
     c
 }

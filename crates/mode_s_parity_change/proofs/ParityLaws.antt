@@ -1,8 +1,8 @@
 -- Every claim on parity and flipped bits holds (`parity-laws`).
+use Rattle.std.specs.Prelude.{Some}
 use Prim.Native.Nat.{ℕ, ◌*◌, ◌<◌, ◌≤◌}
 use mathlib.Core.Path.{◌≡◌, refl, sym, ap, ◌∙◌}
 use mathlib.Core.List.{List}
-use mathlib.Core.Option.{some}
 use native.Mathlib.Omega.{arith}
 use borrow.Author.Tests.{lt-ltb, le-ltb}
 use lib.ListN.{length}
@@ -24,7 +24,7 @@ pub beyond : (place : ℕ) → 111 < place → change_at place ≡ 0
 unfolding change_at
 beyond place h = rw (le-ltb place 112 (omega arith))
 
-mends : (bs : List ℕ) → length bs ≤ 14 → (place : ℕ) → place < 8 * length bs → place_of (parity_of bs) ≡ some place → parity_of (flipped place bs) ≡ 0
+mends : (bs : List ℕ) → length bs ≤ 14 → (place : ℕ) → place < 8 * length bs → place_of (parity_of bs) ≡ Some place → parity_of (flipped place bs) ≡ 0
 mends bs l place h e =
     change bs l place h ∙ ap (bit_xor (parity_of bs)) (found_only (parity_of bs) place e).1 ∙ xor_self (parity_of bs)
 

@@ -1,14 +1,15 @@
 -- The changes as a table: its rule, that its entries all differ, and that none is 0, each by one computed test.
 use Prim.Native.Nat.{ℕ, zero, suc, ◌<◌}
 use mathlib.Core.Path.{◌≡◌, refl, sym, ap, ◌∙◌, subst}
-use mathlib.Core.Bool.{Bool, true, not}
+use mathlib.Core.Bool.{Bool, true, not, ◌&&◌}
 use mathlib.Core.List.{List, [], ◌∷◌}
 use native.Mathlib.Omega.{arith}
 use borrow.Author.Tests.{lt-ltb, eq-eqb}
 use lib.Dec.{T, eqb, eqb→eq}
+use lib.Ieee.Fits.{and_l, and_r}
 use lib.ListN.{length, get_or}
 use Rattle.mode_s.specs.Parity.{reduced, brought}
-use Rattle.mode_s.proofs.Below.{both, both_left, both_right, every, below}
+use Rattle.mode_s.proofs.Below.{every, below}
 use Rattle.mode_s_parity_change.specs.Change.{power_remainder, change_at}
 
 unfoldable pub changes : List ℕ
@@ -42,19 +43,15 @@ pub changes_at : (k : ℕ) → k < 112 → get_or changes k 0 ≡ change_at k
 unfolding right change_at
 changes_at k h = eqb→eq (get_or changes k 0) (power_remainder k) (below right 112 passes k h) ∙ sym (rw (lt-ltb k 112 h))
 
--- what stands at a place
-pub looked_up : {k : ℕ} (place : ℕ) → k ≡ place → place < 112 → get_or changes k 0 ≡ change_at place
-looked_up place e h = ap (λ (x : ℕ). get_or changes x 0) e ∙ changes_at place h
-
 -- ---- all differ
 
 absent : ℕ → List ℕ → Bool
 absent x [] = true
-absent x (y ∷ ys) = both (not (eqb x y)) (absent x ys)
+absent x (y ∷ ys) = ((not (eqb x y)) && (absent x ys))
 
 distinct : List ℕ → Bool
 distinct [] = true
-distinct (x ∷ xs) = both (absent x xs) (distinct xs)
+distinct (x ∷ xs) = ((absent x xs) && (distinct xs))
 
 unlike : (x y : ℕ) → T (not (eqb x y)) → x ≡ y → ⊥
 unlike x y t e = subst (λ (b : Bool). T (not b)) (eq-eqb x y e) t
@@ -62,16 +59,16 @@ unlike x y t e = subst (λ (b : Bool). T (not b)) (eq-eqb x y e) t
 not_there : (x : ℕ) (ys : List ℕ) → T (absent x ys) → (i : ℕ) → i < length ys → x ≡ get_or ys i 0 → ⊥
 unfolding absent
 not_there x [] t i h e = omega arith
-not_there x (y ∷ ys) t zero h e = unlike x y (both_left (not (eqb x y)) (absent x ys) t) e
-not_there x (y ∷ ys) t (suc i) h e = not_there x ys (both_right (not (eqb x y)) (absent x ys) t) i (omega arith) e
+not_there x (y ∷ ys) t zero h e = unlike x y (and_l (not (eqb x y)) (absent x ys) t) e
+not_there x (y ∷ ys) t (suc i) h e = not_there x ys (and_r (not (eqb x y)) (absent x ys) t) i (omega arith) e
 
 places_differ : (l : List ℕ) → T (distinct l) → (a b : ℕ) → a < length l → b < length l → get_or l a 0 ≡ get_or l b 0 → a ≡ b
 unfolding distinct
 places_differ [] t a b ha hb e = absurd (omega arith)
 places_differ (x ∷ xs) t zero zero ha hb e = refl
-places_differ (x ∷ xs) t zero (suc b) ha hb e = absurd (not_there x xs (both_left (absent x xs) (distinct xs) t) b (omega arith) e)
-places_differ (x ∷ xs) t (suc a) zero ha hb e = absurd (not_there x xs (both_left (absent x xs) (distinct xs) t) a (omega arith) (sym e))
-places_differ (x ∷ xs) t (suc a) (suc b) ha hb e = ap suc (places_differ xs (both_right (absent x xs) (distinct xs) t) a b (omega arith) (omega arith) e)
+places_differ (x ∷ xs) t zero (suc b) ha hb e = absurd (not_there x xs (and_l (absent x xs) (distinct xs) t) b (omega arith) e)
+places_differ (x ∷ xs) t (suc a) zero ha hb e = absurd (not_there x xs (and_l (absent x xs) (distinct xs) t) a (omega arith) (sym e))
+places_differ (x ∷ xs) t (suc a) (suc b) ha hb e = ap suc (places_differ xs (and_r (absent x xs) (distinct xs) t) a b (omega arith) (omega arith) e)
 
 all_distinct : T (distinct changes)
 unfolding distinct absent changes

@@ -1,10 +1,7 @@
 -- What one flipped bit does to the parity of a message, from the bit's place alone. Places are counted back from 0 at the last bit, so a short message has 0 to 55 and a long one 0 to 111.
-use Rattle.std.specs.Prelude.{ℕ, zero, suc, ◌-◌, ◌/◌, ◌%◌, ◌^◌, cond, List, eqb, ltb, length, get_or, set}
-use Rattle.std.proofs.Math.Option.{Option, none, some}
+use Rattle.std.specs.Prelude.{Option, Some, None, ℕ, zero, suc, ◌-◌, ◌/◌, ◌%◌, ◌^◌, cond, List, eqb, ltb, length, get_or, set}
 use Rattle.std.specs.Int.Bits.{bit_xor}
 use Rattle.mode_s.specs.Parity.{divisor, brought}
-use Rattle.mode_s_parity_change.specs.declared.FlippedBit.{FlippedBit}
-use Rattle.mode_s_parity_change.specs.declared.FlippedBit.TheVariants.{At, Nowhere}
 
 -- the message with the bit at a place flipped
 unfoldable pub flipped : ℕ → List ℕ → List ℕ
@@ -26,14 +23,9 @@ change_at place = cond (ltb place long_bits) (power_remainder place) 0
 
 -- the first of n places from a place on whose change this is
 unfoldable pub place_from : ℕ → ℕ → ℕ → Option ℕ
-place_from zero place change = none
-place_from (suc n) place change = cond (eqb (change_at place) change) (some place) (place_from n (suc place) change)
+place_from zero place change = None
+place_from (suc n) place change = cond (eqb (change_at place) change) (Some place) (place_from n (suc place) change)
 
 -- the place whose change this is, if it is that of one flipped bit
 unfoldable pub place_of : ℕ → Option ℕ
 place_of change = place_from long_bits 0 change
-
--- the code's answer: a place, or none
-unfoldable pub found_of : FlippedBit → Option ℕ
-found_of (At place) = some place
-found_of Nowhere = none

@@ -1,6 +1,5 @@
 -- What is claimed of parity and of flipped bits.
-use Rattle.std.specs.Prelude.{ℕ, ◌<◌, ◌≡◌, List, length, replicate}
-use Rattle.std.proofs.Math.Option.{some}
+use Rattle.std.specs.Prelude.{Some, ℕ, ◌<◌, ◌≡◌, List, length, replicate}
 use Rattle.std.specs.Int.Bits.{bit_xor}
 use Rattle.mode_s.specs.Parity.{parity_of, laid}
 use Rattle.mode_s_parity_change.specs.Change.{flipped, change_at, place_of}
@@ -21,8 +20,8 @@ pub record ParityLaws : Type 0 where
   pub all_differ : (a b : ℕ) → a < 112 → b < 112 → change_at a ≡ change_at b → a ≡ b
   pub none_hidden : (place : ℕ) → place < 112 → change_at place ≡ 0 → ⊥
   -- so a change determines its place, and a place is found only for its own change
-  pub found : (place : ℕ) → place < 112 → place_of (change_at place) ≡ some place
-  pub found_only : (change place : ℕ) → place_of change ≡ some place → (place < 112) × (change_at place ≡ change)
+  pub found : (place : ℕ) → place < 112 → place_of (change_at place) ≡ Some place
+  pub found_only : (change place : ℕ) → place_of change ≡ Some place → (place < 112) × (change_at place ≡ change)
   -- and a message whose parity is the change of a place that it has gets parity 0 by flipping the bit there
-  pub mended : (bs : List ℕ) → length bs ≡ 14 → (place : ℕ) → place_of (parity_of bs) ≡ some place → parity_of (flipped place bs) ≡ 0
-  pub mended_short : (bs : List ℕ) → length bs ≡ 7 → (place : ℕ) → place < 56 → place_of (parity_of bs) ≡ some place → parity_of (flipped place bs) ≡ 0
+  pub mended : (bs : List ℕ) → length bs ≡ 14 → (place : ℕ) → place_of (parity_of bs) ≡ Some place → parity_of (flipped place bs) ≡ 0
+  pub mended_short : (bs : List ℕ) → length bs ≡ 7 → (place : ℕ) → place < 56 → place_of (parity_of bs) ≡ Some place → parity_of (flipped place bs) ≡ 0

@@ -2,14 +2,7 @@
 #![tactic(auto)]
 
 ghost use Rattle.std.specs.Prelude.{◌≡◌, ◌<◌};
-ghost use Rattle.mode_s_parity_change.specs.Change.{change_at, place_of, found_of};
-
-// The place of a flipped bit, or none.
-#[derive(Clone, Copy)]
-pub enum FlippedBit {
-    At(u64),
-    Nowhere,
-}
+ghost use Rattle.mode_s_parity_change.specs.Change.{change_at, place_of};
 
 // The change of each place of a long message.
 const CHANGES: [u32; 112] = [
@@ -28,21 +21,16 @@ const CHANGES: [u32; 112] = [
     0x82df35, 0xfa4a63, 0x0b60cf, 0x16c19e,
 ];
 
-fn index(place: u64) -> usize
-    ensures { result ≡ place }
-{
-    place as usize
-}
-
+#[tactic(auto, using(crate::proofs::Table::changes_at), unfolding(crate::proofs::Table::changes))]
 fn change_at(place: u64) -> u32
     requires { place < 112 }
     ensures { result ≡ change_at place }
 {
-    let at = index(place);
-    CHANGES[at]
+    CHANGES[place as usize]
 }
 
 // The change in parity of a message whose bit at a place is flipped. Above 111 no bit stands, and it is 0.
+#[tactic(auto, using(crate::proofs::ParityLaws::beyond))]
 pub fn parity_change(place: u64) -> u32
     ensures { result ≡ change_at place }
 {
@@ -53,15 +41,14 @@ pub fn parity_change(place: u64) -> u32
 }
 
 // The place whose flipped bit changes the parity so, or none.
-pub fn flipped_bit(change: u32) -> FlippedBit
-    ensures { found_of result ≡ place_of change }
+#[tactic(auto, using(crate::proofs::Places::stops, crate::proofs::Places::goes_on, crate::proofs::Places::ends), unfolding(crate::specs::Change::place_of))]
+pub fn flipped_bit(change: u32) -> Option<u64>
+    ensures { result ≡ place_of change }
 {
-    let mut place: u64 = 0;
-    while place < 112 {
+    for place in 0..112 {
         if change_at(place) == change {
-            return FlippedBit::At(place);
+            return Some(place);
         }
-        place = place + 1;
     }
-    FlippedBit::Nowhere
+    None
 }

@@ -1,14 +1,13 @@
 // What a booking will use, under C names.
 #![tactic(auto)]
 
-ghost use Rattle.std.specs.Prelude.{◌≡◌};
-ghost use Rattle.refusals.specs.Answer.{refused};
+ghost use Rattle.std.specs.Prelude.{Err, ◌≡◌};
 ghost use Rattle.run_booking.specs.Booking.{booking_of};
 ghost use Rattle.run_booking.specs.Booked.{figures_read, booked_read};
 ghost use Rattle.more1090_booking.specs.Flat.{zero64, booking_flat, ended_flat};
 
 use refusals::Refusal;
-use run_booking::{Booked, Figures};
+use run_booking::Figures;
 use run_booking_walk::End;
 
 // Refusal 0 is none. Where a draw ends the run, ended is 1 and draw its index; where draws ran out, ended is 0 and time that of the last one. Each field has 8 bytes, so that there is no padding.
@@ -27,11 +26,11 @@ pub struct FlatBooking {
     pub field: u64,
 }
 
+#[tactic(auto, unfolding(crate::specs::Flat::ended_flat, run_booking::specs::Booked::figures_read, run_booking_walk::specs::Answered::end_read))]
 fn figures_out(f: Figures) -> FlatBooking
     ensures { result ≡ ended_flat (figures_read f) (figures_read f).end }
 {
-    let end = f.end;
-    match end {
+    match f.end {
         End::Draw(k) => FlatBooking {
             samples: f.samples,
             noise: f.noise,
@@ -51,7 +50,7 @@ fn figures_out(f: Figures) -> FlatBooking
             taken: f.taken,
             ended: 0,
             draw: 0,
-            time: time,
+            time,
             refusal: 0,
             value: 0,
             field: 0,
@@ -59,8 +58,9 @@ fn figures_out(f: Figures) -> FlatBooking
     }
 }
 
+#[tactic(auto, unfolding(crate::specs::Flat::booking_flat))]
 fn refusal_out(q: Refusal) -> FlatBooking
-    ensures { result ≡ booking_flat (refused q) }
+    ensures { result ≡ booking_flat (Err q) }
 {
     let v = refusal_values::values_of(q);
     FlatBooking {
@@ -71,18 +71,19 @@ fn refusal_out(q: Refusal) -> FlatBooking
         ended: 0,
         draw: 0,
         time: 0.0,
-        refusal: refusals::number(q),
+        refusal: q.number(),
         value: v.value,
         field: v.field,
     }
 }
 
-fn booked_out(b: Booked) -> FlatBooking
+#[tactic(auto, unfolding(crate::specs::Flat::booking_flat, run_booking::specs::Booked::booked_read))]
+fn booked_out(b: Result<Figures, Refusal>) -> FlatBooking
     ensures { result ≡ booking_flat (booked_read b) }
 {
     match b {
-        Booked::Booking(f) => figures_out(f),
-        Booked::Refused(q) => refusal_out(q),
+        Ok(f) => figures_out(f),
+        Err(q) => refusal_out(q),
     }
 }
 
@@ -97,8 +98,7 @@ pub extern "C" fn more1090_booking_part(
 ) -> FlatBooking
     ensures { result ≡ booking_flat (booking_of taps_s.now taps_ac.now time settings.now draws.now) }
 {
-    let b = run_booking::booking(time, settings, taps_s, taps_ac, draws);
-    booked_out(b)
+    booked_out(run_booking::booking(time, settings, taps_s, taps_ac, draws))
 }
 
 // What a run of these settings, filters and draws will use.
@@ -111,6 +111,5 @@ pub extern "C" fn more1090_booking(
 ) -> FlatBooking
     ensures { result ≡ booking_flat (booking_of taps_s.now taps_ac.now zero64 settings.now draws.now) }
 {
-    let b = run_booking::booking(0.0, settings, taps_s, taps_ac, draws);
-    booked_out(b)
+    more1090_booking_part(0.0, settings, taps_s, taps_ac, draws)
 }

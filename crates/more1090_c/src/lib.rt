@@ -19,17 +19,17 @@ ghost use Rattle.draw_level.specs.Levels.{level_of};
 ghost use Rattle.more1090_level.specs.LevelInC.{refusal_of, amplitude_left};
 ghost use Rattle.page_fill.specs.Pages.{pages_answer, pages_left};
 ghost use Rattle.page_read.specs.Fields.{fields_of};
-ghost use Rattle.more1090_pages.specs.Flat.{flat_pages, flat_line};
+ghost use Rattle.more1090_pages.specs.Flat.{flat_answer, flat_line, line_message};
 ghost use Rattle.more1090_log.specs.LogInC.{flat_comparison};
-ghost use Rattle.rack.specs.Opening.{open_left};
-ghost use Rattle.rack_run.specs.Calls.{run_left};
+ghost use Rattle.more1090_rack.specs.Flat.{open_flat, run_flat};
 
 use more1090_booking::FlatBooking;
 use more1090_generator::{FlatOpened, FlatRan, FlatState};
 use more1090_log::FlatCompared;
 use more1090_pages::{FlatLine, FlatPages};
+use more1090_rack::Answered;
 use more1090_single::FlatSingle;
-use rack::{Answered, Rack};
+use rack::Rack;
 
 // Opens a run; refused, it changes no buffer, and the state is all zero.
 #[unsafe(no_mangle)]
@@ -158,7 +158,7 @@ pub extern "C" fn more1090_level(tenths: u64, amplitude: &mut f32) -> u64
 // Records of 66 bytes as pages of 4,380 bytes, from the start of out on.
 #[unsafe(no_mangle)]
 pub extern "C" fn more1090_pages(records: &[u8], out: &mut [u8]) -> FlatPages
-    ensures { (result ≡ flat_pages (pages_answer records.now (length out.old))) × (out.new ≡ pages_left records.now out.old) }
+    ensures { (result ≡ flat_answer (pages_answer records.now (length out.old))) × (out.new ≡ pages_left records.now out.old) }
 {
     more1090_pages::more1090_pages(records, out)
 }
@@ -166,7 +166,7 @@ pub extern "C" fn more1090_pages(records: &[u8], out: &mut [u8]) -> FlatPages
 // The fields of a line of 72 bytes; its message goes to message, zeros behind it.
 #[unsafe(no_mangle)]
 pub extern "C" fn more1090_page_line(line: &[u8], message: &mut [u8; 14]) -> FlatLine
-    ensures { (result ≡ flat_line (fields_of line.now)) × (message.new ≡ (fields_of line.now).message) }
+    ensures { (result ≡ flat_line (fields_of line.now)) × (message.new ≡ line_message (fields_of line.now)) }
 {
     more1090_pages::more1090_page_line(line, message)
 }
@@ -188,7 +188,7 @@ pub extern "C" fn more1090_compare_log(
 // Opens a rack: a memory of 8,190 f32, and a delay and a gain for each feed. Refusal 0 is none.
 #[unsafe(no_mangle)]
 pub extern "C" fn more1090_rack_open(memory: &mut [f32], delays: &[u64], gains: &[f32]) -> Answered
-    ensures { record { answered = result; memory = memory.new } ≡ open_left memory.old delays.now gains.now }
+    ensures { record { answered = result; memory = memory.new } ≡ open_flat memory.old delays.now gains.now }
 {
     more1090_rack::more1090_rack_open(memory, delays, gains)
 }
@@ -201,7 +201,7 @@ pub extern "C" fn more1090_rack_run(
     samples: &[f32],
     room: &mut [f32],
 ) -> Answered
-    ensures { record { answered = result; memory = memory.new; room = room.new } ≡ run_left rack memory.old (record { samples = samples.entry.now; room = room.old }) }
+    ensures { record { answered = result; memory = memory.new; room = room.new } ≡ run_flat rack memory.old (record { samples = samples.entry.now; room = room.old }) }
 {
     more1090_rack::more1090_rack_run(rack, memory, samples, room)
 }

@@ -1,4 +1,6 @@
--- Demand 3 (SPECIFICATION 2.3) for callers in C: `opened-calls`, at the end of this file, is a term of the claim `OpenedCalls`.
+-- Demand 3 (SPECIFICATION 2.3) for callers in C: `opened_calls`, at the end of this file, is a term of the claim `OpenedCalls`.
+use Rattle.std.specs.Prelude.{Result, Ok, Err}
+use Rattle.run_steps.specs.declared.Stop.{Stop}
 use mathlib.Core.Path.{◌≡◌, refl, sym, ap, ◌∙◌, subst}
 use mathlib.Core.List.{List, [], ◌∷◌, map, map-map}
 use Prim.Native.Nat.{ℕ, ◌+◌, ◌*◌, ◌≤◌}
@@ -11,11 +13,9 @@ use Rattle.run_theory.specs.Each.{Each}
 use Rattle.run_theory.specs.PlainBench as Bench
 use Rattle.refusals.specs.declared.Refusal as Refusal
 use Rattle.refusals.specs.Number.{number_of}
-use Rattle.run_open_checks.specs.declared.Opened as Opened
 use Rattle.run_open_checks.specs.Opening as Opening
 use Rattle.run_call.specs.declared.State.{State}
 use Rattle.run_call.specs.declared.Counts.{Counts}
-use Rattle.run_call.specs.declared.Answer as Answer
 use Rattle.run_call.specs.Buffers.{Left, CallBuffers}
 use Rattle.run_call.specs.CallModel.{run_left}
 use Rattle.run_call.specs.Calls.{runs_left}
@@ -56,10 +56,10 @@ answer_flat n (refused ns) = flat_answer n 5 (get_or ns 0 0) (get_or ns 1 0) (ge
 seen_flat : Seen → FlatSeen
 seen_flat v = record { answer = answer_flat v.counts v.answer; output = v.output; records = v.records }
 
-same_answer : (n : Counts) (a : Answer.Answer) → answered n a ≡ answer_flat n (answer_seen a)
+same_answer : (n : Counts) (a : Result Stop Refusal.Refusal) → answered n a ≡ answer_flat n (answer_seen a)
 unfolding answered answer_flat answer_seen values_flat
-same_answer n (Answer.TheVariants.Stopped stop) = refl
-same_answer n (Answer.TheVariants.Refused q) = refl
+same_answer n (Ok stop) = refl
+same_answer n (Err q) = refl
 
 same_seen : (l : Left) → flat_seen (left_flat l) ≡ seen_flat (seen_left l)
 unfolding flat_seen left_flat ran_flat seen_flat seen_left
@@ -80,10 +80,10 @@ record SameCounts (n : Counts) (a : FlatAnswer) : Type 0 where
   high : a.added_high ≡ n.added_high
   low : a.added_low ≡ n.added_low
 
-same_counts : (n : Counts) (a : Answer.Answer) → SameCounts n (answered n a)
+same_counts : (n : Counts) (a : Result Stop Refusal.Refusal) → SameCounts n (answered n a)
 unfolding answered flat_answer
-same_counts n (Answer.TheVariants.Stopped stop) = record { records = refl; high = refl; low = refl }
-same_counts n (Answer.TheVariants.Refused q) = record { records = refl; high = refl; low = refl }
+same_counts n (Ok stop) = record { records = refl; high = refl; low = refl }
+same_counts n (Err q) = record { records = refl; high = refl; low = refl }
 
 added_flat : (l : Left) → flat_added (left_flat l) ≡ samples_added l
 unfolding left_flat ran_flat
@@ -146,6 +146,8 @@ refusal_above Refusal.TheVariants.Prototype e = absurd (omega arith)
 refusal_above (Refusal.TheVariants.Draw d k) e = absurd (omega arith)
 refusal_above (Refusal.TheVariants.Noise p) e = absurd (omega arith)
 refusal_above Refusal.TheVariants.Length e = absurd (omega arith)
+refusal_above Refusal.TheVariants.Reply e = absurd (omega arith)
+refusal_above Refusal.TheVariants.Tape e = absurd (omega arith)
 refusal_above Refusal.TheVariants.StretchLength e = absurd (omega arith)
 refusal_above Refusal.TheVariants.Level e = absurd (omega arith)
 refusal_above Refusal.TheVariants.TriggerLevel e = absurd (omega arith)
@@ -154,12 +156,12 @@ refusal_above Refusal.TheVariants.Log e = absurd (omega arith)
 refusal_above Refusal.TheVariants.Feeds e = absurd (omega arith)
 refusal_above (Refusal.TheVariants.Record k) e = absurd (omega arith)
 
-opened_as : (taps_s taps_ac : List Float) (settings : List ℕ) (given : Opening.OpenBuffers) (o : Opened.Opened) → Opening.opened_of four taps_s taps_ac settings given ≡ o → (opened_flat o).refusal ≡ 0
+opened_as : (taps_s taps_ac : List Float) (settings : List ℕ) (given : Opening.OpenBuffers) (o : Result State Refusal.Refusal) → Opening.opened_of four taps_s taps_ac settings given ≡ o → (opened_flat o).refusal ≡ 0
     → (r : Run) × Demand3InC taps_s taps_ac settings given (opened_flat o).state r
 unfolding opened_flat
-opened_as taps_s taps_ac settings given (Opened.TheVariants.Refused q) e h = absurd (refusal_above q h)
-opened_as taps_s taps_ac settings given (Opened.TheVariants.Run s) e h =
-    let r : Run = record { state = s; buffers = Opening.left_by four taps_s taps_ac (Opened.TheVariants.Run s) given } in
+opened_as taps_s taps_ac settings given (Err q) e h = absurd (refusal_above q h)
+opened_as taps_s taps_ac settings given (Ok s) e h =
+    let r : Run = record { state = s; buffers = Opening.left_by four taps_s taps_ac (Ok s) given } in
     (r, in_c taps_s taps_ac settings given r (record { answers = e; leaves = refl }))
 
 pub opened_calls : OpenedCalls

@@ -1,12 +1,12 @@
--- A refusal changes neither state nor any buffer (SPECIFICATION 3.3), for callers in C: of a state that a call returned (`refused-run`), and of opening (`refused-opening`).
+-- A refusal changes neither state nor any buffer (SPECIFICATION 3.3), for callers in C: of a state that a call returned (`refused_run`), and of opening (`refused_opening`).
+use Rattle.std.specs.Prelude.{Option, Some, None, Result, Ok, Err}
+use Rattle.refusals.specs.declared.Refusal.{Refusal}
 use mathlib.Core.Path.{◌≡◌, refl}
 use mathlib.Core.List.{List}
-use mathlib.Core.Option.{Option, none, some}
 use Prim.Native.Nat.{ℕ}
 use lib.Ieee.{Float}
 use Rattle.constants.specs.Rate.{four}
 use Rattle.run_theory.specs.PlainBench as Bench
-use Rattle.run_open_checks.specs.declared.Opened as Opened
 use Rattle.run_open_checks.specs.Opening as Opening
 use Rattle.run_call.specs.declared.State.{State}
 use Rattle.run_call.specs.CallModel.{left_by, call_left, refused_by, run_by, call_refusal, run_left}
@@ -20,8 +20,8 @@ module _ (s : State) (mode_s mode_ac memory : List Float) (draws : List ℕ) (no
 
   kept : (q : Option Bench.Refusal) → Kept (left_flat (run_by s memory output records (call_left s mode_s mode_ac memory draws noise output records) q))
   unfolding Kept left_flat ran_flat answered flat_answer call_left left_by refused_by
-  kept none h = absurd (h refl)
-  kept (some q) h = (refl, refl, refl, refl)
+  kept None h = absurd (h refl)
+  kept (Some q) h = (refl, refl, refl, refl)
 
   pub refused_run : let l = flat_run_left (flat_of s) mode_s mode_ac memory draws noise output records in
       (l.ran.answer.refusal ≡ 0 → ⊥) → (l.ran.state ≡ flat_of s) × (l.memory ≡ memory) × (l.output ≡ output) × (l.records ≡ records)
@@ -29,10 +29,10 @@ module _ (s : State) (mode_s mode_ac memory : List Float) (draws : List ℕ) (no
   refused_run = rw state_back (kept (call_refusal s mode_s mode_ac memory draws noise output records))
 
 module _ (taps_s taps_ac : List Float) (lent : Opening.OpenBuffers) where
-  opening_kept : (o : Opened.Opened) → ((opened_flat o).refusal ≡ 0 → ⊥) → Opening.left_by four taps_s taps_ac o lent ≡ lent
+  opening_kept : (o : Result State Refusal) → ((opened_flat o).refusal ≡ 0 → ⊥) → Opening.left_by four taps_s taps_ac o lent ≡ lent
   unfolding opened_flat Opening.left_by
-  opening_kept (Opened.TheVariants.Run s) h = absurd (h refl)
-  opening_kept (Opened.TheVariants.Refused q) h = refl
+  opening_kept (Ok s) h = absurd (h refl)
+  opening_kept (Err q) h = refl
 
   pub refused_opening : (bytes : List ℕ) → let o = Opening.opened_of four taps_s taps_ac bytes lent in
       ((opened_flat o).refusal ≡ 0 → ⊥) → Opening.left_by four taps_s taps_ac o lent ≡ lent

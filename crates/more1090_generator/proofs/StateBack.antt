@@ -1,4 +1,4 @@
--- A state taken out to C's numbers and back is the state: nothing of it is lost (`state-back`).
+-- A state taken out to C's numbers and back is the state: nothing of it is lost (`state_back`).
 use mathlib.Core.Path.{◌≡◌, refl}
 use mathlib.Core.Bool.{Bool, true, false, cond, not}
 use lib.Dec.{eqb}

@@ -1,9 +1,11 @@
 -- What opening a run and a run call answer, as C has it: the numbers and values of refusals (SPECIFICATION 3.1), a number for each stop (9.2), and what a call leaves in the buffers.
+use Rattle.std.specs.Prelude.{Result, Ok, Err}
+use Rattle.refusals.specs.declared.Refusal.{Refusal}
+use Rattle.run_call.specs.declared.State.{State}
+use Rattle.run_steps.specs.declared.Stop.{Stop}
 use Rattle.std.specs.Prelude.{ℕ, List, [], ◌∷◌, Float}
 use Rattle.refusals.specs.Number.{number_of}
-use Rattle.run_open_checks.specs.declared.Opened as Opened
 use Rattle.run_call.specs.declared.Counts.{Counts}
-use Rattle.run_call.specs.declared.Answer as Answer
 use Rattle.run_call.specs.declared.Ran.{Ran}
 use Rattle.run_call.specs.Buffers.{Left, CallBuffers}
 use Rattle.run_call.specs.Given.{stop_number}
@@ -16,17 +18,17 @@ use Rattle.refusal_values.specs.Flat.{values_flat}
 use Rattle.more1090_generator.specs.States.{flat_of, state_from, no_state}
 
 -- refusal 0 is none
-unfoldable pub opened_flat : Opened.Opened → FlatOpened
-opened_flat (Opened.TheVariants.Run s) = record { state = flat_of s; refusal = 0; value = 0 }
-opened_flat (Opened.TheVariants.Refused q) = record { state = no_state; refusal = number_of q; value = (values_flat q).value }
+unfoldable pub opened_flat : Result State Refusal → FlatOpened
+opened_flat (Ok s) = record { state = flat_of s; refusal = 0; value = 0 }
+opened_flat (Err q) = record { state = no_state; refusal = number_of q; value = (values_flat q).value }
 
 unfoldable pub flat_answer : Counts → ℕ → ℕ → ℕ → ℕ → FlatAnswer
 flat_answer n stop refusal value field = record { taken = n.taken; samples = n.samples; noise = n.noise; records = n.records; stop = stop; refusal = refusal; value = value; field = field; added_high = n.added_high; added_low = n.added_low }
 
 -- refusal 0 is none; stop 5 is none
-unfoldable pub answered : Counts → Answer.Answer → FlatAnswer
-answered n (Answer.TheVariants.Stopped w) = flat_answer n (stop_number w) 0 0 0
-answered n (Answer.TheVariants.Refused q) = flat_answer n 5 (number_of q) (values_flat q).value (values_flat q).field
+unfoldable pub answered : Counts → Result Stop Refusal → FlatAnswer
+answered n (Ok w) = flat_answer n (stop_number w) 0 0 0
+answered n (Err q) = flat_answer n 5 (number_of q) (values_flat q).value (values_flat q).field
 
 unfoldable pub ran_flat : Ran → FlatRan
 ran_flat r = record { state = flat_of r.state; answer = answered r.counts r.answer }

@@ -1,7 +1,7 @@
 // Opening a run and run calls under C names: the state, the answers and the refusals as plain numbers.
 #![tactic(auto)]
 
-ghost use Rattle.std.specs.Prelude.{◌≡◌, cond};
+ghost use Rattle.std.specs.Prelude.{◌≡◌};
 ghost use Rattle.constants.specs.Rate.{four};
 ghost use Rattle.run_open_checks.specs.Opening.{opened_of, left_by};
 ghost use Rattle.more1090_generator.specs.States.{carrier_flat, phase_flat, clock_flat, carrier_from, phase_from, clock_from, flat_of, state_from, no_state};
@@ -11,8 +11,7 @@ ghost use Rattle.more1090_generator.specs.Answers.{opened_flat, answered, ran_fl
 use distributions::{CarrierOffset, CarrierPhase, ClockError};
 use message_config::Delays;
 use refusals::Refusal;
-use run_call::{Answer, Counts, Ran, State, Stop};
-use run_open_checks::Opened;
+use run_call::{Counts, Ran, State, Stop};
 use settings::{Distributions, MessagesPerSecond};
 
 // A distribution: its kind as the settings have it, and two numbers.
@@ -85,6 +84,8 @@ pub struct FlatRan {
     pub answer: FlatAnswer,
 }
 
+// The conversions are functions and no `From`: each is used once, and its contract names its definition.
+#[tactic(auto, unfolding(crate::specs::States::carrier_flat, crate::specs::States::distribution_of))]
 fn carrier_out(d: CarrierOffset) -> FlatDistribution
     ensures { result ≡ carrier_flat d }
 {
@@ -102,6 +103,7 @@ fn carrier_out(d: CarrierOffset) -> FlatDistribution
     }
 }
 
+#[tactic(auto, unfolding(crate::specs::States::phase_flat, crate::specs::States::distribution_of))]
 fn phase_out(d: CarrierPhase) -> FlatDistribution
     ensures { result ≡ phase_flat d }
 {
@@ -119,6 +121,7 @@ fn phase_out(d: CarrierPhase) -> FlatDistribution
     }
 }
 
+#[tactic(auto, unfolding(crate::specs::States::clock_flat, crate::specs::States::distribution_of))]
 fn clock_out(d: ClockError) -> FlatDistribution
     ensures { result ≡ clock_flat d }
 {
@@ -137,102 +140,70 @@ fn clock_out(d: ClockError) -> FlatDistribution
 }
 
 // Kind 0 is constant, any other the other.
+#[tactic(auto, unfolding(crate::specs::States::carrier_from))]
 fn carrier_in(f: FlatDistribution) -> CarrierOffset
     ensures { result ≡ carrier_from f }
 {
     if f.kind == 0 {
-        return CarrierOffset::Constant(f.first);
+        CarrierOffset::Constant(f.first)
+    } else {
+        CarrierOffset::ClampedNormal(f.first, f.second)
     }
-    CarrierOffset::ClampedNormal(f.first, f.second)
 }
 
+#[tactic(auto, unfolding(crate::specs::States::phase_from))]
 fn phase_in(f: FlatDistribution) -> CarrierPhase
     ensures { result ≡ phase_from f }
 {
     if f.kind == 0 {
-        return CarrierPhase::Constant(f.first);
+        CarrierPhase::Constant(f.first)
+    } else {
+        CarrierPhase::Uniform
     }
-    CarrierPhase::Uniform
 }
 
+#[tactic(auto, unfolding(crate::specs::States::clock_from))]
 fn clock_in(f: FlatDistribution) -> ClockError
     ensures { result ≡ clock_from f }
 {
     if f.kind == 0 {
-        return ClockError::Constant(f.first);
-    }
-    ClockError::Uniform(f.first)
-}
-
-fn distributions_in(
-    carrier: FlatDistribution,
-    phase: FlatDistribution,
-    clock: FlatDistribution,
-) -> Distributions
-    ensures { result ≡ record { carrier = carrier_from carrier; phase = phase_from phase; clock = clock_from clock } }
-{
-    let c = carrier_in(carrier);
-    let p = phase_in(phase);
-    let e = clock_in(clock);
-    Distributions {
-        carrier: c,
-        phase: p,
-        clock: e,
+        ClockError::Constant(f.first)
+    } else {
+        ClockError::Uniform(f.first)
     }
 }
 
-fn ended_out(ended: bool) -> u64
-    ensures { result ≡ cond ended 1 0 }
-{
-    if ended {
-        return 1;
-    }
-    0
-}
-
+#[tactic(auto, unfolding(crate::specs::States::flat_of, crate::specs::States::rates_flat))]
 fn state_out(s: State) -> FlatState
     ensures { result ≡ flat_of s }
 {
-    let all = s.distributions;
-    let carrier = all.carrier;
-    let phase = all.phase;
-    let clock = all.clock;
-    let rates = s.rates;
-    let delays = s.delays;
-    let c = carrier_out(carrier);
-    let p = phase_out(phase);
-    let e = clock_out(clock);
     FlatState {
         written: s.written,
         total: s.total,
         time: s.time,
         latest: s.latest,
         rates: FlatRates {
-            extended_squitter: rates.extended_squitter,
-            acquisition_squitter: rates.acquisition_squitter,
-            short_ap: rates.short_ap,
-            all_call_reply: rates.all_call_reply,
-            long_ap: rates.long_ap,
-            military_extended_squitter: rates.military_extended_squitter,
-            mode_ac: rates.mode_ac,
+            extended_squitter: s.rates.extended_squitter,
+            acquisition_squitter: s.rates.acquisition_squitter,
+            short_ap: s.rates.short_ap,
+            all_call_reply: s.rates.all_call_reply,
+            long_ap: s.rates.long_ap,
+            military_extended_squitter: s.rates.military_extended_squitter,
+            mode_ac: s.rates.mode_ac,
         },
-        mode_s_delay: delays.mode_s,
-        mode_ac_delay: delays.mode_ac,
-        carrier: c,
-        phase: p,
-        clock: e,
-        ended: ended_out(s.ended),
+        mode_s_delay: s.delays.mode_s,
+        mode_ac_delay: s.delays.mode_ac,
+        carrier: carrier_out(s.distributions.carrier),
+        phase: phase_out(s.distributions.phase),
+        clock: clock_out(s.distributions.clock),
+        ended: u64::from(s.ended),
     }
 }
 
+#[tactic(auto, unfolding(crate::specs::States::state_from, crate::specs::States::rates_from))]
 fn state_in(f: FlatState) -> State
     ensures { result ≡ state_from f }
 {
-    let rates = f.rates;
-    let carrier = f.carrier;
-    let phase = f.phase;
-    let clock = f.clock;
-    let all = distributions_in(carrier, phase, clock);
     State {
         written: f.written,
         total: f.total,
@@ -240,23 +211,28 @@ fn state_in(f: FlatState) -> State
         latest: f.latest,
         ended: f.ended != 0,
         rates: MessagesPerSecond {
-            extended_squitter: rates.extended_squitter,
-            acquisition_squitter: rates.acquisition_squitter,
-            short_ap: rates.short_ap,
-            all_call_reply: rates.all_call_reply,
-            long_ap: rates.long_ap,
-            military_extended_squitter: rates.military_extended_squitter,
-            mode_ac: rates.mode_ac,
+            extended_squitter: f.rates.extended_squitter,
+            acquisition_squitter: f.rates.acquisition_squitter,
+            short_ap: f.rates.short_ap,
+            all_call_reply: f.rates.all_call_reply,
+            long_ap: f.rates.long_ap,
+            military_extended_squitter: f.rates.military_extended_squitter,
+            mode_ac: f.rates.mode_ac,
         },
         delays: Delays {
             mode_s: f.mode_s_delay,
             mode_ac: f.mode_ac_delay,
         },
-        distributions: all,
+        distributions: Distributions {
+            carrier: carrier_in(f.carrier),
+            phase: phase_in(f.phase),
+            clock: clock_in(f.clock),
+        },
     }
 }
 
 // What a refused opening says as its state.
+#[tactic(auto, unfolding(crate::specs::States::no_state, crate::specs::States::no_rates, crate::specs::States::distribution_of))]
 fn no_state() -> FlatState
     ensures { result ≡ no_state }
 {
@@ -288,26 +264,28 @@ fn no_state() -> FlatState
     }
 }
 
-fn opened_out(o: Opened) -> FlatOpened
+#[tactic(auto, unfolding(crate::specs::Answers::opened_flat))]
+fn opened_out(o: Result<State, Refusal>) -> FlatOpened
     ensures { result ≡ opened_flat o }
 {
     match o {
-        Opened::Run(s) => FlatOpened {
+        Ok(s) => FlatOpened {
             state: state_out(s),
             refusal: 0,
             value: 0,
         },
-        Opened::Refused(q) => {
+        Err(q) => {
             let v = refusal_values::values_of(q);
             FlatOpened {
                 state: no_state(),
-                refusal: refusals::number(q),
+                refusal: q.number(),
                 value: v.value,
             }
         }
     }
 }
 
+#[tactic(auto, unfolding(run_call::specs::Given::stop_number))]
 fn stop_number(w: Stop) -> u64
     ensures { result ≡ stop_number w }
 {
@@ -320,6 +298,7 @@ fn stop_number(w: Stop) -> u64
     }
 }
 
+#[tactic(auto, unfolding(crate::specs::Answers::flat_answer))]
 fn flat_answer(n: Counts, stop: u64, refusal: u64, value: u64, field: u64) -> FlatAnswer
     ensures { result ≡ Rattle.more1090_generator.specs.Answers.flat_answer n stop refusal value field }
 {
@@ -328,36 +307,35 @@ fn flat_answer(n: Counts, stop: u64, refusal: u64, value: u64, field: u64) -> Fl
         samples: n.samples as u64,
         noise: n.noise as u64,
         records: n.records as u64,
-        stop: stop,
-        refusal: refusal,
-        value: value,
-        field: field,
+        stop,
+        refusal,
+        value,
+        field,
         added_high: n.added_high,
         added_low: n.added_low,
     }
 }
 
-fn answer_out(n: Counts, answer: Answer) -> FlatAnswer
+#[tactic(auto, unfolding(crate::specs::Answers::answered))]
+fn answer_out(n: Counts, answer: Result<Stop, Refusal>) -> FlatAnswer
     ensures { result ≡ answered n answer }
 {
     match answer {
-        Answer::Stopped(w) => flat_answer(n, stop_number(w), 0, 0, 0),
-        Answer::Refused(q) => {
+        Ok(w) => flat_answer(n, stop_number(w), 0, 0, 0),
+        Err(q) => {
             let v = refusal_values::values_of(q);
-            flat_answer(n, 5, refusals::number(q), v.value, v.field)
+            flat_answer(n, 5, q.number(), v.value, v.field)
         }
     }
 }
 
+#[tactic(auto, unfolding(crate::specs::Answers::ran_flat))]
 fn ran_out(ran: Ran) -> FlatRan
     ensures { result ≡ ran_flat ran }
 {
-    let s = ran.state;
-    let n = ran.counts;
-    let answer = ran.answer;
     FlatRan {
-        state: state_out(s),
-        answer: answer_out(n, answer),
+        state: state_out(ran.state),
+        answer: answer_out(ran.counts, ran.answer),
     }
 }
 
@@ -373,11 +351,11 @@ pub extern "C" fn more1090_open(
 ) -> FlatOpened
     ensures { (result ≡ opened_flat (opened_of four taps_s.now taps_ac.now settings.now (record { mode_s = mode_s.old; mode_ac = mode_ac.old; memory = memory.old }))) × (record { mode_s = mode_s.new; mode_ac = mode_ac.new; memory = memory.new } ≡ left_by four taps_s.now taps_ac.now (opened_of four taps_s.now taps_ac.now settings.now (record { mode_s = mode_s.old; mode_ac = mode_ac.old; memory = memory.old })) (record { mode_s = mode_s.old; mode_ac = mode_ac.old; memory = memory.old })) }
 {
-    let o = run_open::open(settings, taps_s, taps_ac, mode_s, mode_ac, memory);
-    opened_out(o)
+    opened_out(run_open::open(settings, taps_s, taps_ac, mode_s, mode_ac, memory))
 }
 
 // A run call on a state that a call returned, or on any other numbers.
+#[tactic(auto, unfolding(crate::specs::Answers::flat_run_left, crate::specs::Answers::left_flat))]
 #[unsafe(no_mangle)]
 pub extern "C" fn more1090_run(
     state: FlatState,

@@ -2,10 +2,9 @@
 #![tactic(auto)]
 
 ghost use Rattle.std.specs.Prelude.{◌≡◌};
-ghost use Rattle.log_compare.specs.Comparison.{answer_of};
-ghost use Rattle.more1090_log.specs.LogInC.{value_of, flat_of, flat_comparison};
+ghost use Rattle.more1090_log.specs.LogInC.{flat_of, flat_comparison};
 
-use log_compare::Compared;
+use log_compare::Counts;
 use refusals::Refusal;
 
 // The counts, or the refusal's number and value. Refusal 0 is none.
@@ -19,52 +18,30 @@ pub struct FlatCompared {
     pub value: u64,
 }
 
-// The first value beside a refusal's number, 0 where there is none.
-fn value_of(q: Refusal) -> u64
-    ensures { result ≡ value_of q }
-{
-    match q {
-        Refusal::Duration => 0,
-        Refusal::Rate(rate) => rate,
-        Refusal::Total => 0,
-        Refusal::Distribution(distribution) => distribution,
-        Refusal::Taps => 0,
-        Refusal::Prototype => 0,
-        Refusal::Draw(draw, _) => draw,
-        Refusal::Noise(index) => index,
-        Refusal::Length => 0,
-        Refusal::StretchLength => 0,
-        Refusal::Level => 0,
-        Refusal::TriggerLevel => 0,
-        Refusal::SamplesPerPulse => 0,
-        Refusal::Log => 0,
-        Refusal::Feeds => 0,
-        Refusal::Record(record) => record,
-    }
-}
-
-fn flat(compared: Compared) -> FlatCompared
-    ensures { result ≡ flat_of (answer_of compared) }
+#[tactic(auto, unfolding(crate::specs::LogInC::flat_of))]
+fn flat(compared: Result<Counts, Refusal>) -> FlatCompared
+    ensures { result ≡ flat_of compared }
 {
     match compared {
-        Compared::Counts(pairs, unheard, unsent) => FlatCompared {
-            pairs: pairs as u64,
-            unheard: unheard as u64,
-            unsent: unsent as u64,
+        Ok(counts) => FlatCompared {
+            pairs: counts.pairs as u64,
+            unheard: counts.unheard as u64,
+            unsent: counts.unsent as u64,
             refusal: 0,
             value: 0,
         },
-        Compared::Refused(refusal) => FlatCompared {
+        Err(refusal) => FlatCompared {
             pairs: 0,
             unheard: 0,
             unsent: 0,
-            refusal: refusals::number(refusal),
-            value: value_of(refusal),
+            refusal: refusal.number(),
+            value: refusal_values::values_of(refusal).value,
         },
     }
 }
 
 // A log of 23-byte entries against records of 66 bytes: the counts, and each entry's record and each record's entry by their indices. A refusal writes to neither list.
+#[tactic(auto, unfolding(crate::specs::LogInC::flat_left, crate::specs::LogInC::flat_comparison))]
 #[unsafe(no_mangle)]
 pub extern "C" fn more1090_compare_log(
     log: &[u8],
@@ -75,6 +52,5 @@ pub extern "C" fn more1090_compare_log(
 ) -> FlatCompared
     ensures { record { compared = result; partners = partners.new; owners = owners.new } ≡ flat_comparison log.now records.now tolerance partners.old owners.old }
 {
-    let compared = log_compare::compare_log(log, records, tolerance, partners, owners);
-    flat(compared)
+    flat(log_compare::compare_log(log, records, tolerance, partners, owners))
 }

@@ -1,21 +1,24 @@
 -- Pages and lines as C has them.
-use Rattle.std.specs.Prelude.{ℕ, cond, get_or}
-use Rattle.refusals.specs.Answer.{Answer, accepted, refused}
-use Rattle.refusals.specs.Number.{number_of, values_of}
-use Rattle.page_fill.specs.Pages.{given}
-use Rattle.page_fill.specs.declared.Pages.{Pages}
+use Rattle.std.specs.Prelude.{Option, Some, None, Result, Ok, Err}
+use Rattle.refusals.specs.declared.Refusal.{Refusal}
+use Rattle.std.specs.Prelude.{ℕ, List, replicate}
+use Rattle.refusals.specs.Number.{number_of}
+use Rattle.refusal_values.specs.Flat.{values_flat}
 use Rattle.page_read.specs.declared.LineFields.{LineFields}
 use Rattle.more1090_pages.specs.declared.FlatPages.{FlatPages}
 use Rattle.more1090_pages.specs.declared.FlatLine.{FlatLine}
 
 -- refusal 0 is none; the value is 0 where there is none
-unfoldable pub flat_answer : Answer ℕ → FlatPages
-flat_answer (accepted pages) = record { refusal = 0; value = 0; pages = pages }
-flat_answer (refused refusal) = record { refusal = number_of refusal; value = get_or (values_of refusal) 0 0; pages = 0 }
+unfoldable pub flat_answer : Result ℕ Refusal → FlatPages
+flat_answer (Ok pages) = record { refusal = 0; value = 0; pages = pages }
+flat_answer (Err refusal) = record { refusal = number_of refusal; value = (values_flat refusal).value; pages = 0 }
 
-unfoldable pub flat_pages : Pages → FlatPages
-flat_pages answer = flat_answer (given answer)
+-- all fields but the message; found is 1 of a record's line, else all are 0
+unfoldable pub flat_line : Option LineFields → FlatLine
+flat_line (Some f) = record { found = 1; first = f.first; kind = f.kind; count = f.count; size = f.size }
+flat_line None = record { found = 0; first = 0; kind = 0; count = 0; size = 0 }
 
--- all fields but the message
-unfoldable pub flat_line : LineFields → FlatLine
-flat_line f = record { found = cond f.found 1 0; first = f.first; kind = f.kind; count = f.count; size = f.size }
+-- the message, zeros where there is none
+unfoldable pub line_message : Option LineFields → List ℕ
+line_message (Some f) = f.message
+line_message None = replicate 14 0

@@ -1,12 +1,12 @@
 // Records on paper under C names: pages, and a line read back.
 #![tactic(auto)]
 
-ghost use Rattle.std.specs.Prelude.{◌≡◌, cond, length};
+ghost use Rattle.std.specs.Prelude.{◌≡◌, length};
 ghost use Rattle.page_fill.specs.Pages.{pages_answer, pages_left};
 ghost use Rattle.page_read.specs.Fields.{fields_of};
-ghost use Rattle.more1090_pages.specs.Flat.{flat_pages, flat_line};
+ghost use Rattle.more1090_pages.specs.Flat.{flat_answer, flat_line, line_message};
 
-use page_fill::Pages;
+use refusals::Refusal;
 
 // What putting records on paper answers: refusal 0 is none; the value beside a refusal is the record at fault.
 #[repr(C)]
@@ -28,32 +28,19 @@ pub struct FlatLine {
     pub size: u64,
 }
 
-fn bit(found: bool) -> u64
-    ensures { result ≡ cond found 1 0 }
-{
-    if found {
-        return 1;
-    }
-    0
-}
-
-fn flat_pages(answer: Pages) -> FlatPages
-    ensures { result ≡ flat_pages answer }
+#[tactic(auto, unfolding(crate::specs::Flat::flat_answer))]
+fn flat_pages(answer: Result<u64, Refusal>) -> FlatPages
+    ensures { result ≡ flat_answer answer }
 {
     match answer {
-        Pages::Written(n) => FlatPages {
+        Ok(n) => FlatPages {
             refusal: 0,
             value: 0,
             pages: n,
         },
-        Pages::WrongLength => FlatPages {
-            refusal: 9,
-            value: 0,
-            pages: 0,
-        },
-        Pages::WrongRecord(k) => FlatPages {
-            refusal: 18,
-            value: k,
+        Err(q) => FlatPages {
+            refusal: q.number(),
+            value: refusal_values::values_of(q).value,
             pages: 0,
         },
     }
@@ -62,25 +49,38 @@ fn flat_pages(answer: Pages) -> FlatPages
 // Records of 66 bytes as pages of 4,380 bytes, from the start of out on.
 #[unsafe(no_mangle)]
 pub extern "C" fn more1090_pages(records: &[u8], out: &mut [u8]) -> FlatPages
-    ensures { (result ≡ flat_pages (pages_answer records.now (length out.old))) × (out.new ≡ pages_left records.now out.old) }
+    ensures { (result ≡ flat_answer (pages_answer records.now (length out.old))) × (out.new ≡ pages_left records.now out.old) }
 {
     flat_pages(page_fill::fill(records, out))
 }
 
 // The fields of a line of 72 bytes; its message goes to message, zeros behind it.
+#[tactic(auto, unfolding(crate::specs::Flat::flat_line, crate::specs::Flat::line_message))]
 #[unsafe(no_mangle)]
 pub extern "C" fn more1090_page_line(line: &[u8], message: &mut [u8; 14]) -> FlatLine
-    ensures { (result ≡ flat_line (fields_of line.now)) × (message.new ≡ (fields_of line.now).message) }
+    ensures { (result ≡ flat_line (fields_of line.now)) × (message.new ≡ line_message (fields_of line.now)) }
 {
-    let fields = page_read::read(line);
-    let bytes = fields.message;
-    let found = bit(fields.found);
-    *message = bytes;
-    FlatLine {
-        found,
-        first: fields.first,
-        kind: fields.kind as u64,
-        count: fields.count as u64,
-        size: fields.size as u64,
+    match page_read::read(line) {
+        Some(fields) => {
+            let bytes = fields.message;
+            *message = bytes;
+            FlatLine {
+                found: 1,
+                first: fields.first,
+                kind: u64::from(fields.kind),
+                count: u64::from(fields.count),
+                size: u64::from(fields.size),
+            }
+        }
+        None => {
+            *message = [0; 14];
+            FlatLine {
+                found: 0,
+                first: 0,
+                kind: 0,
+                count: 0,
+                size: 0,
+            }
+        }
     }
 }

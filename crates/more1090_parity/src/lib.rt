@@ -8,8 +8,6 @@ ghost use Rattle.message_classify.specs.Classing.{class_of_bytes, class_number};
 ghost use Rattle.message_interrogator.specs.Interrogators.{interrogator_of, kind_number, code_number};
 ghost use Rattle.more1090_parity.specs.Places.{place_number};
 
-use mode_s_parity_change::FlippedBit;
-
 // The parity of bytes, however many.
 #[unsafe(no_mangle)]
 pub extern "C" fn more1090_parity(bytes: &[u8]) -> u32
@@ -27,14 +25,12 @@ pub extern "C" fn more1090_parity_change(place: u64) -> u32
 }
 
 // The place whose flipped bit changes the parity so, or 2^64 - 1 for none.
+#[tactic(auto, unfolding(crate::specs::Places::place_number))]
 #[unsafe(no_mangle)]
 pub extern "C" fn more1090_flipped_bit(change: u32) -> u64
     ensures { result ≡ place_number (place_of change) }
 {
-    match mode_s_parity_change::flipped_bit(change) {
-        FlippedBit::At(place) => place,
-        FlippedBit::Nowhere => 0xffff_ffff_ffff_ffff,
-    }
+    mode_s_parity_change::flipped_bit(change).unwrap_or(0xffff_ffff_ffff_ffff)
 }
 
 // The class of message bytes, however many: its type's number, 7 for TIS-B, 255 for none.

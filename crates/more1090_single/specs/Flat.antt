@@ -1,13 +1,13 @@
 -- What one reply alone answers, as C has it: the number and values of a refusal (SPECIFICATION 3.1), or 0.
+use Rattle.std.specs.Prelude.{Result, Ok, Err}
 use Rattle.refusals.specs.declared.Refusal.{Refusal}
 use Rattle.refusals.specs.Number.{number_of}
 use Rattle.refusal_values.specs.Flat.{values_flat}
-use Rattle.single_run.specs.declared.Outcome as Outcome
 use Rattle.more1090_single.specs.declared.FlatSingle.{FlatSingle}
 
 unfoldable pub refusal_flat : Refusal → FlatSingle
 refusal_flat q = record { refusal = number_of q; value = (values_flat q).value; field = (values_flat q).field }
 
-unfoldable pub single_flat : Outcome.Outcome → FlatSingle
-single_flat Outcome.TheVariants.Made = record { refusal = 0; value = 0; field = 0 }
-single_flat (Outcome.TheVariants.Refused q) = refusal_flat q
+unfoldable pub single_flat : Result (Unit {0}) Refusal → FlatSingle
+single_flat (Ok tt) = record { refusal = 0; value = 0; field = 0 }
+single_flat (Err q) = refusal_flat q

@@ -4,10 +4,9 @@
 ghost use Rattle.std.specs.Prelude.{◌≡◌, length};
 ghost use Rattle.single_theory.specs.Single.{single_run, single_output};
 ghost use Rattle.single_run.specs.Answer.{answer_of};
-ghost use Rattle.more1090_single.specs.Flat.{refusal_flat, single_flat};
+ghost use Rattle.more1090_single.specs.Flat.{single_flat};
 
 use refusals::Refusal;
-use single_run::Outcome;
 
 // Refusal 0 is none.
 #[repr(C)]
@@ -18,27 +17,24 @@ pub struct FlatSingle {
     pub field: u64,
 }
 
-fn refusal_out(q: Refusal) -> FlatSingle
-    ensures { result ≡ refusal_flat q }
-{
-    let v = refusal_values::values_of(q);
-    FlatSingle {
-        refusal: refusals::number(q),
-        value: v.value,
-        field: v.field,
-    }
-}
-
-fn single_out(answer: Outcome) -> FlatSingle
+#[tactic(auto, unfolding(crate::specs::Flat::single_flat, crate::specs::Flat::refusal_flat))]
+fn single_out(answer: Result<(), Refusal>) -> FlatSingle
     ensures { result ≡ single_flat answer }
 {
     match answer {
-        Outcome::Made => FlatSingle {
+        Ok(()) => FlatSingle {
             refusal: 0,
             value: 0,
             field: 0,
         },
-        Outcome::Refused(q) => refusal_out(q),
+        Err(q) => {
+            let v = refusal_values::values_of(q);
+            FlatSingle {
+                refusal: q.number(),
+                value: v.value,
+                field: v.field,
+            }
+        }
     }
 }
 
@@ -54,6 +50,5 @@ pub extern "C" fn more1090_single(
 ) -> FlatSingle
     ensures { (result ≡ single_flat (answer_of (single_run settings.now taps_s.now taps_ac.now draw.now noise.now (length output.old)))) × (output.new ≡ single_output settings.now taps_s.now taps_ac.now draw.now noise.now output.old) }
 {
-    let answer = single_run::single(settings, taps_s, taps_ac, draw, noise, output);
-    single_out(answer)
+    single_out(single_run::single(settings, taps_s, taps_ac, draw, noise, output))
 }

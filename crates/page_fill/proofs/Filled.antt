@@ -1,4 +1,5 @@
 -- Lines put one behind the other, from the first record to the end of the last page.
+use Rattle.std.specs.Prelude.{None}
 use Prim.Native.Nat.{ℕ, zero, suc, ◌+◌, ◌-◌, ◌*◌, ◌/◌, ◌≤◌, ◌<◌}
 use mathlib.Core.Path.{◌≡◌, refl, sym, ap, ◌∙◌}
 use mathlib.Core.Bool.{Bool, true, cond, ◌&&◌}
@@ -6,15 +7,14 @@ use mathlib.Core.List.{List, [], ◌∷◌, ◌++◌}
 use native.Mathlib.Numerals.{add-one}
 use native.Mathlib.Omega.{arith}
 use lib.ListN.{length, drop, take, length-append, length-drop, length-replicate}
-use lib.Seq.{take_all, drop-drop}
+use lib.Seq.{take_all}
 use borrow.Author.Tests.{le-leb}
 use Rattle.le_read.specs.LeBytes.{inside, overwritten}
 use Rattle.le_read.proofs.RoundTrip.{length_overwritten}
-use Rattle.reply_record.proofs.Overwritten.{none_overwritten, next}
+use Rattle.reply_record.proofs.Overwritten.{next}
 use Rattle.record_check.specs.Accepted.{accepted}
 use Rattle.record_check.specs.FirstFault.{first_fault}
 use Rattle.record_check.specs.FaultLaws.{record_at}
-use Rattle.record_check.specs.declared.RecordFault.TheVariants.{NoFault}
 use Rattle.record_check.proofs.Accepting.{in_range}
 use Rattle.record_check.proofs.FaultLaws.{fault_laws}
 use Rattle.page_line.specs.Line.{page_line, blank_line, with_feed, line_fits, line_at, blank_at}
@@ -43,49 +43,23 @@ one_line_more : (k : ℕ) (records : List ℕ) → record_lines k records ++ wit
 unfolding record_lines
 one_line_more k records = ap (λ (m : ℕ). record_lines m records) (sym (add-one k))
 
--- ---- lines of blanks, k of them
-pub record Blank (n : ℕ) (s : List ℕ) (start : ℕ) (out : List ℕ) (at k : ℕ) : Type 0 where
-  pub count : k ≤ n
-  pub offset : at ≡ start + 73 * k
-  pub held : out ≡ overwritten s start (blank_lines k)
+-- ---- lines of blanks, one more
+module _ (n : ℕ) (s : List ℕ) (start : ℕ) (room : start + 73 * n ≤ length s) (out : List ℕ) (k : ℕ) (held : out ≡ overwritten s start (blank_lines k)) (h : k < n) where
+  blank_length : length out ≡ length s
+  blank_length = ap length held ∙ length_overwritten s start (blank_lines k) (omega (arith, length_blanks k))
 
-module _ (n : ℕ) (s : List ℕ) (start : ℕ) where
-  pub no_blank : Blank n s start s start 0
-  unfolding blank_lines
-  no_blank = record { count = omega arith; offset = omega arith; held = none_overwritten s start }
+  pub one_blank : {out' : List ℕ} → out' ≡ blank_at out (start + 73 * k) → out' ≡ overwritten s start (blank_lines (k + 1))
+  unfolding blank_at
+  one_blank {out'} e = next s start (73 * k) (blank_lines k) (with_feed blank_line) out out' (length_blanks k) (omega arith) held put_there ∙ ap (overwritten s start) (one_line k)
+    where
+      fits : inside 73 out (start + 73 * k) ≡ true
+      fits = le-leb (start + 73 * k + 73) (length out) (omega (arith, blank_length))
 
-  module _ (room : start + 73 * n ≤ length s) (out : List ℕ) (at k : ℕ) (b : Blank n s start out at k) where
-    pub blank_length : length out ≡ length s
-    blank_length = ap length b.held ∙ length_overwritten s start (blank_lines k) (omega (arith, b.count, length_blanks k))
+      put_there : out' ≡ overwritten out (start + 73 * k) (with_feed blank_line)
+      put_there = e ∙ ap (λ (t : Bool). cond t (overwritten out (start + 73 * k) (with_feed blank_line)) out) fits
 
-    pub one_blank : {out' : List ℕ} → k < n → out' ≡ blank_at out at → Blank n s start out' (at + 73) (k + 1)
-    unfolding blank_at
-    one_blank {out'} h e = record {
-      count = omega arith;
-      offset = omega (arith, b.offset);
-      held = next s start (73 * k) (blank_lines k) (with_feed blank_line) out out' (length_blanks k) (omega arith) b.held put_there ∙ ap (overwritten s start) (one_line k);
-    }
-      where
-        fits : inside 73 out at ≡ true
-        fits = le-leb (at + 73) (length out) (omega (arith, b.offset, blank_length))
-
-        put_there : out' ≡ overwritten out (start + 73 * k) (with_feed blank_line)
-        put_there =
-            e ∙ ap (λ (t : Bool). cond t (overwritten out at (with_feed blank_line)) out) fits
-            ∙ ap (λ (m : ℕ). overwritten out m (with_feed blank_line)) b.offset
-
-    pub all_blank : n ≤ k → out ≡ overwritten s start (blank_lines n)
-    all_blank h = let e : k ≡ n = omega (arith, b.count) in b.held ∙ ap (λ (m : ℕ). overwritten s start (blank_lines m)) e
-
--- ---- the lines of records, done of them
-pub record Filled (records s out rest : List ℕ) (at : ℕ) : Type 0 where
-  pub done : ℕ
-  pub behind : rest ≡ record_at records done
-  pub left : 66 * done + length rest ≡ length records
-  pub offset : at ≡ 73 * done
-  pub held : out ≡ overwritten s 0 (record_lines done records)
-
-module _ (records : List ℕ) (ok : first_fault records ≡ NoFault) where
+-- ---- the lines of records, one more
+module _ (records : List ℕ) (ok : first_fault records ≡ None) where
   accepted_at : (k : ℕ) → 66 * k + 66 ≤ length records → accepted (record_at records k) ≡ true
   accepted_at = (fault_laws records).all_accepted ok
 
@@ -99,49 +73,30 @@ module _ (records : List ℕ) (ok : first_fault records ≡ NoFault) where
       length-append (record_lines n records) (with_feed (page_line (record_at records n)))
       ∙ omega (arith, length_lines n (omega arith), length_one n (omega arith))
 
-  module _ (s : List ℕ) (room : 73 * (length records / 66) ≤ length s) where
-    pub none_filled : Filled records s s records 0
-    unfolding record_lines
-    none_filled = record { done = 0; behind = refl; left = omega arith; offset = omega arith; held = none_overwritten s 0 }
+  module _ (s : List ℕ) (room : 73 * (length records / 66) ≤ length s) (out : List ℕ) (k : ℕ) (held : out ≡ overwritten s 0 (record_lines k records)) (h : k < length records / 66) where
+    filled_length : length out ≡ length s
+    filled_length = ap length held ∙ length_overwritten s 0 (record_lines k records) (omega (arith, length_lines k (omega arith)))
 
-    module _ (out rest : List ℕ) (at : ℕ) (f : Filled records s out rest at) where
-      abbrev k : ℕ
-      k = f.done
+    pub one_filled : {out' : List ℕ} → out' ≡ line_at (take (length records - 66 * k) (drop (66 * k) records)) out (73 * k) → out' ≡ overwritten s 0 (record_lines (k + 1) records)
+    unfolding line_at line_fits
+    one_filled {out'} e =
+        next s 0 (73 * k) (record_lines k records) (with_feed (page_line (record_at records k))) out out' (length_lines k (omega arith)) (omega arith) held put_there
+        ∙ ap (overwritten s 0) (one_line_more k records)
+      where
+        here : take (length records - 66 * k) (drop (66 * k) records) ≡ record_at records k
+        here = take_all (length records - 66 * k) (drop (66 * k) records) (simp length-drop (omega arith))
 
-      pub filled_length : length out ≡ length s
-      filled_length = ap length f.held ∙ length_overwritten s 0 (record_lines k records) (omega (arith, f.left, length_lines k (omega (arith, f.left))))
+        fits : line_fits (record_at records k) out (73 * k) ≡ true
+        fits = (λ i. accepted_at k (omega arith) i && le-leb (73 * k + 73) (length out) (omega (arith, filled_length)) i)
 
-      pub one_filled : {out' : List ℕ} → 66 ≤ length rest → out' ≡ line_at rest out at → Filled records s out' (take (length rest - 66) (drop 66 rest)) (at + 73)
-      unfolding line_at line_fits
-      one_filled {out'} h e = record {
-        done = k + 1;
-        behind = rest_is ∙ ap (drop 66) f.behind ∙ drop-drop 66 (66 * k) records ∙ ap (λ (m : ℕ). drop m records) {x = 66 * k + 66} {y = 66 * (k + 1)} (omega arith);
-        left = omega (arith, f.left, ap length rest_is, length-drop 66 rest);
-        offset = omega (arith, f.offset);
-        held =
-            next s 0 (73 * k) (record_lines k records) (with_feed (page_line (record_at records k))) out out' (length_lines k (omega (arith, f.left))) (omega (arith, f.left)) f.held put_there
-            ∙ ap (overwritten s 0) (one_line_more k records);
-      }
-        where
-          rest_is : take (length rest - 66) (drop 66 rest) ≡ drop 66 rest
-          rest_is = take_all (length rest - 66) (drop 66 rest) (simp length-drop (omega arith))
+        from : 73 * k ≡ 0 + 73 * k
+        from = omega arith
 
-          fits : line_fits rest out at ≡ true
-          fits =
-              (λ i. (ap accepted f.behind ∙ accepted_at k (omega (arith, f.left))) i && le-leb (at + 73) (length out) (omega (arith, f.offset, f.left, filled_length)) i)
-
-          from : at ≡ 0 + 73 * k
-          from = omega (arith, f.offset)
-
-          put_there : out' ≡ overwritten out (0 + 73 * k) (with_feed (page_line (record_at records k)))
-          put_there =
-              e ∙ ap (λ (t : Bool). cond t (overwritten out at (with_feed (page_line rest))) out) fits
-              ∙ (λ i. overwritten out (from i) (with_feed (page_line (f.behind i))))
-
-      pub all_filled : length rest < 66 → out ≡ overwritten s 0 (record_lines (length records / 66) records)
-      all_filled h =
-          let e : k ≡ length records / 66 = omega (arith, f.left) in
-          f.held ∙ ap (λ (m : ℕ). overwritten s 0 (record_lines m records)) e
+        put_there : out' ≡ overwritten out (0 + 73 * k) (with_feed (page_line (record_at records k)))
+        put_there =
+            e ∙ ap (λ (r : List ℕ). line_at r out (73 * k)) here
+            ∙ ap (λ (t : Bool). cond t (overwritten out (73 * k) (with_feed (page_line (record_at records k)))) out) fits
+            ∙ ap (λ (m : ℕ). overwritten out m (with_feed (page_line (record_at records k)))) from
 
   -- ---- the pages
   module _ (s : List ℕ) {d e : List ℕ} (room : 4380 * page_count (length records / 66) ≤ length s) where

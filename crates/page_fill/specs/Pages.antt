@@ -1,15 +1,12 @@
 -- Records on paper (SPECIFICATION 11.5): their pages, and what is answered.
-use Rattle.std.specs.Prelude.{ℕ, zero, suc, ◌+◌, ◌-◌, ◌*◌, ◌/◌, ◌%◌, Bool, true, false, cond, List, [], ◌++◌, eqb, leb, length}
+use Rattle.std.specs.Prelude.{Option, Some, None, Result, Ok, Err}
+use Rattle.refusals.specs.declared.Refusal.{Refusal}
+use Rattle.std.specs.Prelude.{ℕ, zero, suc, ◌+◌, ◌-◌, ◌*◌, ◌/◌, ◌%◌, is_ok, cond, List, [], ◌++◌, eqb, leb, length}
 use Rattle.le_read.specs.LeBytes.{overwritten}
-use Rattle.refusals.specs.Answer.{Answer, accepted, refused}
 use Rattle.refusals.specs.declared.Refusal.TheVariants.{Length, Record}
 use Rattle.record_check.specs.FirstFault.{first_fault}
 use Rattle.record_check.specs.FaultLaws.{record_at}
-use Rattle.record_check.specs.declared.RecordFault.{RecordFault}
-use Rattle.record_check.specs.declared.RecordFault.TheVariants.{NoFault, At}
 use Rattle.page_line.specs.Line.{page_line, blank_line, with_feed}
-use Rattle.page_fill.specs.declared.Pages.{Pages}
-use Rattle.page_fill.specs.declared.Pages.TheVariants.{Written, WrongLength, WrongRecord}
 
 -- the pages of n records, 60 on each; none for none
 unfoldable pub page_count : ℕ → ℕ
@@ -30,29 +27,17 @@ unfoldable pub pages_text : List ℕ → List ℕ
 pages_text records = record_lines (length records / 66) records ++ blank_lines (60 * page_count (length records / 66) - length records / 66)
 
 -- what is answered where the lengths are right: refusal 18 with the first record at fault, or the pages written
-unfoldable pub by_fault : RecordFault → ℕ → Pages
-by_fault NoFault pages = Written pages
-by_fault (At k) pages = WrongRecord k
+unfoldable pub by_fault : (Option ℕ) → ℕ → (Result ℕ Refusal)
+by_fault None pages = Ok pages
+by_fault (Some k) pages = Err (Record k)
 
 -- what is answered for records and room in bytes: refusal 9 for record bytes no multiple of 66 or room for fewer bytes than the pages have, before 18
-unfoldable pub pages_answer : List ℕ → ℕ → Pages
+unfoldable pub pages_answer : List ℕ → ℕ → (Result ℕ Refusal)
 pages_answer records room =
     cond (eqb (length records % 66) 0)
-    (cond (leb (4380 * page_count (length records / 66)) room) (by_fault (first_fault records) (page_count (length records / 66))) WrongLength)
-    WrongLength
-
--- whether pages are written
-unfoldable pub written : Pages → Bool
-written (Written pages) = true
-written WrongLength = false
-written (WrongRecord k) = false
+    (cond (leb (4380 * page_count (length records / 66)) room) (by_fault (first_fault records) (page_count (length records / 66))) (Err Length))
+    (Err Length)
 
 -- the buffer after it: the pages from its start on, or as it was
 unfoldable pub pages_left : List ℕ → List ℕ → List ℕ
-pages_left records out = cond (written (pages_answer records (length out))) (overwritten out 0 (pages_text records)) out
-
--- in the specification's terms: refusal 9, and 18 with the record's index
-unfoldable pub given : Pages → Answer ℕ
-given (Written pages) = accepted pages
-given WrongLength = refused Length
-given (WrongRecord k) = refused (Record k)
+pages_left records out = cond (is_ok (pages_answer records (length out))) (overwritten out 0 (pages_text records)) out

@@ -3,7 +3,9 @@ use Prim.Native.Nat.{ℕ, zero, suc, ◌+◌, ◌-◌, ◌/◌, ◌≤◌, ◌<�
 use mathlib.Core.Path.{◌≡◌, sym, ap, ◌∙◌}
 use mathlib.Core.List.{List, [], ◌∷◌, ◌++◌, append_assoc, append-nil}
 use native.Mathlib.Omega.{arith}
-use lib.ListN.{length, set, length-replicate, replicate-append-replicate}
+use lib.ListN.{length, take, drop, set, replicate, length-replicate, length-take, length-drop}
+use borrow.Rule.Slice.PartMut.{put_mid}
+use Rattle.tape_text.proofs.Puts.{mid_overwritten}
 use Rattle.le_read.specs.LeBytes.{overwritten}
 use Rattle.le_read.proofs.Halves.{overwritten_one}
 use Rattle.le_read.proofs.RoundTrip.{length_overwritten}
@@ -28,28 +30,28 @@ unfolding tens
 none_before k rest ys e = sym (ap (λ (m : ℕ). tens m rest ++ ys) e)
 
 module _ (n width : ℕ) (s : List ℕ) (at : ℕ) where
-  pub at_last : Going n width s at s width n
-  at_last = record { behind = []; count = omega arith; held = none_overwritten s (at + width); joined = append-nil (tens width n) }
+  pub at_last : (k : ℕ) → k ≡ width → Going n width s at s k n
+  at_last k e = record { behind = []; count = omega arith; held = none_overwritten s (at + k); joined = append-nil (tens k n) ∙ ap (λ (m : ℕ). tens m n) e }
 
-  pub same_length : (out : List ℕ) (k rest : ℕ) → at + width ≤ length s → Going n width s at out k rest → length out ≡ length s
-  same_length out k rest h g = ap length g.held ∙ length_overwritten s (at + k) g.behind (omega (arith, g.count))
-
-  pub one_less : (out : List ℕ) (k rest : ℕ) {digit column : ℕ} → at + width ≤ length s → 0 < k → Going n width s at out k rest → digit ≡ tens_digit rest → column ≡ at + (k - 1)
-      → Going n width s at (set out column digit) (k - 1) (rest / 10)
-  one_less out zero rest h z g e q = absurd (omega arith)
-  one_less out (suc j) rest {digit} {column} h z g e q = record {
+  pub one_less : (out : List ℕ) (k rest : ℕ) {digit column less : ℕ} → at + width ≤ length s → 0 < k → Going n width s at out k rest → digit ≡ tens_digit rest → column ≡ at + (k - 1) → less ≡ k - 1
+      → Going n width s at (set out column digit) less (rest / 10)
+  one_less out zero rest h z g e q o = absurd (omega arith)
+  one_less out (suc j) rest {digit} {column} {less} h z g e q o = record {
     behind = tens_digit rest ∷ g.behind;
     count = omega (arith, g.count);
     held =
         (λ i. set (g.held i) (q i) (e i))
         ∙ (λ i. set (overwritten s (place i) g.behind) (at + here i) (tens_digit rest))
         ∙ in_front s (at + j) g.behind (tens_digit rest) (omega (arith, g.count))
-        ∙ ap (λ (m : ℕ). overwritten s (at + m) (tens_digit rest ∷ g.behind)) (sym here);
-    joined = ap (λ (m : ℕ). tens m (rest / 10) ++ (tens_digit rest ∷ g.behind)) here ∙ by_column;
+        ∙ ap (λ (m : ℕ). overwritten s (at + m) (tens_digit rest ∷ g.behind)) (sym there);
+    joined = ap (λ (m : ℕ). tens m (rest / 10) ++ (tens_digit rest ∷ g.behind)) there ∙ by_column;
   }
     where
       here : suc j - 1 ≡ j
       here = omega arith
+
+      there : less ≡ j
+      there = omega arith
 
       place : at + suc j ≡ at + j + 1
       place = omega arith
@@ -65,13 +67,11 @@ module _ (n width : ℕ) (s : List ℕ) (at : ℕ) where
       g.held ∙ (λ i. overwritten s (start i) (all i))
 
 -- ---- blanks
--- one more blank
-pub next_blank : (s : List ℕ) (at k : ℕ) (d : List ℕ) → at + k < length s → d ≡ overwritten s at (blanks k) → set d (at + k) 32 ≡ overwritten s at (blanks (k + 1))
-next_blank s at k d h p =
-    let l : length (blanks k) ≡ k = length-replicate k 32 in
-    let m : length d ≡ length s = ap length p ∙ length_overwritten s at (blanks k) (omega arith) in
-    next s at k (blanks k) (32 ∷ []) d (set d (at + k) 32) l (omega arith) p (overwritten_one d (at + k) 32 (omega arith))
-    ∙ ap (overwritten s at) (replicate-append-replicate k 1 32)
+-- a part filled with blanks
+pub blanks_put : (s : List ℕ) (at n k : ℕ) (xs : List ℕ) → at + n < length s → k ≡ n → xs ≡ replicate (length (take k (drop at s))) 32 → put_mid at k s xs ≡ overwritten s at (blanks n)
+blanks_put s at n k xs h e p =
+    let l : length (take k (drop at s)) ≡ n = simp (length-take, length-drop) (omega arith) in
+    ap (put_mid at k s) (p ∙ ap (λ (m : ℕ). replicate m 32) l) ∙ mid_overwritten s at k (blanks n) (e ∙ sym (length-replicate {A = ℕ} n 32))
 
 -- a byte behind bytes that are put
 pub byte_behind : (s : List ℕ) (at k : ℕ) (xs d : List ℕ) (b : ℕ) → length xs ≡ k → at + k < length s → d ≡ overwritten s at xs → set d (at + k) b ≡ overwritten s at (xs ++ (b ∷ []))

@@ -7,7 +7,7 @@ use native.Mathlib.Numerals.{add-one}
 use native.Mathlib.Omega.{arith}
 use lib.Dec.{eqb}
 use lib.ListN.{length, get_or, take, drop, set, length-append, length-take, length-replicate, replicate-append-replicate}
-use borrow.Author.Tests.{le-leb, eq-eqb}
+use borrow.Author.Tests.{le-leb}
 use Rattle.le_read.specs.LeBytes.{inside, overwritten, number_at}
 use Rattle.le_read.proofs.Halves.{overwritten_append}
 use Rattle.le_read.proofs.RoundTrip.{length_overwritten}
@@ -18,7 +18,7 @@ use Rattle.record_check.proofs.Accepting.{number_is}
 use Rattle.tape_text.specs.Text.{decimal, hex, hex_line, message_of, message_fits, message_at, message_end}
 use Rattle.tape_text.proofs.Puts.{length_hex}
 use Rattle.page_line.specs.Line.{blanks, right_aligned, left_aligned, number_field, numbers, message_field, page_line, blank_line, with_feed, line_fits, line_at, blank_at}
-use Rattle.page_line.specs.TensModel.{tens_digit, tens}
+use Rattle.page_line.specs.TensModel.{tens}
 use Rattle.page_line.proofs.Aligned.{length_tens, aligned, length_aligned}
 use Rattle.page_line.proofs.Columns.{byte_behind}
 use Rattle.page_line.proofs.Laid.{laid_over}
@@ -171,10 +171,6 @@ module _ (r s : List ℕ) (at : ℕ) {t : Bool} (room : t ≡ inside 73 s at) wh
     unfolding line_fits
     decided b f = sym f ∙ (λ i. e i && room i)
 
-    pub kept : (a && t) ≡ false → Left false s
-    unfolding line_at
-    kept f = (decided false f, sym (ap (λ (b : Bool). cond b (overwritten s at (with_feed (page_line r))) s) (sym (decided false f))))
-
     pub done : {out : List ℕ} → (a && t) ≡ true → out ≡ overwritten s at (with_feed (page_line r)) → Left true out
     unfolding line_at
     done f p = (decided true f, p ∙ sym (ap (λ (b : Bool). cond b (overwritten s at (with_feed (page_line r))) s) (sym (decided true f))))
@@ -189,8 +185,3 @@ module _ (r s : List ℕ) (at : ℕ) {t : Bool} (room : t ≡ inside 73 s at) wh
   pub blank_done : {out : List ℕ} → t ≡ true → out ≡ overwritten s at (blanks 72 ++ (10 ∷ [])) → LeftBlank true out
   unfolding blank_at with_feed blank_line
   blank_done f p = (sym f ∙ room, p ∙ sym (ap (λ (b : Bool). cond b (overwritten s at (with_feed blank_line)) s) (sym room ∙ f)))
-
--- a 0 in front of a number is blank
-pub zero_blank : (n : ℕ) → n ≡ 0 → 32 ≡ tens_digit n
-unfolding tens_digit
-zero_blank n e = sym (ap (λ (b : Bool). cond b 32 (48 + n % 10)) (eq-eqb n 0 e))

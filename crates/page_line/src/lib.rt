@@ -7,8 +7,6 @@ ghost use Rattle.record_check.specs.Accepted.{accepted};
 ghost use Rattle.page_line.specs.Line.{number_field, numbers, page_line, with_feed, line_fits, line_at, blank_at};
 ghost use Rattle.page_line.specs.TensModel.{tens_digit, tens};
 
-use le_read::wide;
-
 // Bytes of a line, and of a line with its line feed.
 pub const TEXT_LEN: usize = 72;
 
@@ -26,13 +24,11 @@ const BLANK: u8 = 32;
 const LINE_FEED: u8 = 10;
 
 // The last digit of a number, blank for 0.
+#[tactic(auto, unfolding(crate::specs::TensModel::tens_digit))]
 fn tens_digit(n: u64) -> u8
     ensures { result ≡ tens_digit n }
 {
-    if n == 0 {
-        return BLANK;
-    }
-    48 + (n % 10) as u8
+    if n == 0 { BLANK } else { 48 + (n % 10) as u8 }
 }
 
 // A number in its columns, blanks in front of it, and for 0 blanks alone; from the last column to the first.
@@ -40,13 +36,10 @@ fn put_tens(n: u64, width: usize, out: &mut [u8], at: usize)
     requires { at + width ≤ length out.old }
     ensures { out.new ≡ overwritten out.old at (tens width n) }
 {
-    let mut k = width;
     let mut rest = n;
-    while 0 < k {
-        let column = at + (k - 1);
-        out[column] = tens_digit(rest);
-        rest = rest / 10;
-        k = k - 1;
+    for i in 0..width {
+        out[at + width - 1 - i] = tens_digit(rest);
+        rest /= 10;
     }
 }
 
@@ -75,11 +68,7 @@ fn put_blanks(n: usize, out: &mut [u8], at: usize)
     requires { at + n < length out.old }
     ensures { out.new ≡ overwritten out.old at (replicate n 32 ++ (10 ∷ [])) }
 {
-    let mut k: usize = 0;
-    while k < n {
-        out[at + k] = BLANK;
-        k = k + 1;
-    }
+    out[at..at + n].fill(BLANK);
     out[at + n] = LINE_FEED;
 }
 
@@ -91,33 +80,30 @@ fn put_line(rec: &[u8], out: &mut [u8], at: usize)
     let first = le_read_or_zero::u64_at(rec, 40);
     let kind = le_read_or_zero::byte_at(rec, 48);
     let count = le_read_or_zero::u16_at(rec, 49);
-    put_numbers(first, wide(kind), count as u64, out, at);
+    put_numbers(first, u64::from(kind), u64::from(count), out, at);
     let end = tape_text::message_at(rec, out, at + NUMBERS_WIDTH);
     put_blanks(at + LINE_LEN - end, out, end - 1);
 }
 
 // The line of an accepted record and its line feed, put at an offset. False where the record is not accepted or 73 bytes run past the end: then nothing is put.
+#[tactic(auto, unfolding(crate::specs::Line::line_fits, crate::specs::Line::line_at))]
 pub fn put(rec: &[u8], out: &mut [u8], at: usize) -> bool
     ensures { (result ≡ line_fits rec.now out.old at) × (out.new ≡ line_at rec.now out.old at) }
 {
-    let fits = le_read::holds(out.len(), at, LINE_LEN);
-    if record_check::accepts(rec) {
-        if fits {
-            put_line(rec, out, at);
-            return true;
-        }
+    if !record_check::accepts(rec) || !le_read::holds(out.len(), at, LINE_LEN) {
         return false;
     }
-    false
+    put_line(rec, out, at);
+    true
 }
 
 // A line of blanks and its line feed, put at an offset. False where they run past the end: then nothing is put.
 pub fn put_blank(out: &mut [u8], at: usize) -> bool
     ensures { (result ≡ inside 73 out.old at) × (out.new ≡ blank_at out.old at) }
 {
-    if le_read::holds(out.len(), at, LINE_LEN) {
-        put_blanks(TEXT_LEN, out, at);
-        return true;
+    if !le_read::holds(out.len(), at, LINE_LEN) {
+        return false;
     }
-    false
+    put_blanks(TEXT_LEN, out, at);
+    true
 }

@@ -1,4 +1,5 @@
 -- `EveryLine` holds.
+use Rattle.std.specs.Prelude.{Some, None}
 use Prim.Native.Nat.{ℕ, zero, suc, ◌+◌, ◌-◌, ◌≤◌, ◌<◌}
 use mathlib.Core.Path.{◌≡◌, refl, sym, ap, ◌∙◌, subst}
 use mathlib.Core.Bool.{Bool, true, false, cond}
@@ -17,7 +18,7 @@ use Rattle.page_line.specs.Line.{blanks, right_aligned, left_aligned, number_fie
 use Rattle.page_line.specs.TensModel.{tens}
 use Rattle.page_line.proofs.Aligned.{aligned, length_aligned}
 use Rattle.page_line.proofs.Fields.{length_field, length_numbers, length_line, below}
-use Rattle.page_read.specs.Fields.{digit_value, read_number, shown_byte, place, shown_message, is_type, shown_fields, no_fields, fields_of}
+use Rattle.page_read.specs.Fields.{digit_value, read_number, shown_byte, place, shown_message, is_type, shown_fields, fields_of}
 use Rattle.page_read.specs.ReadBack.{Bytes, ReadBack, EveryLine}
 use Rattle.page_read.proofs.Values.{type_at_most_14}
 use Rattle.page_read.proofs.Shown.{read_digit, read_aligned, read_byte, shown_at}
@@ -134,26 +135,26 @@ module _ (r : List ℕ) (ok : accepted r ≡ true) (bytes : Bytes r) where
       go true e = let z = eqb-true (type_of r) 6 e in turned z k (omega (arith, two z))
       go false e = straight (eqb-false (type_of r) 6 e)
 
-  is_line : fields_of l ≡ shown_fields l
+  is_line : fields_of l ≡ Some (shown_fields l)
   unfolding fields_of is_type
   is_line =
       let low = i.type in
-      ap (λ (b : Bool). cond b (cond (is_type (get_or l 17 0)) (shown_fields l) no_fields) no_fields) (eq-eqb (length l) 72 (length_line r i))
-      ∙ ap (λ (b : Bool). cond b (shown_fields l) no_fields)
+      ap (λ (b : Bool). cond b (cond (is_type (get_or l 17 0)) (Some (shown_fields l)) None) None) (eq-eqb (length l) 72 (length_line r i))
+      ∙ ap (λ (b : Bool). cond b (Some (shown_fields l)) None)
       (ap is_type column ∙ ap (λ (b : Bool). cond b false (ltb (48 + type_of r) 55)) (le-ltb (48 + type_of r) 48 (omega arith)) ∙ lt-ltb (48 + type_of r) 55 (omega arith))
 
   read_back : ReadBack r
   unfolding shown_fields
   read_back = record {
     width = length_line r i;
-    found = ap (λ x. x.found) is_line;
-    first = ap (λ x. x.first) is_line ∙ the_first;
-    type = ap (λ x. x.kind) is_line ∙ the_type;
-    count = ap (λ x. x.count) is_line ∙ the_count;
-    size = ap (λ x. x.size) is_line ∙ ap type_length the_type ∙ sym i.size;
+    fields = shown_fields l;
+    found = is_line;
+    first = the_first;
+    type = the_type;
+    count = the_count;
+    size = ap type_length the_type ∙ sym i.size;
     message = λ k h.
-        ap (λ x. get_or x.message k 0) is_line
-        ∙ ap (λ (type : ℕ). get_or (shown_message type l (type_length type)) k 0) the_type
+        ap (λ (type : ℕ). get_or (shown_message type l (type_length type)) k 0) the_type
         ∙ shown_at (type_of r) l (type_length (type_of r)) k (omega (arith, i.size))
         ∙ by_place k h;
   }

@@ -1,17 +1,17 @@
 -- Digits by the code's tests, a number column by column, and a message byte by byte.
 use Prim.Native.Nat.{ℕ, zero, suc, ◌+◌, ◌-◌, ◌*◌, ◌^◌, ◌≤◌, ◌<◌}
 use mathlib.Core.Path.{◌≡◌, refl, sym, ap, ◌∙◌}
-use mathlib.Core.Bool.{Bool, true, false, cond}
+use mathlib.Core.Bool.{Bool, cond}
 use mathlib.Core.List.{List, [], ◌∷◌, ◌++◌}
 use native.Mathlib.Nat.{pow-suc, pow-le-pow_right}
 use native.Mathlib.Numerals.{add-one}
 use native.Mathlib.Omega.{arith}
 use lib.Dec.{ltb, lit<}
-use lib.ListN.{length, get_or, take, drop, set, replicate, length-append, length-drop}
-use lib.Seq.{take-suc, get_or-drop, set_at, append_snoc}
-use borrow.Author.Tests.{lt-ltb, le-ltb, eq-eqb, ne_eqb}
+use lib.ListN.{length, get_or, take, drop, set, replicate, length-append}
+use lib.Seq.{take-suc, set_at, append_snoc}
+use borrow.Author.Tests.{lt-ltb, le-ltb}
 use Rattle.record_check.specs.Accepted.{type_length}
-use Rattle.page_read.specs.Fields.{digit_value, hex_value, read_from, read_number, shown_byte, place, shown_bytes, shown_message, is_type, shown_fields, no_fields, fields_of}
+use Rattle.page_read.specs.Fields.{digit_value, hex_value, read_from, read_number, shown_byte, place, shown_bytes, shown_message, shown_fields}
 use Rattle.page_read.specs.declared.LineFields.{LineFields}
 
 module _ (c : ℕ) where
@@ -26,9 +26,6 @@ module _ (c : ℕ) where
   pub to_9 : 48 ≤ c → c < 58 → c - 48 ≡ digit_value c
   to_9 h g = sym (from_0 h ∙ ap (λ (b : Bool). cond b (c - 48) 0) (lt-ltb c 58 g))
 
-  pub behind_9 : 48 ≤ c → 58 ≤ c → 0 ≡ digit_value c
-  behind_9 h g = sym (from_0 h ∙ ap (λ (b : Bool). cond b (c - 48) 0) (le-ltb c 58 g))
-
   pub before_a : c < 97 → digit_value c ≡ hex_value c
   unfolding hex_value
   before_a h = sym (ap (λ (b : Bool). cond b (digit_value c) (cond (ltb c 103) (c - 87) (digit_value c))) (lt-ltb c 97 h))
@@ -40,9 +37,6 @@ module _ (c : ℕ) where
   pub to_f : 97 ≤ c → c < 103 → c - 87 ≡ hex_value c
   to_f h g = sym (from_a h ∙ ap (λ (b : Bool). cond b (c - 87) (digit_value c)) (lt-ltb c 103 g))
 
-  pub behind_f : 97 ≤ c → 103 ≤ c → digit_value c ≡ hex_value c
-  behind_f h g = sym (from_a h ∙ ap (λ (b : Bool). cond b (c - 87) (digit_value c)) (le-ltb c 103 g))
-
 -- ---- a number
 pub read_more : (v : ℕ) (xs : List ℕ) (c : ℕ) → read_from v (xs ++ (c ∷ [])) ≡ read_from v xs * 10 + digit_value c
 unfolding read_from
@@ -50,12 +44,10 @@ read_more v [] c = refl
 read_more v (x ∷ xs) c = read_more (v * 10 + digit_value x) xs c
 
 -- one more column: the number, and its bound
-pub next_column : (l : List ℕ) (from k v d : ℕ) → from + k < length l → v ≡ read_number (take k (drop from l)) → v < 10 ^ k → d ≡ digit_value (get_or l (from + k) 0) → d < 10
-    → (v * 10 + d ≡ read_number (take (k + 1) (drop from l))) × (v * 10 + d < 10 ^ (k + 1))
+pub next_column : (columns : List ℕ) (k v d : ℕ) → k < length columns → v ≡ read_number (take k columns) → v < 10 ^ k → d ≡ digit_value (get_or columns k 0) → d < 10 → (v * 10 + d ≡ read_number (take (k + 1) columns)) × (v * 10 + d < 10 ^ (k + 1))
 unfolding read_number
-next_column l from k v d h e b q m = (
-  (λ i. e i * 10 + (q ∙ ap digit_value (sym (get_or-drop from l k 0))) i)
-      ∙ sym (ap (λ (n : ℕ). read_from 0 (take n (drop from l))) (add-one k) ∙ ap (read_from 0) (take-suc (drop from l) k 0 (omega (arith, length-drop from l))) ∙ read_more 0 (take k (drop from l)) (get_or (drop from l) k 0)),
+next_column columns k v d h e b q m = (
+  (λ i. e i * 10 + q i) ∙ sym (ap (λ (n : ℕ). read_from 0 (take n columns)) (add-one k) ∙ ap (read_from 0) (take-suc columns k 0 h) ∙ read_more 0 (take k columns) (get_or columns k 0)),
   let p : 10 ^ (k + 1) ≡ 10 ^ k * 10 = ap (λ (n : ℕ). 10 ^ n) (add-one k) ∙ pow-suc 10 k in omega arith,
 )
 
@@ -95,31 +87,13 @@ type_at_most_14 (suc (suc (suc (suc (suc zero))))) = omega arith
 type_at_most_14 (suc (suc (suc (suc (suc (suc zero)))))) = omega arith
 type_at_most_14 (suc (suc (suc (suc (suc (suc (suc n))))))) = omega arith
 
--- ---- the fields, and which lines have them
-abbrev made : Bool → ℕ → ℕ → ℕ → ℕ → List ℕ → LineFields
-made found first kind count size message = record { found = found; first = first; kind = kind; count = count; size = size; message = message }
+-- ---- the fields
+abbrev made : ℕ → ℕ → ℕ → ℕ → List ℕ → LineFields
+made first kind count size message = record { first = first; kind = kind; count = count; size = size; message = message }
 
-pub fields : (l : List ℕ) {first kind count size at : ℕ} {message : List ℕ} → kind ≡ digit_value (get_or l 17 0) → size ≡ type_length kind → first ≡ read_number (take 16 (drop 0 l)) → count ≡ read_number (take 4 (drop at l)) → at ≡ 19 → message ≡ shown_message kind l size
-    → made true first kind count size message ≡ shown_fields l
+pub fields : (l : List ℕ) {first kind count size : ℕ} {message : List ℕ} → kind ≡ digit_value (get_or l 17 0) → size ≡ type_length kind → first ≡ read_number (take 16 (drop 0 l)) → count ≡ read_number (take 4 (drop 19 l)) → message ≡ shown_message kind l size
+    → made first kind count size message ≡ shown_fields l
 unfolding shown_fields
-fields l {first} {kind} {count} {size} {at} {message} k s f c e m =
+fields l {first} {kind} {count} {size} {message} k s f c m =
     let s' : size ≡ type_length (digit_value (get_or l 17 0)) = s ∙ ap type_length k in
-    (λ i. made true (f i) (k i) ((c ∙ ap (λ (n : ℕ). read_number (take 4 (drop n l))) e) i) (s' i) ((m ∙ (λ j. shown_message (k j) l (s' j))) i))
-
-module _ (l : List ℕ) where
-  abbrev typed : LineFields
-  typed = cond (is_type (get_or l 17 0)) (shown_fields l) no_fields
-
-  pub read_there : {t : Bool} {r : LineFields} → length l ≡ 72 → t ≡ is_type (get_or l 17 0) → t ≡ true → r ≡ shown_fields l → r ≡ fields_of l
-  unfolding fields_of
-  read_there h e t p =
-      p ∙ sym (ap (λ (b : Bool). cond b typed no_fields) (eq-eqb (length l) 72 h) ∙ ap (λ (b : Bool). cond b (shown_fields l) no_fields) (sym e ∙ t))
-
-  pub no_type : {t : Bool} {r : LineFields} → length l ≡ 72 → t ≡ is_type (get_or l 17 0) → t ≡ false → r ≡ no_fields → r ≡ fields_of l
-  unfolding fields_of
-  no_type h e t p =
-      p ∙ sym (ap (λ (b : Bool). cond b typed no_fields) (eq-eqb (length l) 72 h) ∙ ap (λ (b : Bool). cond b (shown_fields l) no_fields) (sym e ∙ t))
-
-  pub no_line : {r : LineFields} → (length l ≡ 72 → ⊥) → r ≡ no_fields → r ≡ fields_of l
-  unfolding fields_of
-  no_line h p = p ∙ sym (ap (λ (b : Bool). cond b typed no_fields) (ne_eqb (length l) 72 h))
+    (λ i. made (f i) (k i) (c i) (s' i) ((m ∙ (λ j. shown_message (k j) l (s' j))) i))

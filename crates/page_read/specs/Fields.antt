@@ -1,5 +1,5 @@
 -- What a line of the record on paper shows (SPECIFICATION 11.6). A column is counted from 0.
-use Rattle.std.specs.Prelude.{ℕ, zero, suc, ◌+◌, ◌-◌, ◌*◌, Bool, true, false, cond, List, [], ◌∷◌, ◌++◌, eqb, ltb, length, get_or, take, drop, replicate}
+use Rattle.std.specs.Prelude.{ℕ, zero, suc, ◌+◌, ◌-◌, ◌*◌, Bool, false, cond, Option, Some, None, List, [], ◌∷◌, ◌++◌, eqb, ltb, length, get_or, take, drop, replicate}
 use Rattle.record_check.specs.Accepted.{type_length}
 use Rattle.page_read.specs.declared.LineFields.{LineFields}
 
@@ -45,7 +45,6 @@ unfoldable pub shown_fields : List ℕ → LineFields
 shown_fields l =
     let type = digit_value (get_or l 17 0) in
     record {
-      found = true;
       first = read_number (take 16 (drop 0 l));
       kind = type;
       count = read_number (take 4 (drop 19 l));
@@ -53,9 +52,6 @@ shown_fields l =
       message = shown_message type l (type_length type);
     }
 
-unfoldable pub no_fields : LineFields
-no_fields = record { found = false; first = 0; kind = 0; count = 0; size = 0; message = replicate 14 0 }
-
--- of 72 bytes with a type in its column; else nothing is found
-unfoldable pub fields_of : List ℕ → LineFields
-fields_of l = cond (eqb (length l) 72) (cond (is_type (get_or l 17 0)) (shown_fields l) no_fields) no_fields
+-- of 72 bytes with a type in its column; else none
+unfoldable pub fields_of : List ℕ → Option LineFields
+fields_of l = cond (eqb (length l) 72) (cond (is_type (get_or l 17 0)) (Some (shown_fields l)) None) None

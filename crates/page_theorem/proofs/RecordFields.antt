@@ -1,4 +1,5 @@
 -- The fields of a record's bytes, with other bytes behind them, are those that it was made of; and the length of a message is its type's (`type-sized`).
+use Rattle.std.specs.Prelude.{Some}
 use Prim.Native.Nat.{ℕ, zero, suc, ◌+◌, ◌^◌, ◌≤◌, ◌<◌}
 use mathlib.Core.Path.{◌≡◌, refl, sym, ap, ◌∙◌}
 use mathlib.Core.List.{List, [], ◌∷◌, ◌++◌, append_assoc}
@@ -10,7 +11,6 @@ use Rattle.le_read.specs.LeBytes.{le_of, bytes_of, le_at}
 use Rattle.le_read.proofs.Halves.{length_bytes}
 use Rattle.le_read.proofs.RoundTrip.{le_bytes}
 use Rattle.message.specs.declared.MessageType.{MessageType}
-use Rattle.message.specs.declared.TypeFound.TheVariants.{Of}
 use Rattle.message.specs.Types.{type_numbered}
 use Rattle.message.specs.Making.{kind_of}
 use Rattle.message_config.specs.declared.MessageConfig.{MessageConfig}
@@ -25,7 +25,7 @@ unfolding le_at
 number_at_lem front n v more at e h = ap le_of (ap (take n) (drop_at front (bytes_of n v ++ more) at e) ∙ take_at (bytes_of n v) more n (length_bytes n v)) ∙ le_bytes n v ∙ mod-eq_of_lt h
 
 -- a type from 0 to 6, with its length
-pub type_sized : (n : ℕ) (t : MessageType) → type_numbered n ≡ Of t → (n ≤ 6) × (message_length (kind_of (type_drawn (type_numbered n))) ≡ type_length n)
+pub type_sized : (n : ℕ) (t : MessageType) → type_numbered n ≡ Some t → (n ≤ 6) × (message_length (kind_of (type_drawn (type_numbered n))) ≡ type_length n)
 unfolding type_numbered type_drawn kind_of message_length type_length
 type_sized zero t e = (omega arith, refl)
 type_sized (suc zero) t e = (omega arith, refl)

@@ -1,9 +1,9 @@
 -- `RunRecordsAccepted` holds: each record is of a reply of a draw in range, which starts below 2^52 and adds to at most 1,094 samples.
+use Rattle.std.specs.Prelude.{Some, None}
 use Prim.Native.Nat.{ℕ, suc, ◌+◌, ◌*◌, ◌/◌, ◌%◌, ◌^◌, ◌≤◌}
 use mathlib.Core.Path.{◌≡◌, refl, sym, ap, ◌∙◌, subst}
 use mathlib.Core.Bool.{Bool, true, cond}
 use mathlib.Core.List.{List, [], ◌∷◌, ◌++◌, map}
-use mathlib.Core.Option.{none}
 use native.Mathlib.Omega.{arith}
 use lib.Ieee.{Float, nan}
 use lib.ListN.{length, drop, length-append}
@@ -39,7 +39,6 @@ use Rattle.run_theorem.specs.OpenedRuns.{Run, Opens, gen, bench, bench_calls, re
 use Rattle.run_theorem.proofs.Demand3.{opened_runs}
 use Rattle.record_check.specs.Accepted.{accepted}
 use Rattle.record_check.specs.FirstFault.{fault_from, first_fault}
-use Rattle.record_check.specs.declared.RecordFault.TheVariants.{NoFault, At}
 use Rattle.record_check.proofs.Accepting.{accepts_in_range}
 use Rattle.page_theorem.specs.RunRecords.{RunRecordsAccepted}
 use Rattle.page_theorem.proofs.RecordFields.{type_sized, record_in_range}
@@ -53,10 +52,10 @@ unfolding config_of config_with kind_drawn
 sized f t d e = e
 
 -- one accepted record in front of others
-in_front : (r rest : List ℕ) (n k : ℕ) → length r ≡ 66 → accepted (r ++ rest) ≡ true → fault_from n rest (k + 1) ≡ NoFault → fault_from (suc n) (r ++ rest) k ≡ NoFault
+in_front : (r rest : List ℕ) (n k : ℕ) → length r ≡ 66 → accepted (r ++ rest) ≡ true → fault_from n rest (k + 1) ≡ None → fault_from (suc n) (r ++ rest) k ≡ None
 unfolding fault_from
 in_front r rest n k h e more =
-    ap (λ (b : Bool). cond b (fault_from n (drop 66 (r ++ rest)) (k + 1)) (At k)) e
+    ap (λ (b : Bool). cond b (fault_from n (drop 66 (r ++ rest)) (k + 1)) (Some k)) e
     ∙ ap (λ (l : List ℕ). fault_from n l (k + 1)) (drop_at r rest 66 h)
     ∙ more
 
@@ -77,13 +76,13 @@ module _ (f : Filters) (R : FiltersInRange f) (total : ℕ) (few : total ≤ 2 ^
 
   record Right (rs : List (Reply G)) : Type 0 where
     size : length (lines rs) ≡ 66 * length rs
-    none_at_fault : (k : ℕ) → fault_from (length rs) (lines rs) k ≡ NoFault
+    none_at_fault : (k : ℕ) → fault_from (length rs) (lines rs) k ≡ None
 
   no_reply : Right []
   unfolding fault_from
   no_reply = record { size = refl; none_at_fault = λ k. refl }
 
-  one_more : (t : Float) (d : RepresentableDraw) (s : ℕ) → L.Good t → (draws f).fault d ≡ none → kind G t d ≡ reply s → (rs : List (Reply G)) → Right rs → Right (reply_of G t d s ∷ rs)
+  one_more : (t : Float) (d : RepresentableDraw) (s : ℕ) → L.Good t → (draws f).fault d ≡ None → kind G t d ≡ reply s → (rs : List (Reply G)) → Right rs → Right (reply_of G t d s ∷ rs)
   one_more t d s g h e rs q =
       let c = config_of f.distributions t d.draw in
       let n = length ((draws f).adds t d s) in
@@ -103,7 +102,7 @@ module _ (f : Filters) (R : FiltersInRange f) (total : ℕ) (few : total ≤ 2 ^
   all_right : (ds : List RepresentableDraw) → AllInRange G ds → Right (replies G G.t0 ds)
   all_right ds h = all_replies G L Right no_reply one_more G.t0 ds L.good_first h
 
-  pub accepted_lines : (ds : List RepresentableDraw) → AllInRange G ds → (length (plain_lines G ds) % 66 ≡ 0) × (first_fault (plain_lines G ds) ≡ NoFault)
+  pub accepted_lines : (ds : List RepresentableDraw) → AllInRange G ds → (length (plain_lines G ds) % 66 ≡ 0) × (first_fault (plain_lines G ds) ≡ None)
   unfolding first_fault
   accepted_lines ds h =
       let q = all_right ds h in
@@ -121,12 +120,12 @@ module _ (taps_s taps_ac : List Float) (settings : List ℕ) (given : Opening.Op
   few : r.state.total ≤ 2 ^ 52
   few = (opened_run_in_range taps_s taps_ac settings given r.state o.answers).1
 
-  records_accepted : (cs : List CallBuffers) → (length (records_written r cs) % 66 ≡ 0) × (first_fault (records_written r cs) ≡ NoFault)
+  records_accepted : (cs : List CallBuffers) → (length (records_written r cs) % 66 ≡ 0) × (first_fault (records_written r cs) ≡ None)
   records_accepted cs =
       let D = opened_runs taps_s taps_ac settings given r o in
       let f = filters_of r.state r.buffers.mode_s r.buffers.mode_ac in
       let taken = (Model.reached (gen r) (instance_laws f filters_in_range r.state.total few) nan (bench_calls r cs)).in_range in
-      subst (λ (l : List ℕ). (length l % 66 ≡ 0) × (first_fault l ≡ NoFault)) (sym (D.records cs ∙ ap (plain_lines (gen r)) (D.taken cs)))
+      subst (λ (l : List ℕ). (length l % 66 ≡ 0) × (first_fault l ≡ None)) (sym (D.records cs ∙ ap (plain_lines (gen r)) (D.taken cs)))
       (accepted_lines f filters_in_range r.state.total few (bench r cs).taken taken)
 
 pub run_records_accepted : RunRecordsAccepted

@@ -1,16 +1,15 @@
 -- The finder finds the first pair (`finds`): by induction over what is left of the list.
+use Rattle.std.specs.Prelude.{Option, Some, None}
 use Rattle.std.proofs.Common.{◌≡◌, ℕ, zero, suc, ◌+◌, ◌<◌, Bool, true, false, ◌&&◌, T, List, [], ◌∷◌, get_or, sym, refl, ap, ◌∙◌, subst, add-zero, zero-add, arith}
 use lib.Ieee.{Float, nan, lt, le}
 use lib.Ieee.Fits.{and_i, and_l, and_r}
-use Rattle.pulse_shape.specs.declared.Crossing.{Crossing}
-use Rattle.pulse_shape.specs.declared.Crossing.TheVariants.{At, None}
 use Rattle.pulse_shape.specs.GroupDelay.{crosses, delay_at, choose, delay_from, group_delay}
 use Rattle.pulse_group_delay.specs.FirstPair.{PairAt, FirstPair, Finds, first, nowhere}
 
 module _ (sps : ℕ) (level : Float) where
   -- the same of a list whose first value stands at index j
-  abbrev Says : ℕ → List Float → Crossing → Type 0
-  Says j l (At d) = (i : ℕ) × FirstPair level l i × (delay_at sps level (j + i) (get_or l i nan) (get_or l (suc i) nan) ≡ d)
+  abbrev Says : ℕ → List Float → Option Float → Type 0
+  Says j l (Some d) = (i : ℕ) × FirstPair level l i × (delay_at sps level (j + i) (get_or l i nan) (get_or l (suc i) nan) ≡ d)
   Says j l None = (i : ℕ) → PairAt level l i → ⊥
 
   pair : (a b : Float) → crosses level a b ≡ true → T (le a level) × T (lt level b)
@@ -31,10 +30,10 @@ module _ (sps : ℕ) (level : Float) where
       later e i f zero h p = no_pair a b e p.1 p.2
       later e i f (suc k) h p = f k (omega arith) (omega (arith, p.0), p.1, p.2)
 
-      go : (t : Bool) → crosses level a b ≡ t → (x : Crossing) → Says (j + 1) (b ∷ l) x → Says j (a ∷ b ∷ l) (choose t (At (delay_at sps level j a b)) x)
+      go : (t : Bool) → crosses level a b ≡ t → (x : Option Float) → Says (j + 1) (b ∷ l) x → Says j (a ∷ b ∷ l) (choose t (Some (delay_at sps level j a b)) x)
       go true e x h =
           (0, record { here = (omega arith, (pair a b e).0, (pair a b e).1); none_before = λ k h. absurd (omega arith) }, ap (λ (n : ℕ). delay_at sps level n a b) (add-zero j))
-      go false e (At d) (i, p, f) = (
+      go false e (Some d) (i, p, f) = (
         suc i,
         record { here = (omega (arith, p.here.0), p.here.1, p.here.2); none_before = later e i p.none_before },
         ap (λ (n : ℕ). delay_at sps level n (get_or (b ∷ l) i nan) (get_or (b ∷ l) (suc i) nan)) (next j i) ∙ f,
@@ -52,6 +51,6 @@ module _ (sps : ℕ) (level : Float) where
   unfolding group_delay
   finds p = go (delay_from sps level 0 p) (says 0 p)
     where
-      go : (x : Crossing) → Says 0 p x → Finds sps level p x
-      go (At d) (i, f, e) = subst (λ (x : Float). Finds sps level p (At x)) (ap (λ (n : ℕ). delay_at sps level n (get_or p i nan) (get_or p (suc i) nan)) (sym (zero-add i)) ∙ e) (first i f)
+      go : (x : Option Float) → Says 0 p x → Finds sps level p x
+      go (Some d) (i, f, e) = subst (λ (x : Float). Finds sps level p (Some x)) (ap (λ (n : ℕ). delay_at sps level n (get_or p i nan) (get_or p (suc i) nan)) (sym (zero-add i)) ∙ e) (first i f)
       go None h = nowhere h

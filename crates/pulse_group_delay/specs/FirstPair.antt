@@ -1,9 +1,7 @@
 -- What the finder of crossings promises (SPECIFICATION 6.3): the delay is that of the first pair of values of which the level is at or above the first and below the second.
-use Rattle.std.specs.Prelude.{ℕ, suc, ◌<◌, T, List, length, slice_index_or, Float}
+use Rattle.std.specs.Prelude.{ℕ, suc, ◌<◌, T, List, length, slice_index_or, Float, Option, Some, None}
 use Rattle.std.specs.Float.{nan}
 use Rattle.std.specs.Float.Ieee.{lt, le}
-use Rattle.pulse_shape.specs.declared.Crossing.{Crossing}
-use Rattle.pulse_shape.specs.declared.Crossing.TheVariants.{At, None}
 use Rattle.pulse_shape.specs.GroupDelay.{delay_at}
 
 -- the level is at or above value i and below value i + 1; equal to the first counts, equal to the second does not, and a falling pair never does
@@ -16,6 +14,6 @@ pub record FirstPair (level : Float) (p : List Float) (i : ℕ) : Type 0 where
   pub none_before : (k : ℕ) → k < i → PairAt level p k → ⊥
 
 -- what is found: the delay of the first pair, or nothing where there is no pair
-pub data Finds (sps : ℕ) (level : Float) (p : List Float) : Crossing → Type 0 where
-  first : (i : ℕ) → FirstPair level p i → Finds sps level p (At (delay_at sps level i (slice_index_or p i nan) (slice_index_or p (suc i) nan)))
+pub data Finds (sps : ℕ) (level : Float) (p : List Float) : Option Float → Type 0 where
+  first : (i : ℕ) → FirstPair level p i → Finds sps level p (Some (delay_at sps level i (slice_index_or p i nan) (slice_index_or p (suc i) nan)))
   nowhere : ((i : ℕ) → PairAt level p i → ⊥) → Finds sps level p None

@@ -1,6 +1,6 @@
 -- A map in which the positions of a list are marked one after the other is the map of that list, position by position and whole.
 use mathlib.Core.Path.{◌≡◌, refl, sym, ap, subst, ◌∙◌}
-use mathlib.Core.Bool.{Bool, true, false}
+use mathlib.Core.Bool.{Bool, true, false, ◌||◌, or-true, or-false}
 use mathlib.Core.List.{List, [], ◌∷◌, ◌++◌}
 use Prim.Native.Nat.{ℕ, zero, suc, ◌+◌, ◌-◌, ◌<◌}
 use native.Mathlib.Nat.{add-zero, zero-add, le_of_suc-le-suc, not-suc-le-zero}
@@ -9,7 +9,7 @@ use borrow.Author.Tests.{eqb-true, eqb-false}
 use lib.Dec.{eqb}
 use lib.ListN.{length, get_or, set, replicate, length-set, length-replicate, get_or-replicate}
 use lib.Seq.{get_or-set_same, get_or-set_other, ext_get_or}
-use Rattle.pulse_map.specs.Map.{or, pulse_at, map_from, map_of}
+use Rattle.pulse_map.specs.Map.{pulse_at, map_from, map_of}
 
 unfoldable pub mark : List ℕ → List Bool → List Bool
 mark [] l = l
@@ -25,18 +25,6 @@ unfolding mark
 mark_length [] l = refl
 mark_length (p ∷ ps) l = mark_length ps (set l p true) ∙ length-set l p true
 
-or_true : (a : Bool) → or a true ≡ true
-or_true true = refl
-or_true false = refl
-
-pub or_false : (a : Bool) → or a false ≡ a
-or_false true = refl
-or_false false = refl
-
-pub or_assoc : (a b c : Bool) → or a (or b c) ≡ or (or a b) c
-or_assoc true b c = refl
-or_assoc false b c = refl
-
 -- the position just marked
 hit : (l : List Bool) (p k : ℕ) → k < length l → eqb p k ≡ true → get_or (set l p true) k false ≡ true
 hit l p k h e =
@@ -47,12 +35,12 @@ missed : (l : List Bool) (p k : ℕ) → eqb p k ≡ false → get_or (set l p t
 missed l p k e = get_or-set_other l p k true false (λ q. eqb-false p k e (sym q))
 
 one_more : (t a : Bool) (l : List Bool) (p k : ℕ) → k < length l → eqb p k ≡ t
-    → or a (get_or (set l p true) k false) ≡ or (or t a) (get_or l k false)
-one_more true a l p k h e = ap (or a) (hit l p k h e) ∙ or_true a
-one_more false a l p k h e = ap (or a) (missed l p k e)
+    → (a || get_or (set l p true) k false) ≡ (t || a || get_or l k false)
+one_more true a l p k h e = ap (λ (x : Bool). a || x) (hit l p k h e) ∙ or-true a
+one_more false a l p k h e = ap (λ (x : Bool). a || x) (missed l p k e)
 
 mark_at : (ps : List ℕ) (l : List Bool) (k : ℕ) → k < length l
-    → get_or (mark ps l) k false ≡ or (pulse_at ps k) (get_or l k false)
+    → get_or (mark ps l) k false ≡ (pulse_at ps k || get_or l k false)
 unfolding mark pulse_at
 mark_at [] l k h = refl
 mark_at (p ∷ ps) l k h =
@@ -78,8 +66,8 @@ position_by_position ps len k h = map_from_at ps 0 240 k h ∙ ap (pulse_at ps) 
 marked_at : (ps : List ℕ) (k : ℕ) → k < 240 → get_or (mark ps (replicate 240 false)) k false ≡ get_or (map_from ps 0 240) k false
 marked_at ps k h =
     mark_at ps (replicate 240 false) k (simp length-replicate h)
-    ∙ ap (or (pulse_at ps k)) (get_or-replicate 240 k false false h)
-    ∙ or_false (pulse_at ps k)
+    ∙ ap (λ (x : Bool). pulse_at ps k || x) (get_or-replicate 240 k false false h)
+    ∙ or-false (pulse_at ps k)
     ∙ sym (map_from_at ps 0 240 k h ∙ ap (pulse_at ps) (zero-add k))
 
 pub marked : (ps : List ℕ) → mark ps (replicate 240 false) ≡ map_from ps 0 240

@@ -1,7 +1,7 @@
 -- A Mode A/C pulse stands at a position exactly where SPECIFICATION 7.7 says: at 0 and 42, at 51 for SPI, at the position of each bit that is set, and nowhere else.
 -- Of `position_of` only this is used: it rises, and lies between 0 and 42.
 use mathlib.Core.Path.{◌≡◌, refl, sym, ap, ◌∙◌}
-use mathlib.Core.Bool.{Bool, true, false}
+use mathlib.Core.Bool.{Bool, true, false, ◌||◌, or-false, or_assoc}
 use mathlib.Core.List.{List, [], ◌∷◌, ◌++◌}
 use Prim.Native.Nat.{ℕ, zero, suc, ◌+◌, ◌≤◌, ◌<◌}
 use native.Mathlib.Decide.{dec_lt}
@@ -11,14 +11,13 @@ use lib.Dec.{eqb}
 use Rattle.mode_ac.specs.Data.{bit_of}
 use Rattle.mode_ac.specs.Positions.{position_of}
 use Rattle.mode_ac.proofs.RisingPositions.{position_above, position_below, rising}
-use Rattle.pulse_map.specs.Map.{or, pulse_at}
+use Rattle.pulse_map.specs.Map.{pulse_at}
 use Rattle.pulse_map.specs.ModeAC.{mode_ac_length, only_if, data_positions, mode_ac_positions}
-use Rattle.pulse_map.proofs.Marked.{or_false, or_assoc}
 
-at_append : (ps qs : List ℕ) (k : ℕ) → pulse_at (ps ++ qs) k ≡ or (pulse_at ps k) (pulse_at qs k)
+at_append : (ps qs : List ℕ) (k : ℕ) → pulse_at (ps ++ qs) k ≡ (pulse_at ps k || pulse_at qs k)
 unfolding pulse_at
 at_append [] qs k = refl
-at_append (p ∷ ps) qs k = ap (or (eqb p k)) (at_append ps qs k) ∙ or_assoc (eqb p k) (pulse_at ps k) (pulse_at qs k)
+at_append (p ∷ ps) qs k = ap (λ (x : Bool). eqb p k || x) (at_append ps qs k) ∙ sym (or_assoc (eqb p k) (pulse_at ps k) (pulse_at qs k))
 
 only_at : (b : Bool) (p k : ℕ) → eqb p k ≡ true → pulse_at (only_if b p) k ≡ b
 unfolding pulse_at
@@ -37,7 +36,7 @@ unfolding data_positions pulse_at
 off_data d zero n k f = refl
 off_data d (suc left) n k f =
     at_append (only_if (bit_of d n) (position_of n)) (data_positions d left (suc n)) k
-    ∙ ap (λ (b : Bool). or b (pulse_at (data_positions d left (suc n)) k))
+    ∙ ap (λ (b : Bool). b || pulse_at (data_positions d left (suc n)) k)
     (only_off (bit_of d n) (position_of n) k (f n (omega arith) (omega arith)))
     ∙ off_data d left (suc n) k (λ j a b. f j (omega arith) (omega arith))
 
@@ -48,15 +47,15 @@ on_data d (suc left) n j a b l =
     at_append (only_if (bit_of d n) (position_of n)) (data_positions d left (suc n)) (position_of j)
     ∙ elim (dec_lt n j) [
       | yes p ↦
-          ap (λ (x : Bool). or x (pulse_at (data_positions d left (suc n)) (position_of j)))
+          ap (λ (x : Bool). x || pulse_at (data_positions d left (suc n)) (position_of j))
           (only_off (bit_of d n) (position_of n) (position_of j) (ne_eqb (position_of n) (position_of j) (λ q. omega (arith, rising n j p (omega arith)))))
           ∙ on_data d left (suc n) j p (omega arith) (omega arith)
       | no p ↦
           let q : n ≡ j = omega arith in
-          ap (or (pulse_at (only_if (bit_of d n) (position_of n)) (position_of j)))
+          ap (λ (x : Bool). pulse_at (only_if (bit_of d n) (position_of n)) (position_of j) || x)
           (off_data d left (suc n) (position_of j)
           (λ i s t. ne_eqb (position_of i) (position_of j) (λ e. omega (arith, rising j i (omega arith) (omega arith)))))
-          ∙ or_false (pulse_at (only_if (bit_of d n) (position_of n)) (position_of j))
+          ∙ or-false (pulse_at (only_if (bit_of d n) (position_of n)) (position_of j))
           ∙ only_at (bit_of d n) (position_of n) (position_of j) (eq-eqb (position_of n) (position_of j) (ap position_of q))
           ∙ ap (bit_of d) q
     ]
@@ -64,9 +63,9 @@ on_data d (suc left) n j a b l =
 -- the framing pulses and SPI come before and after the bits
 parts : (d : ℕ) (spi : Bool) (k : ℕ)
     → pulse_at (mode_ac_positions d spi) k
-    ≡ or (eqb 0 k) (or (pulse_at (data_positions d 12 0) k) (or (eqb 42 k) (pulse_at (only_if spi 51) k)))
+    ≡ (eqb 0 k || (pulse_at (data_positions d 12 0) k || (eqb 42 k || pulse_at (only_if spi 51) k)))
 unfolding mode_ac_positions pulse_at
-parts d spi k = ap (or (eqb 0 k)) (at_append (data_positions d 12 0) (42 ∷ only_if spi 51) k)
+parts d spi k = ap (λ (x : Bool). eqb 0 k || x) (at_append (data_positions d 12 0) (42 ∷ only_if spi 51) k)
 
 pub first_frame : (d : ℕ) (spi : Bool) → pulse_at (mode_ac_positions d spi) 0 ≡ true
 unfolding mode_ac_positions pulse_at
@@ -77,11 +76,11 @@ late : (d k : ℕ) → 42 ≤ k → pulse_at (data_positions d 12 0) k ≡ false
 late d k h = off_data d 12 0 k (λ j a b. ne_eqb (position_of j) k (λ e. omega (arith, position_below j (omega arith))))
 
 pub second_frame : (d : ℕ) (spi : Bool) → pulse_at (mode_ac_positions d spi) 42 ≡ true
-second_frame d spi = parts d spi 42 ∙ ap (λ (b : Bool). or b true) (late d 42 (omega arith))
+second_frame d spi = parts d spi 42 ∙ ap (λ (b : Bool). b || true) (late d 42 (omega arith))
 
 pub identification : (d : ℕ) (spi : Bool) → pulse_at (mode_ac_positions d spi) 51 ≡ spi
 identification d spi =
-    parts d spi 51 ∙ ap (λ (b : Bool). or b (pulse_at (only_if spi 51) 51)) (late d 51 (omega arith)) ∙ only_at spi 51 51 refl
+    parts d spi 51 ∙ ap (λ (b : Bool). b || pulse_at (only_if spi 51) 51) (late d 51 (omega arith)) ∙ only_at spi 51 51 refl
 
 -- the position of bit n, if it is set
 pub data_position : (d : ℕ) (spi : Bool) (n : ℕ) → n < 12 → pulse_at (mode_ac_positions d spi) (position_of n) ≡ bit_of d n
@@ -94,7 +93,7 @@ data_position d spi n h =
       on_data d 12 0 n (omega arith) (omega arith) (omega arith),
       ne_eqb 42 (position_of n) (λ q. omega arith),
       only_off spi 51 (position_of n) (ne_eqb 51 (position_of n) (λ q. omega arith)),
-    ) (or_false (bit_of d n))
+    ) (or-false (bit_of d n))
 
 -- nowhere else
 pub nowhere_else : (d : ℕ) (spi : Bool) (k : ℕ) → (k ≡ 0 → ⊥) → (k ≡ 42 → ⊥) → (k ≡ 51 → ⊥)

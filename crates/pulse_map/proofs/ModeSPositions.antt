@@ -1,16 +1,15 @@
 -- A Mode S pulse stands at a position exactly where SPECIFICATION 7.6 says: 0, 2, 7, 9; of the pair of each bit, at its first position for 1 and at its second for 0;
 -- and nowhere beyond the message.
 use mathlib.Core.Path.{◌≡◌, refl, ap, ◌∙◌}
-use mathlib.Core.Bool.{Bool, false}
+use mathlib.Core.Bool.{Bool, false, ◌||◌, or-false}
 use mathlib.Core.List.{List, [], ◌∷◌}
 use Prim.Native.Nat.{ℕ, zero, suc, ◌+◌, ◌*◌, ◌≤◌, ◌<◌}
 use native.Mathlib.Decide.{dec_lt}
 use native.Mathlib.Omega.{arith}
 use borrow.Author.Tests.{eq-eqb, ne_eqb}
 use lib.Dec.{eqb}
-use Rattle.pulse_map.specs.Map.{or, pulse_at}
+use Rattle.pulse_map.specs.Map.{pulse_at}
 use Rattle.pulse_map.specs.ModeS.{mode_s_bits, mode_s_length, byte_bit, bit_of, pair_position, bit_positions, mode_s_positions}
-use Rattle.pulse_map.proofs.Marked.{or_false}
 use Rattle.pulse_map.proofs.ModeSLoop.{pair_position_lem}
 
 bit_below : (m : List ℕ) (n : ℕ) → bit_of m n < 2
@@ -45,8 +44,8 @@ in_pair m (suc left) n j k a b l h =
           rw (ne_eqb (pair_position n (bit_of m n)) k (λ q. omega arith)) (in_pair m left (suc n) j k p (omega arith) l h)
       | no p ↦
           let q : n ≡ j = omega arith in
-          ap (or (eqb (pair_position n (bit_of m n)) k)) (before_pairs m left (suc n) k (omega arith))
-          ∙ or_false (eqb (pair_position n (bit_of m n)) k)
+          ap (λ (x : Bool). eqb (pair_position n (bit_of m n)) k || x) (before_pairs m left (suc n) k (omega arith))
+          ∙ or-false (eqb (pair_position n (bit_of m n)) k)
           ∙ ap (λ (x : ℕ). eqb (pair_position x (bit_of m x)) k) q
     ]
 

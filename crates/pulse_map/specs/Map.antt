@@ -1,15 +1,11 @@
 -- A pulse map, from the list of the positions where pulses stand.
-use Rattle.std.specs.Prelude.{ℕ, zero, suc, Bool, true, false, List, [], ◌∷◌, eqb}
+use Rattle.std.specs.Prelude.{ℕ, zero, suc, Bool, false, ◌||◌, List, [], ◌∷◌, eqb}
 use Rattle.pulse_map.specs.declared.Pulses.{Pulses}
-
-abbrev pub or : Bool → Bool → Bool
-or true b = true
-or false b = b
 
 -- a pulse stands at position k: k is one of the positions
 unfoldable pub pulse_at : List ℕ → ℕ → Bool
 pulse_at [] k = false
-pulse_at (p ∷ ps) k = or (eqb p k) (pulse_at ps k)
+pulse_at (p ∷ ps) k = eqb p k || pulse_at ps k
 
 -- the same for each of n positions, from k on
 unfoldable pub map_from : List ℕ → ℕ → ℕ → List Bool

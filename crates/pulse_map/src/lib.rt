@@ -15,13 +15,15 @@ pub struct Pulses {
 }
 
 // Bit k of a byte, highest first.
+#[tactic(auto, unfolding(crate::specs::ModeS::byte_bit))]
 fn bit(byte: u8, k: usize) -> usize
     requires { k < 8 }
     ensures { (result ≡ byte_bit byte k) × (result < 2) }
 {
-    ((byte as usize) >> (7 - k)) % 2
+    (usize::from(byte) >> (7 - k)) % 2
 }
 
+#[tactic(auto, unfolding(crate::specs::ModeS::mode_s_bits))]
 fn num_bits(long: bool) -> usize
     ensures { (result ≡ mode_s_bits long) × (result ≤ 112) }
 {
@@ -37,14 +39,14 @@ pub fn mode_s_pulses(bytes: [u8; 14], long: bool) -> Pulses
     on[2] = true;
     on[7] = true;
     on[9] = true;
-    let mut n: usize = 0;
-    while n < bits {
+    for n in 0..bits {
         let second = 1 - bit(bytes[n / 8], n % 8);
         on[16 + 2 * n + second] = true;
-        n += 1;
     }
-    let len = 16 + 2 * bits;
-    Pulses { on: on, len: len }
+    Pulses {
+        on,
+        len: 16 + 2 * bits,
+    }
 }
 
 pub fn mode_ac_pulses(data: u16, spi: bool) -> Pulses
@@ -52,17 +54,15 @@ pub fn mode_ac_pulses(data: u16, spi: bool) -> Pulses
 {
     let mut on = [false; MAX_POSITIONS];
     on[0] = true;
-    let mut n: usize = 0;
-    while n < 12 {
+    for n in 0..12 {
         if mode_ac::bit_of(data, n) {
             on[mode_ac::position_of(n)] = true;
         }
-        n += 1;
     }
     on[42] = true;
     if spi {
         on[51] = true;
-        return Pulses { on: on, len: 52 };
+        return Pulses { on, len: 52 };
     }
-    Pulses { on: on, len: 43 }
+    Pulses { on, len: 43 }
 }

@@ -1,5 +1,6 @@
 -- A delay lies within its prototype: where values of at most 16 in size cross a positive level, the delay is finite, at least 0 and below 7 * sps samples, which is 28 at 4 samples per pulse and 56 at 8.
 -- The quotient is of a smaller difference by a larger one, and rounding keeps order.
+use Rattle.std.specs.Prelude.{Option, Some, None}
 use Rattle.std.proofs.Common.{◌≡◌, ℕ, zero, suc, ◌+◌, ◌-◌, ◌*◌, ◌/◌, ◌^◌, ◌<◌, ◌≤◌, Bool, true, false, ◌&&◌, T, List, [], ◌∷◌, length, get_or, ℤ, pos, sym, refl, ap, ◌∙◌, subst, zero-le, le_trans, le_of_eq, lt_of_lt_of_le, lt_of_le_of_lt, le_of_lt, mul-le-mul_right, mul_assoc, mul_comm, add-mul, mul-le-mul_left, mul-lt-mul_of_pos_right, one-mul, zero-mul, mul-div_cancel, arith, lit<, lit≤, pow_pos}
 use lib.Ieee.{Float, nan, inf, fin, binary32, binary64, up, down, neg, add, sub, div, lt, le, eq, fits, of_int, of_bits}
 use lib.Ieee.Fits.{and_l, and_r, down_pos, fits_widens}
@@ -13,8 +14,6 @@ use Rattle.constants.specs.declared.SamplesPerPulse.TheVariants.{Four, Eight}
 use Rattle.constants.specs.Setting.{per_pulse}
 use Rattle.constants.specs.Rate.{branches, prototype_length}
 use Rattle.constants.proofs.Settings.{rate_pos, rate_few}
-use Rattle.pulse_shape.specs.declared.Crossing.{Crossing}
-use Rattle.pulse_shape.specs.declared.Crossing.TheVariants.{At, None}
 use Rattle.pulse_shape.specs.Accepted.{within16, all_within16}
 use Rattle.pulse_shape.specs.GroupDelay.{crosses, delay_at, choose, delay_from, group_delay, mode_ac_ratio, over, mode_ac_group_delay}
 
@@ -237,7 +236,7 @@ module _ (sps : ℕ) (level : Float) (S : 0 < sps) (FL : T (fits binary64 level)
       last : (j n : ℕ) → j + 1 < n → suc j ≤ n - 1
       last j n h = omega arith
 
-  along : (l : List Float) (j : ℕ) → Held l → T (all_within16 l) → j + length l ≤ places → delay_from sps level j l ≡ At d → Reached
+  along : (l : List Float) (j : ℕ) → Held l → T (all_within16 l) → j + length l ≤ places → delay_from sps level j l ≡ Some d → Reached
   unfolding delay_from all_within16
   along [] j H w h e = let y : ◌≡◌ {A = ℕ} 0 1 = cc in absurd (omega arith)
   along (a ∷ []) j H w h e = let y : ◌≡◌ {A = ℕ} 0 1 = cc in absurd (omega arith)
@@ -252,7 +251,7 @@ module _ (sps : ℕ) (level : Float) (S : 0 < sps) (FL : T (fits binary64 level)
       on : (j n m : ℕ) → j + suc (suc n) ≤ m → j + 1 + suc n ≤ m
       on j n m h = omega arith
 
-      go : (t : Bool) → crosses level a b ≡ t → choose t (At (delay_at sps level j a b)) (delay_from sps level (j + 1) (b ∷ l)) ≡ At d → (delay_from sps level (j + 1) (b ∷ l) ≡ At d → Reached) → Reached
+      go : (t : Bool) → crosses level a b ≡ t → choose t (Some (delay_at sps level j a b)) (delay_from sps level (j + 1) (b ∷ l)) ≡ Some d → (delay_from sps level (j + 1) (b ∷ l) ≡ Some d → Reached) → Reached
       go true c f later = found j a b (inside j (length l) places h) (H 0) (H 1) (and_l (within16 a) (within16 b && all_within16 l) w) (and_l (within16 b) (all_within16 l) rest) (true_is (crosses level a b) c) (cc)
       go false c f later = later f
 
@@ -263,7 +262,7 @@ below_7 sps n S h = lt_of_le_of_lt h (lt_of_lt_of_le (mul-lt-mul_of_pos_right (l
     less : (s : ℕ) → 0 < s → 64 * s * 7 - 1 < 7 * s * 64
     less s h = omega arith
 
-pub delay_most : (sps : ℕ) (level : Float) (p : List Float) (d : Float) → 0 < sps → sps ≤ 2 ^ 30 → T (fits binary32 level) → T (lt zero_f level) → Held p → all_within16 p ≡ true → length p ≤ prototype_length sps → group_delay sps level p ≡ At d
+pub delay_most : (sps : ℕ) (level : Float) (p : List Float) (d : Float) → 0 < sps → sps ≤ 2 ^ 30 → T (fits binary32 level) → T (lt zero_f level) → Held p → all_within16 p ≡ true → length p ≤ prototype_length sps → group_delay sps level p ≡ Some d
     → (n : ℕ) × Units d n × (n ≤ (prototype_length sps - 1) * 2 ^ 1068)
 unfolding group_delay
 delay_most sps level p d S few FL z H w h e =
@@ -288,7 +287,7 @@ below Eight d n u h = lt_from d 7 (pos 3) n (56 * 2 ^ 1074) u refl h
 within_of : (s : SamplesPerPulse) (d : Float) → (n : ℕ) × Units d n × (n ≤ (prototype_length (per_pulse s) - 1) * 2 ^ 1068) → T (le zero_f d) × T (lt d (seven_pulses s))
 within_of s d r = (nonneg d r.0 r.1, below s d r.0 r.1 (below_7 (per_pulse s) r.0 (rate_pos s) r.2))
 
-pub delay_within : (s : SamplesPerPulse) (level : Float) (p : List Float) (d : Float) → T (fits binary32 level) → T (lt zero_f level) → Held p → all_within16 p ≡ true → length p ≤ prototype_length (per_pulse s) → group_delay (per_pulse s) level p ≡ At d → T (le zero_f d) × T (lt d (seven_pulses s))
+pub delay_within : (s : SamplesPerPulse) (level : Float) (p : List Float) (d : Float) → T (fits binary32 level) → T (lt zero_f level) → Held p → all_within16 p ≡ true → length p ≤ prototype_length (per_pulse s) → group_delay (per_pulse s) level p ≡ Some d → T (le zero_f d) × T (lt d (seven_pulses s))
 delay_within s level p d FL z H w h e = within_of s d (delay_most (per_pulse s) level p d (rate_pos s) (rate_few s) FL z H w h e)
 
 -- ---- Mode A/C: the ratio is from 1 to 2, so its delay is no larger
@@ -306,11 +305,11 @@ smaller : (x n q k : ℕ) → n ≤ q * x → 1 * 2 ^ 1074 ≤ k → n * 2 ^ 107
 smaller x n q k h l = le_trans (mul-le-mul_right (2 ^ 1074) h) (mul-le-mul_left (q * x) (le_trans (le_of_eq (sym (one-mul (2 ^ 1074)))) l))
 
 -- the delay that a Mode A/C delay comes from
-from_ratio : (c : Crossing) (d : Float) → over mode_ac_ratio c ≡ At d → (x : Float) × (c ≡ At x) × (div binary64 x mode_ac_ratio ≡ d)
-from_ratio (At x) d e = (x, refl, cc)
+from_ratio : (c : Option Float) (d : Float) → over mode_ac_ratio c ≡ Some d → (x : Float) × (c ≡ Some x) × (div binary64 x mode_ac_ratio ≡ d)
+from_ratio (Some x) d e = (x, refl, cc)
 from_ratio None d e = let y : ◌≡◌ {A = ℕ} 0 1 = cc in absurd (omega arith)
 
-pub mode_ac_delay_most : (sps : ℕ) (level : Float) (p : List Float) (d : Float) → 0 < sps → sps ≤ 2 ^ 30 → T (fits binary32 level) → T (lt zero_f level) → Held p → all_within16 p ≡ true → length p ≤ prototype_length sps → mode_ac_group_delay sps level p ≡ At d
+pub mode_ac_delay_most : (sps : ℕ) (level : Float) (p : List Float) (d : Float) → 0 < sps → sps ≤ 2 ^ 30 → T (fits binary32 level) → T (lt zero_f level) → Held p → all_within16 p ≡ true → length p ≤ prototype_length sps → mode_ac_group_delay sps level p ≡ Some d
     → (n : ℕ) × Units d n × (n ≤ (prototype_length sps - 1) * 2 ^ 1068)
 unfolding mode_ac_group_delay
 mode_ac_delay_most sps level p d S few FL z H w h e =
@@ -324,5 +323,5 @@ mode_ac_delay_most sps level p d S few FL z H w h e =
     room : (s : ℕ) → s ≤ 2 ^ 30 → 64 * s * 7 - 1 < 2 ^ 53
     room s h = omega arith
 
-pub mode_ac_delay_within : (s : SamplesPerPulse) (level : Float) (p : List Float) (d : Float) → T (fits binary32 level) → T (lt zero_f level) → Held p → all_within16 p ≡ true → length p ≤ prototype_length (per_pulse s) → mode_ac_group_delay (per_pulse s) level p ≡ At d → T (le zero_f d) × T (lt d (seven_pulses s))
+pub mode_ac_delay_within : (s : SamplesPerPulse) (level : Float) (p : List Float) (d : Float) → T (fits binary32 level) → T (lt zero_f level) → Held p → all_within16 p ≡ true → length p ≤ prototype_length (per_pulse s) → mode_ac_group_delay (per_pulse s) level p ≡ Some d → T (le zero_f d) × T (lt d (seven_pulses s))
 mode_ac_delay_within s level p d FL z H w h e = within_of s d (mode_ac_delay_most (per_pulse s) level p d (rate_pos s) (rate_few s) FL z H w h e)

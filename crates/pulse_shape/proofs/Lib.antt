@@ -3,5 +3,4 @@ pub mod DelayWithin
 pub mod Whole
 pub mod Delays
 pub mod Fill
-pub mod Trapezoids
 pub mod LoopSteps

@@ -1,10 +1,14 @@
 -- One step of each loop that reads, and its end: what is left of the computation is the same.
-use Rattle.std.proofs.Common.{◌≡◌, ℕ, zero, suc, ◌+◌, ◌-◌, ◌<◌, ◌≤◌, Bool, true, false, ◌&&◌, List, [], ◌∷◌, length, get_or, drop, sym, refl, ap, ◌∙◌, add-one, arith, length-drop, drop_of_length-le, drop-cons}
+use Rattle.std.specs.Prelude.{Some, None}
+use Rattle.std.proofs.Common.{◌≡◌, ℕ, zero, suc, ◌+◌, ◌-◌, ◌<◌, ◌≤◌, Bool, true, false, List, [], ◌∷◌, length, get_or, drop, sym, refl, ap, ◌∙◌, add-one, arith, length-drop, drop-cons}
 use lib.Ieee.{Float, binary32, nan, add, mul}
-use Rattle.pulse_shape.specs.declared.Crossing.TheVariants.{At, None}
-use Rattle.pulse_shape.specs.Convolve.{products_from}
-use Rattle.pulse_shape.specs.Accepted.{within16, all_within16}
+use Rattle.std.proofs.lemmas.Bool.Decides.{nat_tests}
+use Rattle.pulse_shape.specs.Convolve.{products_from, first_term}
 use Rattle.pulse_shape.specs.GroupDelay.{crosses, delay_at, choose, delay_from}
+
+-- the first index, as a difference that stops at 0
+pub first_index : (l j : ℕ) → j + 1 - l ≡ first_term l j
+first_index l j = grind (arith, nat_tests)
 
 pub products_step : (a b : List Float) (j e k : ℕ) (sum : Float) → k < e
     → products_from a b j (e - k) k sum ≡ products_from a b j (e - (k + 1)) (k + 1) (add binary32 sum (mul binary32 (get_or a k nan) (get_or b (j - k) nan)))
@@ -22,24 +26,16 @@ products_end a b j e k sum h =
 drop_next : (l : List Float) (j : ℕ) → j < length l → drop j l ≡ get_or l j nan ∷ drop (j + 1) l
 drop_next l j h = drop-cons l j nan h ∙ ap (λ (i : ℕ). get_or l j nan ∷ drop i l) (sym (add-one j))
 
-pub within_step : (l : List Float) (j : ℕ) → j < length l → all_within16 (drop j l) ≡ (within16 (get_or l j nan) && all_within16 (drop (j + 1) l))
-unfolding all_within16
-within_step l j h = ap all_within16 (drop_next l j h)
-
-pub within_end : (l : List Float) (j : ℕ) → length l ≤ j → all_within16 (drop j l) ≡ true
-unfolding all_within16
-within_end l j h = ap all_within16 (drop_of_length-le l h)
-
 pub delay_step : (sps : ℕ) (level : Float) (l : List Float) (j : ℕ) → j + 1 < length l
     → delay_from sps level j (drop j l)
-    ≡ choose (crosses level (get_or l j nan) (get_or l (j + 1) nan)) (At (delay_at sps level j (get_or l j nan) (get_or l (j + 1) nan))) (delay_from sps level (j + 1) (drop (j + 1) l))
+    ≡ choose (crosses level (get_or l j nan) (get_or l (j + 1) nan)) (Some (delay_at sps level j (get_or l j nan) (get_or l (j + 1) nan))) (delay_from sps level (j + 1) (drop (j + 1) l))
 unfolding delay_from
 delay_step sps level l j h =
     let a = get_or l j nan in
     let b = get_or l (j + 1) nan in
     let next : drop (j + 1) l ≡ b ∷ drop (j + 1 + 1) l = drop_next l (j + 1) h in
     ap (delay_from sps level j) (drop_next l j (omega arith) ∙ ap (λ (t : List Float). a ∷ t) next)
-    ∙ ap (λ (t : List Float). choose (crosses level a b) (At (delay_at sps level j a b)) (delay_from sps level (j + 1) t)) (sym next)
+    ∙ ap (λ (t : List Float). choose (crosses level a b) (Some (delay_at sps level j a b)) (delay_from sps level (j + 1) t)) (sym next)
 
 pub delay_end : (sps : ℕ) (level : Float) (l : List Float) (j : ℕ) → length l ≤ j + 1 → delay_from sps level j (drop j l) ≡ None
 unfolding delay_from
@@ -57,19 +53,12 @@ delay_end sps level (a ∷ l) (suc j) h = last (drop j l) j (omega (arith, short
     short : (l : List Float) (j : ℕ) → length l ≤ j + 1 → length (drop j l) ≤ 1
     short l j h = simp length-drop (omega arith)
 
--- by the outcome of the step's test
-pub within_stop : (l : List Float) (j : ℕ) → j < length l → within16 (get_or l j nan) ≡ false → all_within16 (drop j l) ≡ false
-within_stop l j h e = within_step l j h ∙ ap (λ (t : Bool). t && all_within16 (drop (j + 1) l)) e
-
-pub within_on : (l : List Float) (j : ℕ) → j < length l → within16 (get_or l j nan) ≡ true → all_within16 (drop j l) ≡ all_within16 (drop (j + 1) l)
-within_on l j h e = within_step l j h ∙ ap (λ (t : Bool). t && all_within16 (drop (j + 1) l)) e
-
 pub delay_stop : (sps : ℕ) (level : Float) (l : List Float) (j : ℕ) → j + 1 < length l → crosses level (get_or l j nan) (get_or l (j + 1) nan) ≡ true
-    → delay_from sps level j (drop j l) ≡ At (delay_at sps level j (get_or l j nan) (get_or l (j + 1) nan))
+    → delay_from sps level j (drop j l) ≡ Some (delay_at sps level j (get_or l j nan) (get_or l (j + 1) nan))
 delay_stop sps level l j h e =
-    delay_step sps level l j h ∙ ap (λ (t : Bool). choose t (At (delay_at sps level j (get_or l j nan) (get_or l (j + 1) nan))) (delay_from sps level (j + 1) (drop (j + 1) l))) e
+    delay_step sps level l j h ∙ ap (λ (t : Bool). choose t (Some (delay_at sps level j (get_or l j nan) (get_or l (j + 1) nan))) (delay_from sps level (j + 1) (drop (j + 1) l))) e
 
 pub delay_on : (sps : ℕ) (level : Float) (l : List Float) (j : ℕ) → j + 1 < length l → crosses level (get_or l j nan) (get_or l (j + 1) nan) ≡ false
     → delay_from sps level j (drop j l) ≡ delay_from sps level (j + 1) (drop (j + 1) l)
 delay_on sps level l j h e =
-    delay_step sps level l j h ∙ ap (λ (t : Bool). choose t (At (delay_at sps level j (get_or l j nan) (get_or l (j + 1) nan))) (delay_from sps level (j + 1) (drop (j + 1) l))) e
+    delay_step sps level l j h ∙ ap (λ (t : Bool). choose t (Some (delay_at sps level j (get_or l j nan) (get_or l (j + 1) nan))) (delay_from sps level (j + 1) (drop (j + 1) l))) e

@@ -1,12 +1,10 @@
 -- The delay of a prototype: `compute_group_delay`, with the level as an argument.
-use Rattle.std.specs.Prelude.{ℕ, ◌+◌, ◌/◌, Bool, true, false, ◌&&◌, List, [], ◌∷◌, pos, Float}
+use Rattle.refusals.specs.declared.Refusal.{Refusal}
+use Rattle.std.specs.Prelude.{ℕ, ◌+◌, ◌/◌, Bool, true, false, ◌&&◌, List, [], ◌∷◌, pos, Float, Option, Some, None, Result, Ok, Err}
 use Rattle.std.specs.Float.{binary64}
 use Rattle.std.specs.Float.Ieee.{of_int, add, sub, div, lt, le}
 use Rattle.constants.specs.Rate.{branches}
 use Rattle.refusals.specs.declared.Refusal.TheVariants.{Prototype}
-use Rattle.refusals.specs.Answer.{Answer, accepted, refused}
-use Rattle.pulse_shape.specs.declared.Crossing.{Crossing}
-use Rattle.pulse_shape.specs.declared.Crossing.TheVariants.{At, None}
 
 -- the level is at or above the first value and below the second
 unfoldable pub crosses : Float → Float → Float → Bool
@@ -17,32 +15,32 @@ unfoldable pub delay_at : ℕ → Float → ℕ → Float → Float → Float
 delay_at sps level j a b =
     div binary64 (add binary64 (of_int binary64 (pos j)) (div binary64 (sub binary64 level a) (sub binary64 b a))) (of_int binary64 (pos (branches sps / sps)))
 
-abbrev pub choose : Bool → Crossing → Crossing → Crossing
+abbrev pub choose : Bool → Option Float → Option Float → Option Float
 choose true a b = a
 choose false a b = b
 
 -- the first pair that the level crosses, the first value standing at index j
-unfoldable pub delay_from : ℕ → Float → ℕ → List Float → Crossing
+unfoldable pub delay_from : ℕ → Float → ℕ → List Float → Option Float
 delay_from sps level j [] = None
 delay_from sps level j (a ∷ []) = None
-delay_from sps level j (a ∷ b ∷ rest) = choose (crosses level a b) (At (delay_at sps level j a b)) (delay_from sps level (j + 1) (b ∷ rest))
+delay_from sps level j (a ∷ b ∷ rest) = choose (crosses level a b) (Some (delay_at sps level j a b)) (delay_from sps level (j + 1) (b ∷ rest))
 
-unfoldable pub group_delay : ℕ → Float → List Float → Crossing
+unfoldable pub group_delay : ℕ → Float → List Float → Option Float
 group_delay sps level prototype = delay_from sps level 0 prototype
 
 -- 1500.0 / 1450.0: how much faster the Mode A/C filterbank runs than the Mode S one
 unfoldable pub mode_ac_ratio : Float
 mode_ac_ratio = div binary64 (of_int binary64 (pos 1500)) (of_int binary64 (pos 1450))
 
-abbrev pub over : Float → Crossing → Crossing
-over ratio (At delay) = At (div binary64 delay ratio)
+abbrev pub over : Float → Option Float → Option Float
+over ratio (Some delay) = Some (div binary64 delay ratio)
 over ratio None = None
 
 -- the delay of a Mode A/C prototype, in samples of the Mode S rate
-unfoldable pub mode_ac_group_delay : ℕ → Float → List Float → Crossing
+unfoldable pub mode_ac_group_delay : ℕ → Float → List Float → Option Float
 mode_ac_group_delay sps level prototype = over mode_ac_ratio (group_delay sps level prototype)
 
 -- a crossing in the specification's terms: a delay, or, where the level is not crossed, refusal 6
-unfoldable pub crossing_answer : Crossing → Answer Float
-crossing_answer (At delay) = accepted delay
-crossing_answer None = refused Prototype
+unfoldable pub crossing_answer : Option Float → Result Float Refusal
+crossing_answer (Some delay) = Ok delay
+crossing_answer None = Err Prototype

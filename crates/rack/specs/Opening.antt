@@ -1,13 +1,10 @@
 -- Opening a rack (SPECIFICATION 15.1): the refusals 9 and 17, the rack that is opened, and its memory.
-use Rattle.std.specs.Prelude.{Bool, true, false, cond, not, ◌&&◌, ◌||◌, List, [], ◌∷◌, ◌++◌, ℕ, eqb, leb, pos, Float, length, drop, replicate}
-use Rattle.std.proofs.Math.Option.{Option, none, some}
+use Rattle.std.specs.Prelude.{Result, Ok, Err, Bool, true, false, cond, not, ◌&&◌, ◌||◌, List, [], ◌∷◌, ◌++◌, ℕ, eqb, leb, pos, Float, length, drop, replicate}
 use Rattle.std.specs.Float.{fin}
 use Rattle.std.specs.Float.Ieee.{le}
 use Rattle.refusals.specs.declared.Refusal.{Refusal}
 use Rattle.refusals.specs.declared.Refusal.TheVariants.{Length, Feeds}
-use Rattle.refusals.specs.Number.{number_of}
 use Rattle.rack.specs.declared.Rack.{Rack}
-use Rattle.rack.specs.declared.Answered.{Answered}
 use Rattle.rack.specs.Feeds.{most_feeds, longest_delay, memory_length, nought, silent}
 
 abbrev pub one : Float
@@ -32,16 +29,8 @@ unfoldable pub wrong_feeds : List ℕ → List Float → Bool
 wrong_feeds delays gains = eqb (length delays) 0 || not (leb (length delays) most_feeds) || not (each_fits delays gains)
 
 -- the refusal of an opening that is given a memory of this length, 9 before 17
-unfoldable pub refusal : ℕ → List ℕ → List Float → Option Refusal
-refusal memory delays gains = cond (wrong_lengths memory delays gains) (some Length) (cond (wrong_feeds delays gains) (some Feeds) none)
-
--- a refusal's number, 0 for none
-unfoldable pub numbered : Option Refusal → ℕ
-numbered none = 0
-numbered (some q) = number_of q
-
-unfoldable pub refusal_of : ℕ → List ℕ → List Float → ℕ
-refusal_of memory delays gains = numbered (refusal memory delays gains)
+unfoldable pub checked : ℕ → List ℕ → List Float → Result (Unit {0}) Refusal
+checked memory delays gains = cond (wrong_lengths memory delays gains) (Err Length) (cond (wrong_feeds delays gains) (Err Feeds) (Ok tt))
 
 -- sixteen entries, zeros behind those of the feeds
 unfoldable pub delay_row : List ℕ → List ℕ
@@ -56,12 +45,13 @@ rack_of delays gains = record { feeds = length delays; seen = 0; delays = delay_
 
 -- what an opening answers, and its memory afterwards
 pub record OpenLeft : Type 0 where
-  pub answered : Answered
+  pub answer : Result Rack Refusal
   pub memory : List Float
 
--- A refusal answers a rack of zeros and leaves the memory as it is. Accepted, the memory is all 0.0.
+-- A refusal leaves the memory as it is. Accepted, the memory is all 0.0.
+unfoldable pub left_by : List Float → List ℕ → List Float → Result (Unit {0}) Refusal → OpenLeft
+left_by memory delays gains (Ok u) = record { answer = Ok (rack_of delays gains); memory = silent memory_length }
+left_by memory delays gains (Err q) = record { answer = Err q; memory = memory }
+
 unfoldable pub open_left : List Float → List ℕ → List Float → OpenLeft
-open_left memory delays gains =
-    cond (eqb (refusal_of (length memory) delays gains) 0)
-    (record { answered = record { rack = rack_of delays gains; refusal = 0 }; memory = silent memory_length })
-    (record { answered = record { rack = rack_of [] []; refusal = refusal_of (length memory) delays gains }; memory = memory })
+open_left memory delays gains = left_by memory delays gains (checked (length memory) delays gains)

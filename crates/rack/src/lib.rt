@@ -1,9 +1,8 @@
 // A rack of delayed feeds: its state, and opening it (SPECIFICATION 15.1).
 #![tactic(auto)]
 
-ghost use Rattle.std.specs.Prelude.{◌≡◌, ◌≤◌, length};
-ghost use Rattle.rack.specs.Feeds.{silent};
-ghost use Rattle.rack.specs.Opening.{gain_fits, each_fits, refusal_of, delay_row, gain_row, open_left};
+ghost use Rattle.std.specs.Prelude.{◌≡◌, length};
+ghost use Rattle.rack.specs.Opening.{gain_fits, each_fits, checked, open_left};
 
 use refusals::Refusal;
 
@@ -22,26 +21,16 @@ pub const MEMORY_LEN: usize = 8190;
 pub struct Rack {
     pub feeds: u64,
     pub seen: u64,
-    pub delays: [u64; 16],
-    pub gains: [f32; 16],
-}
-
-// What opening and a call answer: the rack for the next call, and a refusal's number, 0 for none.
-#[repr(C)]
-#[derive(Clone, Copy)]
-pub struct Answered {
-    pub rack: Rack,
-    pub refusal: u64,
+    pub delays: [u64; MOST_FEEDS],
+    pub gains: [f32; MOST_FEEDS],
 }
 
 // From 0 to 1. -0.0 is in range, a NaN is not.
+#[tactic(auto, unfolding(crate::specs::Opening::gain_fits))]
 fn gain_fits(gain: f32) -> bool
     ensures { result ≡ gain_fits gain }
 {
-    if gain >= 0.0 {
-        return gain <= 1.0;
-    }
-    false
+    gain >= 0.0 && gain <= 1.0
 }
 
 // Every delay and gain is in range.
@@ -49,106 +38,42 @@ fn each_fits(delays: &[u64], gains: &[f32]) -> bool
     requires { length delays.now ≡ length gains.now }
     ensures { result ≡ each_fits delays.now gains.now }
 {
-    let mut i: usize = 0;
-    while i < delays.len() {
-        if delays[i] > LONGEST_DELAY {
+    for i in 0..delays.len() {
+        if delays[i] > LONGEST_DELAY || !gain_fits(gains[i]) {
             return false;
         }
-        if !gain_fits(gains[i]) {
-            return false;
-        }
-        i = i + 1;
     }
     true
 }
 
-// The refusal's number for these settings and this length of the memory, 0 for none.
-fn refusal_of(memory: usize, delays: &[u64], gains: &[f32]) -> u64
-    ensures { result ≡ refusal_of memory delays.now gains.now }
+// What these settings and this length of the memory are refused with.
+#[tactic(auto, unfolding(crate::specs::Opening::checked, crate::specs::Opening::wrong_lengths, crate::specs::Opening::wrong_feeds))]
+fn check(memory: usize, delays: &[u64], gains: &[f32]) -> Result<(), Refusal>
+    ensures { result ≡ checked memory delays.now gains.now }
 {
-    if memory != MEMORY_LEN {
-        return refusals::number(Refusal::Length);
+    if memory != MEMORY_LEN || delays.len() != gains.len() {
+        return Err(Refusal::Length);
     }
-    if delays.len() != gains.len() {
-        return refusals::number(Refusal::Length);
+    if delays.is_empty() || delays.len() > MOST_FEEDS || !each_fits(delays, gains) {
+        return Err(Refusal::Feeds);
     }
-    if delays.len() == 0 {
-        return refusals::number(Refusal::Feeds);
-    }
-    if delays.len() > MOST_FEEDS {
-        return refusals::number(Refusal::Feeds);
-    }
-    if each_fits(delays, gains) {
-        return 0;
-    }
-    refusals::number(Refusal::Feeds)
+    Ok(())
 }
 
-// The delays in a row of sixteen, 0 behind them.
-fn delay_row(delays: &[u64]) -> [u64; 16]
-    requires { length delays.now ≤ 16 }
-    ensures { result ≡ delay_row delays.now }
+// Opens a rack; refused, it leaves the memory as it is.
+pub fn open(memory: &mut [f32], delays: &[u64], gains: &[f32]) -> Result<Rack, Refusal>
+    ensures { record { answer = result; memory = memory.new } ≡ open_left memory.old delays.now gains.now }
 {
-    let mut row = [0u64; 16];
-    let mut i: usize = 0;
-    while i < delays.len() {
-        row[i] = delays[i];
-        i = i + 1;
-    }
-    row
-}
-
-// The gains in a row of sixteen, 0.0 behind them.
-fn gain_row(gains: &[f32]) -> [f32; 16]
-    requires { length gains.now ≤ 16 }
-    ensures { result ≡ gain_row gains.now }
-{
-    let mut row = [0.0f32; 16];
-    let mut i: usize = 0;
-    while i < gains.len() {
-        row[i] = gains[i];
-        i = i + 1;
-    }
-    row
-}
-
-// Sets all of the memory to 0.0.
-fn clear(memory: &mut [f32])
-    ensures { memory.new ≡ silent (length memory.old) }
-{
-    let mut i: usize = 0;
-    while i < memory.len() {
-        memory[i] = 0.0;
-        i = i + 1;
-    }
-}
-
-// Opens a rack.
-pub fn open(memory: &mut [f32], delays: &[u64], gains: &[f32]) -> Answered
-    ensures { record { answered = result; memory = memory.new } ≡ open_left memory.old delays.now gains.now }
-{
-    let refusal = refusal_of(memory.len(), delays, gains);
-    if refusal != 0 {
-        return Answered {
-            rack: Rack {
-                feeds: 0,
-                seen: 0,
-                delays: [0u64; 16],
-                gains: [0.0f32; 16],
-            },
-            refusal: refusal,
-        };
-    }
-    clear(memory);
-    let delays_row = delay_row(delays);
-    let gains_row = gain_row(gains);
-    Answered {
-        rack: Rack {
-            feeds: delays.len() as u64,
-            seen: 0,
-            delays: delays_row,
-            gains: gains_row,
-        },
-        refusal: 0,
-    }
+    check(memory.len(), delays, gains)?;
+    memory.fill(0.0);
+    let mut delay_row = [0; MOST_FEEDS];
+    delay_row[..delays.len()].copy_from_slice(delays);
+    let mut gain_row = [0.0; MOST_FEEDS];
+    gain_row[..gains.len()].copy_from_slice(gains);
+    Ok(Rack {
+        feeds: delays.len() as u64,
+        seen: 0,
+        delays: delay_row,
+        gains: gain_row,
+    })
 }

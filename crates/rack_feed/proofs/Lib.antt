@@ -1,2 +1,2 @@
 pub mod ThreeParts
-pub mod Test
+pub mod Products

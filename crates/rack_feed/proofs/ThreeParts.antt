@@ -1,19 +1,18 @@
 -- A feed written in three stretches is the feed of the definition.
 use mathlib.Core.Bool.{Bool, true, false}
-use mathlib.Core.List.{List, ◌++◌, append_assoc}
+use mathlib.Core.List.{List, [], ◌++◌, append_assoc, append-nil}
 use mathlib.Core.Path.{◌≡◌, refl, sym, ap, subst, ◌∙◌}
 use Prim.Native.Nat.{ℕ, ◌+◌, ◌-◌, ◌*◌, ◌≤◌, ◌<◌, min}
 use native.Mathlib.Omega.{arith}
 use borrow.Author.Tests.{leb-true, leb-false}
 use lib.Dec.{leb}
 use lib.Ieee.{Float}
-use lib.ListN.{length, take, drop, length-append, length-drop}
-use lib.Seq.{length-take-le, take_all, drop-drop, drop-append-le}
+use borrow.Rule.Slice.PartMut.{put_mid, post_of}
+use lib.ListN.{length, take, drop, length-append, length-drop, drop_of_length-le}
+use lib.Seq.{length-take-le, take_all, take_at, drop-drop, drop-append-le}
 use Rattle.rack.specs.Feeds.{silent, scaled}
 use Rattle.rack.proofs.Lists.{take_append, length_silent, take_silent, drop_silent, length_scaled, scaled_append, take_scaled, drop_scaled}
-use Rattle.rack.specs.WrittenModel.{overwritten}
 use Rattle.rack.specs.Memory.{feed_of}
-use Rattle.rack.proofs.Stretches.{write_both}
 
 either : (a b : ℕ) {P : Type 0} → (a ≤ b → P) → (b < a → P) → P
 either a b {P} f g = go (leb a b) refl
@@ -37,13 +36,6 @@ behind b d e = omega arith
 
 fits_memory : (w back h u : ℕ) → h ≤ back → back ≤ w → h - u ≤ w - (w - back + u)
 fits_memory w back h u g hb = omega arith
-
--- the second stretch is inside the memory and inside the room
-pub inside_memory : (n back known u h w : ℕ) → u ≡ min n (back - known) → h ≡ min n back → back ≤ w → w - back + u + (h - u) ≤ w
-inside_memory n back known u h w eu eh hb = omega arith
-
-pub inside_room : (at n back known u h room room' : ℕ) → u ≡ min n (back - known) → h ≡ min n back → at + n ≤ room → room' ≡ room → at + u + (h - u) ≤ room'
-inside_room at n back known u h room room' eu eh ho e = omega arith
 
 -- ---- a feed
 -- w numbers of memory, of which `known` were seen, and n numbers of samples; a feed that looks back over `back` numbers
@@ -117,59 +109,66 @@ length_feed gain delay seen memory samples h =
       length-drop (2 * (4095 - seen)) memory,
     ))
 
--- three stretches, one behind the other
-three_written : (xs ys zs room r₁ r₂ r₃ : List Float) (at u h n : ℕ) → length xs ≡ u → u ≤ h → length ys ≡ h - u → h ≤ n → length zs ≡ n - h → at + n ≤ length room
-    → r₁ ≡ overwritten at xs room → r₂ ≡ overwritten (at + u) ys r₁ → r₃ ≡ overwritten (at + h) zs r₂ → r₃ ≡ overwritten at (xs ++ ys ++ zs) room
-three_written xs ys zs room r₁ r₂ r₃ at u h n lx hu ly hn lz ho e₁ e₂ e₃ =
-    e₃
-    ∙ ap (λ (l : List Float). overwritten (at + h) zs l) (e₂ ∙ ap (λ (l : List Float). overwritten (at + u) ys l) e₁ ∙ write_both room xs ys at u lx (omega arith))
-    ∙ write_both room (xs ++ ys) zs at h (omega (arith, length-append xs ys)) (omega arith)
+-- ---- three stretches, one behind the other
+three_written : (xs ys zs to written : List Float) (u h : ℕ) → length xs ≡ u → u ≤ h → length ys ≡ h - u → written ≡ put_mid u (h - u) (xs ++ drop u to) ys
+    → take h written ++ (zs ++ post_of h (length written - h) written) ≡ xs ++ ys ++ zs
+three_written xs ys zs to written u h lx hu ly e =
+    (λ i. front i ++ (zs ++ behind_all i))
+    ∙ ap (λ (l : List Float). xs ++ ys ++ l) (append-nil zs)
+  where
+    rest : List Float
+    rest = post_of u (h - u) (xs ++ drop u to)
+
+    parts : written ≡ xs ++ ys ++ rest
+    parts = e ∙ ap (λ (l : List Float). l ++ (ys ++ rest)) (take_at xs (drop u to) u lx) ∙ sym (append_assoc xs ys rest)
+
+    front : take h written ≡ xs ++ ys
+    front = ap (take h) parts ∙ take_at (xs ++ ys) rest h (omega (arith, length-append xs ys))
+
+    behind_all : post_of h (length written - h) written ≡ []
+    behind_all = drop_of_length-le (drop h written) {i = length written - h} (omega (arith, length-drop h written))
 
 -- the three stretches that `write_feed` writes
-pub feed_written_lem : (gain : Float) (delay seen : ℕ) (memory samples room r₁ r₂ r₃ : List Float) (at back known unseen held : ℕ)
-    → length memory ≡ 8190 → at + length samples ≤ length room → back ≡ 2 * min delay 4095 → known ≡ 2 * min seen 4095
+pub feed_written : (gain : Float) (delay seen : ℕ) (memory samples to xs ys zs : List Float) (back known unseen held : ℕ)
+    → length memory ≡ 8190 → length to ≡ length samples → back ≡ 2 * min delay 4095 → known ≡ 2 * min seen 4095
     → unseen ≡ min (length samples) (back - known) → held ≡ min (length samples) back
-    → r₁ ≡ overwritten at (silent unseen) room
-    → r₂ ≡ overwritten (at + unseen) (scaled gain (take (held - unseen) (drop (8190 - back + unseen) memory))) r₁
-    → r₃ ≡ overwritten (at + held) (scaled gain (take (length samples - held) (drop 0 samples))) r₂
-    → r₃ ≡ overwritten at (feed_of gain delay seen memory samples) room
+    → xs ≡ silent (length (take unseen to))
+    → ys ≡ scaled gain (take (8190 - back + unseen + (held - unseen) - (8190 - back + unseen)) (drop (8190 - back + unseen) memory))
+    → zs ≡ scaled gain (take (length samples - held) samples)
+    → (written : List Float) → written ≡ put_mid unseen (held - unseen) (xs ++ drop unseen to) ys
+    → take held written ++ (zs ++ post_of held (length written - held) written) ≡ feed_of gain delay seen memory samples
 unfolding feed_of
-feed_written_lem gain delay seen memory samples room r₁ r₂ r₃ at back known unseen held hm ho eb ek eu eh e₁ e₂ e₃ =
-    three_written (silent unseen) second third room r₁ r₂ r₃ at unseen held (length samples) (length_silent unseen) order length_second most length_third ho e₁ e₂ e₃
-    ∙ ap (λ (l : List Float). overwritten at l room) same
+feed_written gain delay seen memory samples to xs ys zs back known unseen held hm ht eb ek eu eh ex ey ez written e =
+    three_written xs ys zs to written unseen held length_first order length_second e
+    ∙ (λ i. first i ++ second i ++ ez i)
+    ∙ (λ i. silent (eu i) ++ scaled gain (take (eh i - eu i) (drop (8190 - back + eu i) memory)) ++ scaled gain (take (length samples - eh i) samples))
+    ∙ three_parts gain memory samples 8190 back known (length samples) refl hm below (omega (arith, ek))
+    ∙ (λ i. take (length samples) (drop (first_cut i) (silent (second_cut i) ++ scaled gain (drop (second_cut i) memory ++ samples))))
   where
-    second : List Float
-    second = scaled gain (take (held - unseen) (drop (8190 - back + unseen) memory))
-
-    third : List Float
-    third = scaled gain (take (length samples - held) samples)
-
     order : unseen ≤ held
     order = subst (λ (k : ℕ). k ≤ held) (sym eu) (subst (λ (k : ℕ). min (length samples) (back - known) ≤ k) (sym eh) (in_order_lem (length samples) back known))
-
-    most : held ≤ length samples
-    most = omega (arith, eh)
 
     below : back ≤ 8190
     below = omega (arith, eb)
 
-    length_second : length (scaled gain (take (held - unseen) (drop (8190 - back + unseen) memory))) ≡ held - unseen
+    first : xs ≡ silent unseen
+    first = ex ∙ ap silent (length-take-le unseen to (omega (arith, eu)))
+
+    second : ys ≡ scaled gain (take (held - unseen) (drop (8190 - back + unseen) memory))
+    second = ey ∙ ap (λ (k : ℕ). scaled gain (take k (drop (8190 - back + unseen) memory))) {x = 8190 - back + unseen + (held - unseen) - (8190 - back + unseen)} {y = held - unseen} (omega arith)
+
+    length_first : length xs ≡ unseen
+    length_first = ap length first ∙ length_silent unseen
+
+    length_second : length ys ≡ held - unseen
     length_second =
-        length_scaled gain (take (held - unseen) (drop (8190 - back + unseen) memory))
+        ap length second
+        ∙ length_scaled gain (take (held - unseen) (drop (8190 - back + unseen) memory))
         ∙ length-take-le (held - unseen) (drop (8190 - back + unseen) memory)
         (subst (λ (k : ℕ). held - unseen ≤ k) (sym (length-drop (8190 - back + unseen) memory ∙ ap (λ (k : ℕ). k - (8190 - back + unseen)) hm)) (fits_memory 8190 back held unseen (omega (arith, eh)) below))
-
-    length_third : length (scaled gain (take (length samples - held) samples)) ≡ length samples - held
-    length_third = length_scaled gain (take (length samples - held) samples) ∙ length-take-le (length samples - held) samples (omega arith)
 
     first_cut : 8190 - back ≡ 2 * (4095 - delay)
     first_cut = behind back delay eb
 
     second_cut : 8190 - known ≡ 2 * (4095 - seen)
     second_cut = behind known seen ek
-
-    same : silent unseen ++ second ++ third ≡ take (length samples) (drop (2 * (4095 - delay)) (silent (2 * (4095 - seen)) ++ scaled gain (drop (2 * (4095 - seen)) memory ++ samples)))
-    same =
-        (λ i. silent (eu i) ++ scaled gain (take (eh i - eu i) (drop (8190 - back + eu i) memory)) ++ scaled gain (take (length samples - eh i) samples))
-        ∙ three_parts gain memory samples 8190 back known (length samples) refl hm below (omega (arith, ek))
-        ∙ (λ i. take (length samples) (drop (first_cut i) (silent (second_cut i) ++ scaled gain (drop (second_cut i) memory ++ samples))))

@@ -1,38 +1,24 @@
 // The memory of a rack moved on by the samples of a call (SPECIFICATION 15.2).
 #![tactic(auto)]
 
-ghost use Rattle.std.specs.Prelude.{cond, ◌++◌, ◌≡◌, ◌+◌, ◌-◌, ◌≤◌, eqb, length, take, drop};
+ghost use Rattle.std.specs.Prelude.{cond, ◌++◌, ◌≡◌, ◌-◌, ◌≤◌, eqb, length, drop};
 ghost use Rattle.rack.specs.Memory.{held_after};
-ghost use Rattle.rack.specs.WrittenModel.{overwritten};
 
 use rack::MEMORY_LEN;
 
 // Moves the memory down by n numbers; its last n stay.
+#[tactic(auto, using(crate::proofs::Moved::move_next, crate::proofs::Moved::move_end))]
 fn move_down(memory: &mut [f32], n: usize)
     requires { n ≤ length memory.old }
     ensures { memory.new ≡ drop n memory.old ++ drop (length memory.old - n) memory.old }
 {
-    let end = memory.len() - n;
-    let mut i: usize = 0;
-    while i < end {
+    for i in 0..memory.len() - n {
         memory[i] = memory[i + n];
-        i = i + 1;
-    }
-}
-
-// Copies a stretch of the samples into the memory.
-fn copy_stretch(samples: &[f32], memory: &mut [f32], start: usize, at: usize, len: usize)
-    requires { (start + len ≤ length samples.now) × (at + len ≤ length memory.old) }
-    ensures { memory.new ≡ overwritten at (take len (drop start samples.now)) memory.old }
-{
-    let mut i: usize = 0;
-    while i < len {
-        memory[at + i] = samples[start + i];
-        i = i + 1;
     }
 }
 
 // Moves the memory on by the samples of a call.
+#[tactic(auto, using(crate::proofs::Held::moved_and_filled, crate::proofs::Held::filled_whole))]
 fn hold(memory: &mut [f32], samples: &[f32])
     requires { length memory.old ≡ 8190 }
     ensures { memory.new ≡ held_after memory.old samples.now }
@@ -40,18 +26,17 @@ fn hold(memory: &mut [f32], samples: &[f32])
     let n = samples.len();
     if n < MEMORY_LEN {
         move_down(memory, n);
-        copy_stretch(samples, memory, 0, MEMORY_LEN - n, n);
+        memory[MEMORY_LEN - n..].copy_from_slice(samples);
         return;
     }
-    copy_stretch(samples, memory, n - MEMORY_LEN, 0, MEMORY_LEN);
+    memory.copy_from_slice(&samples[n - MEMORY_LEN..]);
 }
 
 // Moves a memory on. One of another length stays as it is.
 pub fn move_on(memory: &mut [f32], samples: &[f32])
     ensures { memory.new ≡ cond (eqb (length memory.old) 8190) (held_after memory.old samples.now) memory.old }
 {
-    if memory.len() != MEMORY_LEN {
-        return;
+    if memory.len() == MEMORY_LEN {
+        hold(memory, samples);
     }
-    hold(memory, samples);
 }

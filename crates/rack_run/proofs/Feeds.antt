@@ -1,17 +1,24 @@
 -- Feed by feed, the room is all feeds in order.
-use mathlib.Core.Bool.{Bool, true, cond}
+use mathlib.Core.Bool.{Bool, true, cond, ◌&&◌}
 use mathlib.Core.List.{List, ◌++◌, append_assoc}
 use mathlib.Core.Path.{◌≡◌, sym, ap, ◌∙◌}
 use Prim.Native.Nat.{ℕ, suc, ◌+◌, ◌*◌, ◌≤◌, ◌<◌}
 use native.Mathlib.Nat.{mul-le-mul_right, suc-mul}
 use native.Mathlib.Numerals.{add-one}
 use native.Mathlib.Omega.{arith}
+use borrow.Author.Tests.{eq-eqb, le-leb}
 use lib.Ieee.{Float, nan}
 use lib.ListN.{length, get_or, take, drop, length-append}
 use lib.Seq.{length-take-le, take_all, take_at}
 use Rattle.rack.specs.WrittenModel.{overwritten}
+use Rattle.rack_feed.specs.FeedModel.{feed_fits}
 use Rattle.rack_feed.proofs.ThreeParts.{length_feed}
 use Rattle.rack_run.specs.Calls.{feed_at, feeds_up_to}
+
+-- the test of `rack_feed::feed`
+pub fit : (memory n room at : ℕ) → memory ≡ 8190 → at + n ≤ room → feed_fits memory n room at ≡ true
+unfolding feed_fits
+fit memory n room at h g = λ i. eq-eqb memory 8190 h i && le-leb (at + n) room g i
 
 -- what is chosen where a test is true
 pub when_true : (t : Bool) (xs ys rs : List Float) → rs ≡ cond t xs ys → t ≡ true → rs ≡ xs

@@ -1,10 +1,10 @@
 -- Calls on a rack (SPECIFICATION 15.2): refusal 9, the feeds that a call writes, and what it leaves; on any state and any buffers.
-use Rattle.std.specs.Prelude.{Bool, cond, ◌&&◌, List, [], ◌∷◌, ◌++◌, ℕ, zero, suc, ◌+◌, ◌*◌, ◌/◌, ◌%◌, min, eqb, Float, length, get_or}
+use Rattle.std.specs.Prelude.{Result, Ok, Err, Bool, cond, ◌&&◌, List, [], ◌∷◌, ◌++◌, ℕ, zero, suc, ◌+◌, ◌*◌, ◌/◌, ◌%◌, min, eqb, Float, length, get_or}
 use Rattle.std.specs.Float.{nan}
+use Rattle.std.specs.Result.{result_unwrap_or}
+use Rattle.refusals.specs.declared.Refusal.{Refusal}
 use Rattle.refusals.specs.declared.Refusal.TheVariants.{Length}
-use Rattle.refusals.specs.Number.{number_of}
 use Rattle.rack.specs.declared.Rack.{Rack}
-use Rattle.rack.specs.declared.Answered.{Answered}
 use Rattle.rack.specs.Feeds.{most_feeds, longest_delay, memory_length}
 use Rattle.rack.specs.Memory.{feed_of, held_after}
 
@@ -36,22 +36,22 @@ pub record Call : Type 0 where
 
 -- what a call answers, and its buffers afterwards
 pub record Left : Type 0 where
-  pub answered : Answered
+  pub answer : Result Rack Refusal
   pub memory : List Float
   pub room : List Float
 
--- A refused call leaves the rack and both buffers as they are.
+-- A refused call leaves both buffers as they are.
 unfoldable pub run_left : Rack → List Float → Call → Left
 run_left rack memory c =
     cond (lengths_fit (feed_count rack.feeds) (length memory) (length c.samples) (length c.room))
     (record {
-      answered = record { rack = rack_after rack (length c.samples); refusal = 0 };
+      answer = Ok (rack_after rack (length c.samples));
       memory = held_after memory c.samples;
       room = feeds_up_to (feed_count rack.feeds) rack.delays rack.gains rack.seen memory c.samples;
     })
-    (record { answered = record { rack = rack; refusal = number_of Length }; memory = memory; room = c.room })
+    (record { answer = Err Length; memory = memory; room = c.room })
 
--- a list of calls, each given the rack and the memory as the last one left them
+-- a list of calls, each given the memory as the last one left it and the rack that the last accepted one answered
 unfoldable pub runs_left : Rack → List Float → List Call → List Left
 runs_left rack memory [] = []
-runs_left rack memory (c ∷ cs) = run_left rack memory c ∷ runs_left (run_left rack memory c).answered.rack (run_left rack memory c).memory cs
+runs_left rack memory (c ∷ cs) = run_left rack memory c ∷ runs_left (result_unwrap_or (run_left rack memory c).answer rack) (run_left rack memory c).memory cs

@@ -1,4 +1,6 @@
--- `racked-runs`: the claim on a rack behind a run, for any run of which `Demand3` holds and any rack of which `Fed` holds.
+-- `racked_runs`: the claim on a rack behind a run, for any run of which `Demand3` holds and any rack of which `Fed` holds.
+use Rattle.std.specs.Prelude.{Some, None, is_none, Result, Ok, Err, is_ok}
+use Rattle.std.specs.Result.{result_err}
 use mathlib.Core.Bool.{Bool, true, cond, ◌&&◌}
 use mathlib.Core.List.{List, [], ◌∷◌, ◌++◌, map, append-nil}
 use mathlib.Core.Path.{◌≡◌, refl, sym, ap, ◌∙◌}
@@ -8,6 +10,7 @@ use borrow.Author.Tests.{eq-eqb}
 use lib.Dec.{eqb}
 use lib.Ieee.{Float, nan}
 use lib.ListN.{length, get_or, take, drop, length-append}
+use Rattle.refusals.specs.declared.Refusal.TheVariants.{Length}
 use Rattle.run_theory.specs.Demand3.{Prefix}
 use Rattle.run_call.specs.Buffers.{Left, CallBuffers}
 use Rattle.run_theorem.specs.OpenedRuns as Runs
@@ -39,13 +42,17 @@ module _ (delays : List ℕ) (gains : List Float) where
   taken_by : List Rack.Call → List (Plain.Seen delays gains) → List Float
   taken_by [] ss = []
   taken_by (c ∷ cs) [] = []
-  taken_by (c ∷ cs) (s ∷ ss) = cond (eqb s.refusal 0) c.samples [] ++ taken_by cs ss
+  taken_by (c ∷ cs) (s ∷ ss) = cond (is_none s.refusal) c.samples [] ++ taken_by cs ss
+
+  same_test : {X E : Type 0} (a : Result X E) → is_ok a ≡ is_none (result_err a)
+  same_test (Ok x) = refl
+  same_test (Err q) = refl
 
   taken_seen : (cs : List Rack.Call) (ls : List Rack.Left) → Racks.all_taken cs ls ≡ taken_by cs (map (Racks.seen_of delays gains) ls)
   unfolding taken_by
   taken_seen [] ls = refl
   taken_seen (c ∷ cs) [] = refl
-  taken_seen (c ∷ cs) (l ∷ ls) = ap (λ (xs : List Float). cond (eqb l.answered.refusal 0) c.samples [] ++ xs) (taken_seen cs ls)
+  taken_seen (c ∷ cs) (l ∷ ls) = λ i. cond (same_test l.answer i) c.samples [] ++ taken_seen cs ls i
 
   accepted : (samples room : List Float) → length samples % 2 ≡ 0 → length room ≡ length delays * length samples → Plain.accepts delays gains (record { samples = samples; room = room }) ≡ true
   unfolding Rack.lengths_fit
@@ -58,12 +65,12 @@ module _ (delays : List ℕ) (gains : List Float) where
   all_accepted [] rooms taken e h = refl
   all_accepted (l ∷ ls) [] taken e h = absurd h
   all_accepted (l ∷ ls) (room ∷ rooms) taken e h =
-      ap (λ (t : Bool). cond (eqb (seen_by t).refusal 0) (written l) [] ++ taken_by (call_each ls rooms) (Plain.plain_calls delays gains (cond t (taken ++ written l) taken) (call_each ls rooms)))
+      ap (λ (t : Bool). cond (is_none (seen_by t).refusal) (written l) [] ++ taken_by (call_each ls rooms) (Plain.plain_calls delays gains (cond t (taken ++ written l) taken) (call_each ls rooms)))
       (accepted (written l) room (even_first l ls e) h.0)
       ∙ ap (λ (xs : List Float). written l ++ xs) (all_accepted ls rooms (taken ++ written l) (even_rest l ls e) h.1)
     where
       seen_by : Bool → Plain.Seen delays gains
-      seen_by t = cond t (record { refusal = 0; room = Plain.new_feeds delays gains taken (written l) }) (record { refusal = 9; room = room })
+      seen_by t = cond t (record { refusal = None; room = Plain.new_feeds delays gains taken (written l) }) (record { refusal = Some Length; room = room })
 
 -- ---- the claim
 module _ (taps_s taps_ac : List Float) (settings : List ℕ) (r : Runs.Run) (d : Runs.Demand3 taps_s taps_ac settings r) (delays : List ℕ) (gains : List Float) (k : Racks.Opened) (f : Racks.Fed delays gains k) where

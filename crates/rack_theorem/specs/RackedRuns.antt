@@ -1,7 +1,7 @@
 -- The claim on a rack behind a run (SPECIFICATION 15.4), hypothesis and claim in one statement: `RackedRuns`, at the end of this file.
 -- Of the generator it cites the claim on every list of run calls (`run_theorem/specs/OpenedRuns`) and nothing else; of the rack its own (`rack_theory/specs/OpenedRacks`).
+use Rattle.std.specs.Prelude.{None}
 use Rattle.std.specs.Prelude.{List, [], ◌∷◌, ◌++◌, ◌≡◌, ℕ, ◌*◌, ◌<◌, Float, length, get_or, take}
-use Rattle.std.proofs.Math.Option.{none}
 use Rattle.std.specs.Float.{nan}
 use Rattle.run_theory.specs.PlainRun.{time_of}
 use Rattle.run_theory.specs.PlainBench as Bench
@@ -45,7 +45,7 @@ pub record Racked (taps_s taps_ac : List Float) (settings : List ℕ) (r : Runs.
   -- It stays a first part of that when any noise, and any draws in range that the state does not refuse, are put after.
   pub stays :
       (cs : List CallBuffers) (ks : List Rack.Call) → TookAll r cs k ks → (i : ℕ) → i < length delays → (ds : List RepresentableDraw) (vs : List Float)
-      → Bench.draw_refusal (Runs.gen r) (time_of (Runs.gen r) (Runs.gen r).t0 (Runs.draws_taken r cs)) (Runs.bench r cs).mark ds ≡ none
+      → Bench.draw_refusal (Runs.gen r) (time_of (Runs.gen r) (Runs.gen r).t0 (Runs.draws_taken r cs)) (Runs.bench r cs).mark ds ≡ None
       → Prefix (Racks.feed_written k i ks) (delayed (get_or gains i nan) (get_or delays i 0) (plain_output (Runs.gen r) (Runs.draws_taken r cs ++ ds) (Bench.pairs (Runs.noise_used r cs ++ vs))))
   -- After Done each feed is as long as the run.
   pub as_long : (cs : List CallBuffers) (ks : List Rack.Call) → TookAll r cs k ks → Runs.ReachesDone (Runs.calls r cs) → (i : ℕ) → i < length delays → length (Racks.feed_written k i ks) ≡ 2 * r.state.total

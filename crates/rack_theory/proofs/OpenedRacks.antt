@@ -1,17 +1,20 @@
--- `opened-racks`: the claim on every list of calls on an opened rack, by one induction over the calls (`over-calls`).
-use mathlib.Core.Bool.{Bool, true, false, cond, ◌&&◌, true≢false}
+-- `opened_racks`: the claim on every list of calls on an opened rack, by one induction over the calls (`over_calls`).
+use Rattle.std.specs.Prelude.{Some, None, Result, Ok, Err, is_ok}
+use Rattle.std.specs.Result.{result_unwrap_or}
+use mathlib.Core.Bool.{Bool, true, false, cond, ◌&&◌, true≢false, false≢true}
 use mathlib.Core.List.{List, [], ◌∷◌, ◌++◌, map}
 use mathlib.Core.Path.{◌≡◌, refl, sym, ap, subst, ◌∙◌}
 use Prim.Native.Nat.{ℕ, zero, suc, ◌+◌, ◌-◌, ◌*◌, ◌/◌, ◌≤◌, ◌<◌, min}
 use native.Mathlib.Omega.{arith}
-use borrow.Author.Tests.{eqb-true, eqb-false, leb-true}
-use lib.Dec.{eqb, leb}
+use borrow.Author.Tests.{leb-true}
+use lib.Dec.{leb}
 use lib.Ieee.{Float, nan}
 use lib.ListN.{length, get_or, take, drop, length-append, drop_of_length-le}
-use Rattle.refusals.specs.Number.{number_of}
+use Rattle.refusals.specs.declared.Refusal.{Refusal}
+use Rattle.refusals.specs.declared.Refusal.TheVariants.{Length}
 use Rattle.rack.specs.declared.Rack.{Rack}
 use Rattle.rack.specs.Feeds.{silent, delayed}
-use Rattle.rack.specs.Opening.{gain_fits, each_fits, refusal_of, delay_row, gain_row, rack_of, OpenLeft, open_left}
+use Rattle.rack.specs.Opening.{gain_fits, each_fits, checked, delay_row, gain_row, rack_of, OpenLeft, left_by, open_left}
 use Rattle.rack.proofs.Lists.{length_silent}
 use Rattle.rack.proofs.Checks.{Fits, fits}
 use Rattle.rack.specs.Memory.{held_after}
@@ -42,25 +45,24 @@ pub record Says (delays : List ℕ) (gains given : List Float) (r : Opened) : Ty
 
 module _ (delays : List ℕ) (gains given : List Float) (r : Opened) where
   answer : OpenLeft
-  answer = record { answered = record { rack = r.state; refusal = 0 }; memory = r.memory }
+  answer = record { answer = Ok r.state; memory = r.memory }
 
-  by : Bool → OpenLeft
-  by t =
-      cond t (record { answered = record { rack = rack_of delays gains; refusal = 0 }; memory = silent 8190 })
-      (record { answered = record { rack = rack_of [] []; refusal = refusal_of (length given) delays gains }; memory = given })
+  -- the rack that is answered, or another where there is none
+  rack_in : OpenLeft → Rack
+  rack_in l = result_unwrap_or l.answer r.state
 
-  says_by : (t : Bool) → eqb (refusal_of (length given) delays gains) 0 ≡ t → by t ≡ answer → Says delays gains given r
-  unfolding by answer
-  says_by true e o = record {
-    right = fits (length given) delays gains (eqb-true _ _ e);
-    rack_is = ap (λ (l : OpenLeft). l.answered.rack) o;
+  says_by : (t : Result (Unit {0}) Refusal) → checked (length given) delays gains ≡ t → left_by given delays gains t ≡ answer → Says delays gains given r
+  unfolding left_by answer rack_in
+  says_by (Ok u) e o = record {
+    right = fits (length given) delays gains u e;
+    rack_is = ap rack_in o;
     memory_is = ap (λ (l : OpenLeft). l.memory) o;
   }
-  says_by false e o = absurd (eqb-false (refusal_of (length given) delays gains) 0 e (ap (λ (l : OpenLeft). l.answered.refusal) o))
+  says_by (Err q) e o = absurd (false≢true (ap (λ (l : OpenLeft). is_ok l.answer) o))
 
   pub says : Opens delays gains given r → Says delays gains given r
-  unfolding open_left by answer
-  says o = says_by (eqb (refusal_of (length given) delays gains) 0) refl o.leaves
+  unfolding open_left answer
+  says o = says_by (checked (length given) delays gains) refl o.leaves
 
 -- nothing is remembered at first
 pub none_taken : Remembers [] 0 (silent 8190)
@@ -79,13 +81,13 @@ module _ (delays : List ℕ) (gains : List Float) (alike : length delays ≡ len
 
   abbrev accepted_left : List Float → ℕ → List Float → Call → Left
   accepted_left taken seen memory c = record {
-    answered = record { rack = state_of (min (seen + length c.samples / 2) 4095); refusal = 0 };
+    answer = Ok (state_of (min (seen + length c.samples / 2) 4095));
     memory = held_after memory c.samples;
     room = Plain.new_feeds delays gains taken c.samples;
   }
 
-  abbrev refused_left : ℕ → List Float → Call → Left
-  refused_left seen memory c = record { answered = record { rack = state_of seen; refusal = 9 }; memory = memory; room = c.room }
+  abbrev refused_left : List Float → Call → Left
+  refused_left memory c = record { answer = Err Length; memory = memory; room = c.room }
 
   module _ (taken : List Float) (seen : ℕ) (memory : List Float) (c : Call) (r : Remembers taken seen memory) where
     count_is : feed_count (length delays) ≡ length delays
@@ -96,25 +98,22 @@ module _ (delays : List ℕ) (gains : List Float) (alike : length delays ≡ len
     test_is = λ i. lengths_fit (count_is i) (r.size i) (length c.samples) (length c.room)
 
     pub left_accepted : Plain.accepts delays gains c ≡ true → run_left (state_of seen) memory c ≡ accepted_left taken seen memory c
-    unfolding run_left rack_after number_of
+    unfolding run_left rack_after
     left_accepted e =
-        ap (λ (t : Bool). cond t (accepted_with (feeds_up_to (feed_count (length delays)) (delay_row delays) (gain_row gains) seen memory c.samples)) (refused_with 9)) (test_is ∙ e)
+        ap (λ (t : Bool). cond t (accepted_with (feeds_up_to (feed_count (length delays)) (delay_row delays) (gain_row gains) seen memory c.samples)) (refused_left memory c)) (test_is ∙ e)
         ∙ ap (λ (l : List Float). accepted_with l)
         (ap (λ (k : ℕ). feeds_up_to k (delay_row delays) (gain_row gains) seen memory c.samples) count_is ∙ all_new delays gains taken seen memory c.samples alike short r (length delays) (omega arith))
       where
         accepted_with : List Float → Left
-        accepted_with room = record { answered = record { rack = state_of (min (seen + length c.samples / 2) 4095); refusal = 0 }; memory = held_after memory c.samples; room = room }
+        accepted_with room = record { answer = Ok (state_of (min (seen + length c.samples / 2) 4095)); memory = held_after memory c.samples; room = room }
 
-        refused_with : ℕ → Left
-        refused_with n = record { answered = record { rack = state_of seen; refusal = n }; memory = memory; room = c.room }
-
-    pub left_refused : Plain.accepts delays gains c ≡ false → run_left (state_of seen) memory c ≡ refused_left seen memory c
-    unfolding run_left rack_after number_of
-    left_refused e = ap (λ (t : Bool). cond t accepted (refused_left seen memory c)) (test_is ∙ e)
+    pub left_refused : Plain.accepts delays gains c ≡ false → run_left (state_of seen) memory c ≡ refused_left memory c
+    unfolding run_left rack_after
+    left_refused e = ap (λ (t : Bool). cond t accepted (refused_left memory c)) (test_is ∙ e)
       where
         accepted : Left
         accepted = record {
-          answered = record { rack = state_of (min (seen + length c.samples / 2) 4095); refusal = 0 };
+          answer = Ok (state_of (min (seen + length c.samples / 2) 4095));
           memory = held_after memory c.samples;
           room = feeds_up_to (feed_count (length delays)) (delay_row delays) (gain_row gains) seen memory c.samples;
         }
@@ -149,23 +148,23 @@ module _ (delays : List ℕ) (gains : List Float) (alike : length delays ≡ len
       → Answers (taken ++ c.samples) (min (seen + length c.samples / 2) 4095) (held_after memory c.samples) cs → Answers taken seen memory (c ∷ cs)
   unfolding runs_left
   answers_call taken seen memory c cs r e p =
-      ap (λ (l : Left). map (seen_of delays gains) (l ∷ runs_left l.answered.rack l.memory cs)) (left_accepted taken seen memory c r e)
+      ap (λ (l : Left). map (seen_of delays gains) (l ∷ runs_left (result_unwrap_or l.answer (state_of seen)) l.memory cs)) (left_accepted taken seen memory c r e)
       ∙ ap (λ (l : List (Plain.Seen delays gains)). seen_of delays gains (accepted_left taken seen memory c) ∷ l) p
       ∙ sym (ap (λ (t : Bool). chosen t ∷ Plain.plain_calls delays gains (cond t (taken ++ c.samples) taken) cs) e)
     where
       chosen : Bool → Plain.Seen delays gains
-      chosen t = cond t (record { refusal = 0; room = Plain.new_feeds delays gains taken c.samples }) (record { refusal = 9; room = c.room })
+      chosen t = cond t (record { refusal = None; room = Plain.new_feeds delays gains taken c.samples }) (record { refusal = Some Length; room = c.room })
 
   answers_refusal : (taken : List Float) (seen : ℕ) (memory : List Float) (c : Call) (cs : List Call) → Remembers taken seen memory → Plain.accepts delays gains c ≡ false
       → Answers taken seen memory cs → Answers taken seen memory (c ∷ cs)
   unfolding runs_left
   answers_refusal taken seen memory c cs r e p =
-      ap (λ (l : Left). map (seen_of delays gains) (l ∷ runs_left l.answered.rack l.memory cs)) (left_refused taken seen memory c r e)
-      ∙ ap (λ (l : List (Plain.Seen delays gains)). seen_of delays gains (refused_left seen memory c) ∷ l) p
+      ap (λ (l : Left). map (seen_of delays gains) (l ∷ runs_left (result_unwrap_or l.answer (state_of seen)) l.memory cs)) (left_refused taken seen memory c r e)
+      ∙ ap (λ (l : List (Plain.Seen delays gains)). seen_of delays gains (refused_left memory c) ∷ l) p
       ∙ sym (ap (λ (t : Bool). chosen t ∷ Plain.plain_calls delays gains (cond t (taken ++ c.samples) taken) cs) e)
     where
       chosen : Bool → Plain.Seen delays gains
-      chosen t = cond t (record { refusal = 0; room = Plain.new_feeds delays gains taken c.samples }) (record { refusal = 9; room = c.room })
+      chosen t = cond t (record { refusal = None; room = Plain.new_feeds delays gains taken c.samples }) (record { refusal = Some Length; room = c.room })
 
   pub all_answers : (cs : List Call) (taken : List Float) (seen : ℕ) (memory : List Float) → Remembers taken seen memory → Answers taken seen memory cs
   unfolding runs_left
@@ -180,10 +179,10 @@ module _ (delays : List ℕ) (gains : List Float) (alike : length delays ≡ len
     Feeds taken seen memory cs = all_of_feed i cs (runs_left (state_of seen) memory cs) ≡ drop (length taken) (feed (taken ++ all_taken cs (runs_left (state_of seen) memory cs)))
 
     -- of a call's answer and of the calls behind it
-    abbrev Goes : List Float → Call → List Call → Left → Type 0
-    Goes taken c cs l =
-        cond (is_accepted l) (part_of i c l) [] ++ all_of_feed i cs (runs_left l.answered.rack l.memory cs)
-        ≡ drop (length taken) (feed (taken ++ (cond (is_accepted l) c.samples [] ++ all_taken cs (runs_left l.answered.rack l.memory cs))))
+    abbrev Goes : List Float → ℕ → Call → List Call → Left → Type 0
+    Goes taken seen c cs l =
+        cond (is_accepted l) (part_of i c l) [] ++ all_of_feed i cs (runs_left (result_unwrap_or l.answer (state_of seen)) l.memory cs)
+        ≡ drop (length taken) (feed (taken ++ (cond (is_accepted l) c.samples [] ++ all_taken cs (runs_left (result_unwrap_or l.answer (state_of seen)) l.memory cs))))
 
     feeds_end : (taken : List Float) (seen : ℕ) (memory : List Float) → Feeds taken seen memory []
     feeds_end taken seen memory = sym (drop_of_length-le (feed (taken ++ [])) {i = length taken} (omega (arith, length_delayed (get_or gains i nan) (get_or delays i 0) (taken ++ []), length-append taken [])))
@@ -192,7 +191,7 @@ module _ (delays : List ℕ) (gains : List Float) (alike : length delays ≡ len
         → Feeds (taken ++ c.samples) (min (seen + length c.samples / 2) 4095) (held_after memory c.samples) cs → Feeds taken seen memory (c ∷ cs)
     unfolding runs_left
     feeds_call taken seen memory c cs r e p =
-        subst (λ (l : Left). Goes taken c cs l) (sym (left_accepted taken seen memory c r e))
+        subst (λ (l : Left). Goes taken seen c cs l) (sym (left_accepted taken seen memory c r e))
         ((λ j. mine j ++ p j) ∙ joined (get_or gains i nan) (get_or delays i 0) taken c.samples (all_taken cs (runs_left (state_of (min (seen + length c.samples / 2) 4095)) (held_after memory c.samples) cs)))
       where
         mine : part_of i c (accepted_left taken seen memory c) ≡ drop (length taken) (feed (taken ++ c.samples))
@@ -203,7 +202,7 @@ module _ (delays : List ℕ) (gains : List Float) (alike : length delays ≡ len
     feeds_refusal : (taken : List Float) (seen : ℕ) (memory : List Float) (c : Call) (cs : List Call) → Remembers taken seen memory → Plain.accepts delays gains c ≡ false
         → Feeds taken seen memory cs → Feeds taken seen memory (c ∷ cs)
     unfolding runs_left
-    feeds_refusal taken seen memory c cs r e p = subst (λ (l : Left). Goes taken c cs l) (sym (left_refused taken seen memory c r e)) p
+    feeds_refusal taken seen memory c cs r e p = subst (λ (l : Left). Goes taken seen c cs l) (sym (left_refused taken seen memory c r e)) p
 
     pub all_feeds : (cs : List Call) (taken : List Float) (seen : ℕ) (memory : List Float) → Remembers taken seen memory → Feeds taken seen memory cs
     all_feeds = over_calls Feeds feeds_end feeds_call feeds_refusal
@@ -214,7 +213,7 @@ unfolding runs_left
 first_of cs zero rack memory = refl
 first_of [] (suc n) rack memory = refl
 first_of (c ∷ cs) (suc n) rack memory =
-    ap (λ (l : List Left). run_left rack memory c ∷ l) (first_of cs n (run_left rack memory c).answered.rack (run_left rack memory c).memory)
+    ap (λ (l : List Left). run_left rack memory c ∷ l) (first_of cs n (result_unwrap_or (run_left rack memory c).answer rack) (run_left rack memory c).memory)
 
 module _ (delays : List ℕ) (gains given : List Float) (r : Opened) (o : Opens delays gains given r) where
   abbrev said : Says delays gains given r

@@ -1,6 +1,7 @@
 -- The claim on a rack (SPECIFICATION 15.3), hypothesis and claim in one statement: `OpenedRacks`, at the end of this file. If opening answers a rack, then (a) to (d) hold of every list of calls on it, refused calls among them, with any buffers.
-use Rattle.std.specs.Prelude.{Bool, cond, List, [], ◌∷◌, ◌++◌, map, ◌≡◌, ℕ, ◌*◌, ◌<◌, eqb, Float, length, get_or, take, drop}
+use Rattle.std.specs.Prelude.{Ok, is_ok, Bool, cond, List, [], ◌∷◌, ◌++◌, map, ◌≡◌, ℕ, ◌*◌, ◌<◌, Float, length, get_or, take, drop}
 use Rattle.std.specs.Float.{nan}
+use Rattle.std.specs.Result.{result_err}
 use Rattle.rack.specs.declared.Rack.{Rack}
 use Rattle.rack.specs.Feeds.{delayed}
 use Rattle.rack.specs.Opening.{open_left}
@@ -15,15 +16,15 @@ pub record Opened : Type 0 where
 
 -- Opening with these delays and gains, given a memory, answers the rack and leaves its memory. (So the contract of `open` says it.)
 pub record Opens (delays : List ℕ) (gains : List Float) (given : List Float) (r : Opened) : Type 0 where
-  pub leaves : open_left given delays gains ≡ record { answered = record { rack = r.state; refusal = 0 }; memory = r.memory }
+  pub leaves : open_left given delays gains ≡ record { answer = Ok r.state; memory = r.memory }
 
 -- ---- a list of calls on a rack
--- what each call answers and leaves, given rack and memory as the last call left them (by the contract of `run`)
+-- what each call answers and leaves, given the memory as the last call left it and the rack of the last accepted one (by the contract of `run`)
 abbrev pub calls : Opened → List Call → List Left
 calls r cs = runs_left r.state r.memory cs
 
 abbrev pub is_accepted : Left → Bool
-is_accepted l = eqb l.answered.refusal 0
+is_accepted l = is_ok l.answer
 
 -- the samples of the accepted calls, joined in order
 abbrev pub all_taken : List Call → List Left → List Float
@@ -48,7 +49,7 @@ abbrev pub feed_written : Opened → ℕ → List Call → List Float
 feed_written r i cs = all_of_feed i cs (calls r cs)
 
 abbrev pub seen_of : (delays : List ℕ) (gains : List Float) → Left → Seen delays gains
-seen_of delays gains l = record { refusal = l.answered.refusal; room = l.room }
+seen_of delays gains l = record { refusal = result_err l.answer; room = l.room }
 
 -- ---- the claim, on a rack opened with these delays and gains
 pub record Fed (delays : List ℕ) (gains : List Float) (r : Opened) : Type 0 where

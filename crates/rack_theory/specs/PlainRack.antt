@@ -1,6 +1,8 @@
 -- The plain rack (SPECIFICATION 15.3): its state is the samples taken so far. It knows no memory.
-use Rattle.std.specs.Prelude.{Bool, cond, List, [], ◌∷◌, ◌++◌, ℕ, zero, suc, Float, length, get_or, drop}
+use Rattle.std.specs.Prelude.{Option, Some, None, Bool, cond, List, [], ◌∷◌, ◌++◌, ℕ, zero, suc, Float, length, get_or, drop}
 use Rattle.std.specs.Float.{nan}
+use Rattle.refusals.specs.declared.Refusal.{Refusal}
+use Rattle.refusals.specs.declared.Refusal.TheVariants.{Length}
 use Rattle.rack.specs.Feeds.{memory_length, delayed}
 use Rattle.rack_run.specs.Calls.{lengths_fit, Call}
 
@@ -22,13 +24,13 @@ module _ (delays : List ℕ) (gains : List Float) where
   abbrev pub accepts : Call → Bool
   accepts c = lengths_fit (length delays) memory_length (length c.samples) (length c.room)
 
-  -- what a caller sees: the refusal's number, 0 for none, and the room after the call
+  -- what a caller sees: the refusal, if any, and the room after the call
   pub record Seen : Type 0 where
-    pub refusal : ℕ
+    pub refusal : Option Refusal
     pub room : List Float
 
   abbrev pub plain_call : List Float → Call → Seen
-  plain_call taken c = cond (accepts c) (record { refusal = 0; room = new_feeds taken c.samples }) (record { refusal = 9; room = c.room })
+  plain_call taken c = cond (accepts c) (record { refusal = None; room = new_feeds taken c.samples }) (record { refusal = Some Length; room = c.room })
 
   abbrev pub plain_after : List Float → Call → List Float
   plain_after taken c = cond (accepts c) (taken ++ c.samples) taken

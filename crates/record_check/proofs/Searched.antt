@@ -1,49 +1,37 @@
--- The steps of the search for a record at fault.
-use Prim.Native.Nat.{ℕ, suc, ◌+◌, ◌-◌, ◌*◌, ◌/◌, ◌≤◌, ◌<◌}
-use mathlib.Core.Path.{◌≡◌, refl, sym, ap, ◌∙◌}
+-- The steps of the search for a record at fault: the records from k on, of n, decide as all do.
+use Rattle.std.specs.Prelude.{Option, Some, None}
+use Prim.Native.Nat.{ℕ, suc, ◌+◌, ◌-◌, ◌*◌, ◌≤◌, ◌<◌}
+use mathlib.Core.Path.{◌≡◌, sym, ap, ◌∙◌}
 use mathlib.Core.Bool.{Bool, true, false, cond}
 use mathlib.Core.List.{List}
 use native.Mathlib.Omega.{arith}
 use lib.ListN.{length, drop, take, length-drop}
-use lib.Seq.{take_all}
+use lib.Seq.{take_all, drop-drop}
 use Rattle.record_check.specs.Accepted.{accepted}
-use Rattle.record_check.specs.FirstFault.{fault_from, first_fault}
-use Rattle.record_check.specs.declared.RecordFault.TheVariants.{NoFault, At}
+use Rattle.record_check.specs.FirstFault.{fault_from}
+use Rattle.record_check.specs.FaultLaws.{record_at}
 
--- a step, with a record left
-turn : (rest : List ℕ) (k : ℕ) → 66 ≤ length rest
-    → fault_from (length rest / 66) rest k ≡ cond (accepted rest) (fault_from (length (drop 66 rest) / 66) (drop 66 rest) (k + 1)) (At k)
+-- the bytes that the code passes on
+passed : (records : List ℕ) (k : ℕ) → take (length records - k * 66) (drop (k * 66) records) ≡ record_at records k
+passed records k =
+    take_all (length records - k * 66) (drop (k * 66) records) (simp length-drop (omega arith))
+    ∙ ap (λ (m : ℕ). drop m records) {x = k * 66} {y = 66 * k} (omega arith)
+
+module _ (records : List ℕ) (n k : ℕ) (whole : Option ℕ) (h : k < n) {r : Bool} (e : r ≡ accepted (take (length records - k * 66) (drop (k * 66) records))) where
+  step : fault_from (n - k) (record_at records k) k ≡ cond r (fault_from (n - (k + 1)) (record_at records (k + 1)) (k + 1)) (Some k)
+  unfolding fault_from
+  step =
+      let m : n - k ≡ suc (n - (k + 1)) = omega arith in
+      ap (λ (m : ℕ). fault_from m (record_at records k) k) m
+      ∙ ap (λ (b : Bool). cond b (fault_from (n - (k + 1)) (drop 66 (record_at records k)) (k + 1)) (Some k)) (sym (e ∙ ap accepted (passed records k)))
+      ∙ ap (λ (l : List ℕ). cond r (fault_from (n - (k + 1)) l (k + 1)) (Some k)) (drop-drop 66 (66 * k) records ∙ ap (λ (m : ℕ). drop m records) {x = 66 * k + 66} {y = 66 * (k + 1)} (omega arith))
+
+  pub one_more : r ≡ true → fault_from (n - k) (record_at records k) k ≡ whole → fault_from (n - (k + 1)) (record_at records (k + 1)) (k + 1) ≡ whole
+  one_more t i = sym (step ∙ ap (λ (b : Bool). cond b (fault_from (n - (k + 1)) (record_at records (k + 1)) (k + 1)) (Some k)) t) ∙ i
+
+  pub found : r ≡ false → fault_from (n - k) (record_at records k) k ≡ whole → Some k ≡ whole
+  found t i = sym (step ∙ ap (λ (b : Bool). cond b (fault_from (n - (k + 1)) (record_at records (k + 1)) (k + 1)) (Some k)) t) ∙ i
+
+pub none_left : (records : List ℕ) (n k : ℕ) (whole : Option ℕ) → n ≤ k → fault_from (n - k) (record_at records k) k ≡ whole → None ≡ whole
 unfolding fault_from
-turn rest k h =
-    let e : length rest / 66 ≡ suc (length (drop 66 rest) / 66) = omega (arith, length-drop 66 rest) in
-    ap (λ (n : ℕ). fault_from n rest k) e
-
--- what is searched so far: k records are accepted, and the rest decides
-pub record Searched (records rest : List ℕ) (k : ℕ) : Type 0 where
-  pub behind : 66 * k + length rest ≡ length records
-  pub decides : fault_from (length rest / 66) rest k ≡ first_fault records
-
-module _ (records : List ℕ) where
-  pub at_start : Searched records records 0
-  unfolding first_fault
-  at_start = record { behind = omega arith; decides = refl }
-
-  module _ (rest : List ℕ) (k : ℕ) (s : Searched records rest k) where
-    pub one_more : {r : Bool} → 66 ≤ length rest → r ≡ accepted rest → r ≡ true → Searched records (take (length rest - 66) (drop 66 rest)) (k + 1)
-    one_more h e t =
-        let q : take (length rest - 66) (drop 66 rest) ≡ drop 66 rest = take_all (length rest - 66) (drop 66 rest) (simp length-drop (omega arith)) in
-        record {
-          behind = omega (arith, s.behind, ap length q, length-drop 66 rest);
-          decides =
-              ap (λ (l : List ℕ). fault_from (length l / 66) l (k + 1)) q
-              ∙ sym (turn rest k h ∙ ap (λ (b : Bool). cond b (fault_from (length (drop 66 rest) / 66) (drop 66 rest) (k + 1)) (At k)) (sym e ∙ t))
-              ∙ s.decides;
-        }
-
-    pub found : {r : Bool} → 66 ≤ length rest → r ≡ accepted rest → r ≡ false → At k ≡ first_fault records
-    found h e t =
-        sym (turn rest k h ∙ ap (λ (b : Bool). cond b (fault_from (length (drop 66 rest) / 66) (drop 66 rest) (k + 1)) (At k)) (sym e ∙ t)) ∙ s.decides
-
-    pub none_left : length rest < 66 → NoFault ≡ first_fault records
-    unfolding fault_from
-    none_left h = let e : length rest / 66 ≡ 0 = omega arith in sym (ap (λ (n : ℕ). fault_from n rest k) e) ∙ s.decides
+none_left records n k whole h i = let m : n - k ≡ 0 = omega arith in sym (ap (λ (m : ℕ). fault_from m (record_at records k) k) m) ∙ i

@@ -18,59 +18,38 @@ const TYPES: u8 = 7;
 
 const LENGTHS: [u8; 7] = [14, 7, 7, 7, 14, 14, 2];
 
-// What is found in records: no fault, or the index of the first one at fault.
-#[derive(Clone, Copy)]
-pub enum RecordFault {
-    NoFault,
-    At(u64),
-}
-
 // The message length of a type, 0 above the last.
+#[tactic(auto, unfolding(crate::specs::Accepted::type_length))]
 pub fn type_length(kind: u8) -> u8
     ensures { result ≡ type_length kind }
 {
     if kind < TYPES {
-        return LENGTHS[kind as usize];
+        LENGTHS[kind as usize]
+    } else {
+        0
     }
-    0
 }
 
 // Whether the record at the start of the bytes is whole and accepted.
+#[tactic(auto, using(crate::proofs::Accepting::number_is), unfolding(crate::specs::Accepted::accepted))]
 pub fn accepts(rec: &[u8]) -> bool
     ensures { result ≡ accepted rec.now }
 {
-    if rec.len() < RECORD_LEN {
-        return false;
-    }
-    let first = le_read_or_zero::u64_at(rec, 40);
-    if LARGEST_FIRST < first {
-        return false;
-    }
-    let kind = rec[48];
-    if TYPES <= kind {
-        return false;
-    }
-    let count = le_read_or_zero::u16_at(rec, 49);
-    if LARGEST_COUNT < count {
-        return false;
-    }
-    let size = type_length(kind);
-    rec[51] == size
+    rec.len() >= RECORD_LEN
+        && le_read_or_zero::u64_at(rec, 40) <= LARGEST_FIRST
+        && rec[48] < TYPES
+        && le_read_or_zero::u16_at(rec, 49) <= LARGEST_COUNT
+        && rec[51] == type_length(rec[48])
 }
 
 // The first record at fault, of as many as the bytes have whole.
-pub fn first_fault(records: &[u8]) -> RecordFault
+pub fn first_fault(records: &[u8]) -> Option<u64>
     ensures { result ≡ first_fault records.now }
 {
-    let mut rest = records;
-    let mut k: u64 = 0;
-    while RECORD_LEN <= rest.len() {
-        if accepts(rest) {
-            rest = &rest[RECORD_LEN..];
-            k = k + 1;
-        } else {
-            return RecordFault::At(k);
+    for k in 0..records.len() / RECORD_LEN {
+        if !accepts(&records[k * RECORD_LEN..]) {
+            return Some(k as u64);
         }
     }
-    RecordFault::NoFault
+    None
 }

@@ -13,40 +13,16 @@ pub struct Values {
     pub field: u64,
 }
 
+#[tactic(auto, unfolding(crate::specs::Flat::values_flat, refusals::specs::Number::values_of))]
 pub fn values_of(q: Refusal) -> Values
     ensures { result ≡ values_flat q }
 {
     match q {
-        Refusal::Duration => Values { value: 0, field: 0 },
-        Refusal::Rate(rate) => Values {
-            value: rate,
-            field: 0,
-        },
-        Refusal::Total => Values { value: 0, field: 0 },
-        Refusal::Distribution(distribution) => Values {
-            value: distribution,
-            field: 0,
-        },
-        Refusal::Taps => Values { value: 0, field: 0 },
-        Refusal::Prototype => Values { value: 0, field: 0 },
-        Refusal::Draw(draw, field) => Values {
-            value: draw,
-            field: field,
-        },
-        Refusal::Noise(index) => Values {
-            value: index,
-            field: 0,
-        },
-        Refusal::Length => Values { value: 0, field: 0 },
-        Refusal::StretchLength => Values { value: 0, field: 0 },
-        Refusal::Level => Values { value: 0, field: 0 },
-        Refusal::TriggerLevel => Values { value: 0, field: 0 },
-        Refusal::SamplesPerPulse => Values { value: 0, field: 0 },
-        Refusal::Log => Values { value: 0, field: 0 },
-        Refusal::Feeds => Values { value: 0, field: 0 },
-        Refusal::Record(index) => Values {
-            value: index,
-            field: 0,
-        },
+        Refusal::Rate(value)
+        | Refusal::Distribution(value)
+        | Refusal::Noise(value)
+        | Refusal::Record(value) => Values { value, field: 0 },
+        Refusal::Draw(draw, field) => Values { value: draw, field },
+        _ => Values { value: 0, field: 0 },
     }
 }

@@ -4,10 +4,10 @@ use mathlib.Core.Path.{◌≡◌, refl, sym, ap, ◌∙◌}
 use mathlib.Core.List.{List, [], ◌∷◌}
 use lib.ListN.{get_or}
 use Rattle.refusals.specs.declared.Refusal.{Refusal}
-use Rattle.refusals.specs.declared.Refusal.TheVariants.{Duration, Rate, Total, Distribution, Taps, Prototype, Draw, Noise, Length, StretchLength, Level, TriggerLevel, SamplesPerPulse, Log, Feeds, Record}
+use Rattle.refusals.specs.declared.Refusal.TheVariants.{Duration, Rate, Total, Distribution, Taps, Prototype, Draw, Noise, Length, Reply, Tape, StretchLength, Level, TriggerLevel, SamplesPerPulse, Log, Feeds, Record}
 use Rattle.refusals.specs.Number.{number_of, values_of}
 
--- the refusal with a number, from 1 on, and values; 10 and 11 are no refusals of a call
+-- the refusal with a number, from 1 on, and values
 refusal_of : ℕ → List ℕ → Refusal
 refusal_of n vs =
     get_or
@@ -21,8 +21,8 @@ refusal_of n vs =
     ∷ Draw (get_or vs 0 0) (get_or vs 1 0)
     ∷ Noise (get_or vs 0 0)
     ∷ Length
-    ∷ Length
-    ∷ Length
+    ∷ Reply
+    ∷ Tape
     ∷ StretchLength
     ∷ Level
     ∷ TriggerLevel
@@ -45,6 +45,8 @@ back Prototype = refl
 back (Draw d f) = refl
 back (Noise p) = refl
 back Length = refl
+back Reply = refl
+back Tape = refl
 back StretchLength = refl
 back Level = refl
 back TriggerLevel = refl

@@ -1,7 +1,7 @@
 -- The table of refusals (SPECIFICATION 3.1): what is returned for each cause, a number and its values.
 use Rattle.std.specs.Prelude.{ℕ, List, [], ◌∷◌}
 use Rattle.refusals.specs.declared.Refusal.{Refusal}
-use Rattle.refusals.specs.declared.Refusal.TheVariants.{Duration, Rate, Total, Distribution, Taps, Prototype, Draw, Noise, Length, StretchLength, Level, TriggerLevel, SamplesPerPulse, Log, Feeds, Record}
+use Rattle.refusals.specs.declared.Refusal.TheVariants.{Duration, Rate, Total, Distribution, Taps, Prototype, Draw, Noise, Length, Reply, Tape, StretchLength, Level, TriggerLevel, SamplesPerPulse, Log, Feeds, Record}
 
 unfoldable pub number_of : Refusal → ℕ
 number_of Duration = 1
@@ -13,6 +13,8 @@ number_of Prototype = 6
 number_of (Draw draw field) = 7
 number_of (Noise index) = 8
 number_of Length = 9
+number_of Reply = 10
+number_of Tape = 11
 number_of StretchLength = 12
 number_of Level = 13
 number_of TriggerLevel = 14
@@ -32,6 +34,8 @@ values_of Prototype = []
 values_of (Draw draw field) = draw ∷ field ∷ []
 values_of (Noise index) = index ∷ []
 values_of Length = []
+values_of Reply = []
+values_of Tape = []
 values_of StretchLength = []
 values_of Level = []
 values_of TriggerLevel = []

@@ -4,7 +4,7 @@
 ghost use Rattle.std.specs.Prelude.{◌≡◌};
 ghost use Rattle.refusals.specs.Number.{number_of};
 
-#[derive(Clone, Copy)]
+#[derive(Clone, Copy, PartialEq, Eq)]
 pub enum Refusal {
     // Nanoseconds out of range, or too long a duration.
     Duration,
@@ -24,6 +24,10 @@ pub enum Refusal {
     Noise(u64),
     // The length of a buffer.
     Length,
+    // A Mode A/C reply's data or a digit of it.
+    Reply,
+    // A tape's sections, or a run of it that is not done.
+    Tape,
     // The output or noise of one reply alone, of another length than its duration asks for.
     StretchLength,
     // A level above 200.0 dB.
@@ -40,26 +44,31 @@ pub enum Refusal {
     Record(u64),
 }
 
-// The number (SPECIFICATION 3.1).
-pub fn number(r: Refusal) -> u64
-    ensures { result ≡ number_of r }
-{
-    match r {
-        Refusal::Duration => 1,
-        Refusal::Rate(_) => 2,
-        Refusal::Total => 3,
-        Refusal::Distribution(_) => 4,
-        Refusal::Taps => 5,
-        Refusal::Prototype => 6,
-        Refusal::Draw(_, _) => 7,
-        Refusal::Noise(_) => 8,
-        Refusal::Length => 9,
-        Refusal::StretchLength => 12,
-        Refusal::Level => 13,
-        Refusal::TriggerLevel => 14,
-        Refusal::SamplesPerPulse => 15,
-        Refusal::Log => 16,
-        Refusal::Feeds => 17,
-        Refusal::Record(_) => 18,
+impl Refusal {
+    // The number (SPECIFICATION 3.1).
+    #[tactic(auto, unfolding(crate::specs::Number::number_of))]
+    pub fn number(self) -> u64
+        ensures { result ≡ number_of self }
+    {
+        match self {
+            Refusal::Duration => 1,
+            Refusal::Rate(_) => 2,
+            Refusal::Total => 3,
+            Refusal::Distribution(_) => 4,
+            Refusal::Taps => 5,
+            Refusal::Prototype => 6,
+            Refusal::Draw(_, _) => 7,
+            Refusal::Noise(_) => 8,
+            Refusal::Length => 9,
+            Refusal::Reply => 10,
+            Refusal::Tape => 11,
+            Refusal::StretchLength => 12,
+            Refusal::Level => 13,
+            Refusal::TriggerLevel => 14,
+            Refusal::SamplesPerPulse => 15,
+            Refusal::Log => 16,
+            Refusal::Feeds => 17,
+            Refusal::Record(_) => 18,
+        }
     }
 }

@@ -1,6 +1,6 @@
 -- One step of the loop that writes a wave's values, its beginning and its two ends.
 use Prim.Native.Nat.{ℕ, zero, suc, ◌+◌, ◌-◌, ◌*◌, ◌^◌, ◌<◌, ◌≤◌}
-use native.Mathlib.Nat.{mod-eq_of_lt, sub-zero, mul-le-mul}
+use native.Mathlib.Nat.{le_of_eq, mod-eq_of_lt, sub-zero, mul-le-mul}
 use native.Mathlib.Numerals.{add-one}
 use native.Mathlib.Omega.{arith}
 use mathlib.Core.Path.{◌≡◌, refl, sym, ap, ◌∙◌}
@@ -79,9 +79,13 @@ module _ (value : Clock → Float) (limit : ℕ) (step : Float) where
   pub fill_stop : (fuel n : ℕ) (vs : List Float) (s : Clock) (whole : List Float) → limit ≤ s.index → take n vs ++ clock_values fuel limit step value s ≡ whole → take n vs ≡ whole
   fill_stop fuel n vs s whole h inv = sym (append-nil (take n vs)) ∙ ap (λ (k : List Float). take n vs ++ k) (sym (no_value fuel s h)) ∙ inv
 
-  pub fill_full : (e n : ℕ) (vs : List Float) (s : Clock) (whole : List Float) → e ≤ n → take n vs ++ clock_values (e - n) limit step value s ≡ whole → take n vs ≡ whole
+  pub fill_full : (e n : ℕ) (vs : List Float) (s : Clock) (whole : List Float) → e ≡ n → take n vs ++ clock_values (e - n) limit step value s ≡ whole → take e vs ≡ whole
   unfolding clock_values
-  fill_full e n vs s whole h inv = sym (append-nil (take n vs)) ∙ ap (λ (f : ℕ). take n vs ++ clock_values f limit step value s) (sym (none_left e n h)) ∙ inv
+  fill_full e n vs s whole h inv =
+      ap (λ (k : ℕ). take k vs) h
+      ∙ sym (append-nil (take n vs))
+      ∙ ap (λ (f : ℕ). take n vs ++ clock_values f limit step value s) (sym (none_left e n (le_of_eq h)))
+      ∙ inv
 
   -- at the beginning
   pub fill_first : (e : ℕ) (vs : List Float) (s : Clock) → take 0 vs ++ clock_values (e - 0) limit step value s ≡ clock_values e limit step value s

@@ -1,7 +1,5 @@
 -- What functions within this crate give, as their contracts name it. No public contract cites this file.
-use Rattle.std.specs.Prelude.{ℕ, ◌≡◌, Bool, true, false, List, length, Float}
-use Rattle.message.specs.declared.ReplyKind.{ReplyKind}
-use Rattle.message.specs.declared.ReplyKind.TheVariants.{Short, Long, ModeAc}
+use Rattle.std.specs.Prelude.{ℕ, ◌≡◌, Bool, List, length, Float}
 use Rattle.message_config.specs.declared.Delays.{Delays}
 use Rattle.message_config.specs.declared.MessageConfig.{MessageConfig}
 use Rattle.message_config.specs.Config.{config_clock_phase, config_clock_error, config_rate, config_phase}
@@ -14,11 +12,6 @@ use Rattle.reply_samples.specs.declared.Sample.{Sample}
 use Rattle.reply_add.specs.declared.Wave.{Wave}
 use Rattle.reply_samples.specs.Samples.{rotated}
 use Rattle.reply_samples.specs.RingModel.{added_reply, added_count}
-
-unfoldable pub is_mode_ac : ReplyKind → Bool
-is_mode_ac Short = false
-is_mode_ac Long = false
-is_mode_ac ModeAc = true
 
 -- the filterbank's value at a clock, over padded pulses
 unfoldable pub padded_value : ℕ → List Float → List Bool → Clock → Float
@@ -34,14 +27,12 @@ wave_of sps c amplitude delays len =
     record {
       clock = start_clock sps (config_clock_phase delays c);
       step = step_of sps (config_clock_error c);
-      phase = config_phase sps delays c;
-      rate = config_rate sps c;
-      amplitude = amplitude;
       limit = limit_of len;
+      carrier = record { amplitude = amplitude; rate = config_rate sps c; phase = config_phase sps delays c };
     }
 
 unfoldable pub wave_samples : ℕ → List Float → List Bool → Wave → List Sample
-wave_samples sps prototype padded w = rotated w.amplitude w.rate w.phase (padded_values sps prototype padded w.limit w.step w.clock)
+wave_samples sps prototype padded w = rotated w.carrier.amplitude w.carrier.rate w.carrier.phase (padded_values sps prototype padded w.limit w.step w.clock)
 
 -- samples added into memory from a slot on, and their number answered
 abbrev pub Adds : ℕ → List Float → ℕ → List Sample → List Float → ℕ → Type 0

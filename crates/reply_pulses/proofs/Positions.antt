@@ -1,4 +1,4 @@
--- The positions of a reply: as many as its length says, at most 240; 128 for a short message, 240 for a long one, 43 for Mode A/C and 52 with SPI. And each kind's pulses and samples, as the code meets them.
+-- The positions of a reply: as many as its length says, at most 240; 128 for a short message, 240 for a long one, 43 for Mode A/C and 52 with SPI.
 use mathlib.Core.Path.{◌≡◌, sym, ap, ◌∙◌, subst}
 use Prim.Native.Nat.{ℕ, ◌+◌, ◌*◌, ◌%◌, ◌≤◌}
 use native.Mathlib.Nat.{le_trans, le_of_eq}
@@ -17,36 +17,6 @@ use Rattle.pulse_map.specs.ModeAC.{mode_ac_pulses, mode_ac_length}
 use Rattle.pulse_length.specs.Length.{mode_s_num_samples, mode_ac_num_samples}
 use Rattle.reply_pulses.specs.ReplyPulses.{data_of, spi_of, pulses_of_kind, pulses_of, positions_of, num_samples_of_kind, num_samples_of}
 
--- ---- by kind
-pub data_is : (b : List ℕ) (x y : ℕ) → x ≡ get_or b 0 0 → y ≡ get_or b 1 0 → x + y % 16 * 256 ≡ data_of b
-unfolding data_of
-data_is b x y e f = ap (λ (n : ℕ). n + y % 16 * 256) e ∙ ap (λ (n : ℕ). get_or b 0 0 + n % 16 * 256) f
-
-pub of_short : (r : Reply) → r.kind ≡ Short → mode_s_pulses r.bytes false ≡ pulses_of r
-unfolding pulses_of
-of_short r e = ap (λ (k : ReplyKind). pulses_of_kind k r.bytes) (sym e)
-
-pub of_long : (r : Reply) → r.kind ≡ Long → mode_s_pulses r.bytes true ≡ pulses_of r
-unfolding pulses_of
-of_long r e = ap (λ (k : ReplyKind). pulses_of_kind k r.bytes) (sym e)
-
-pub of_mode_ac : (r : Reply) (d : ℕ) (s : Bool) → r.kind ≡ ModeAc → d ≡ data_of r.bytes → s ≡ spi_of r.bytes → mode_ac_pulses d s ≡ pulses_of r
-unfolding pulses_of
-of_mode_ac r d s e p q = ap (λ (n : ℕ). mode_ac_pulses n s) p ∙ ap (mode_ac_pulses (data_of r.bytes)) q ∙ ap (λ (k : ReplyKind). pulses_of_kind k r.bytes) (sym e)
-
-pub samples_short : (sps : ℕ) (r : Reply) → r.kind ≡ Short → mode_s_num_samples sps false ≡ num_samples_of sps r
-unfolding num_samples_of
-samples_short sps r e = ap (λ (k : ReplyKind). num_samples_of_kind sps k r.bytes) (sym e)
-
-pub samples_long : (sps : ℕ) (r : Reply) → r.kind ≡ Long → mode_s_num_samples sps true ≡ num_samples_of sps r
-unfolding num_samples_of
-samples_long sps r e = ap (λ (k : ReplyKind). num_samples_of_kind sps k r.bytes) (sym e)
-
-pub samples_mode_ac : (sps : ℕ) (r : Reply) (s : Bool) → r.kind ≡ ModeAc → s ≡ spi_of r.bytes → mode_ac_num_samples sps s ≡ num_samples_of sps r
-unfolding num_samples_of
-samples_mode_ac sps r s e q = ap (mode_ac_num_samples sps) q ∙ ap (λ (k : ReplyKind). num_samples_of_kind sps k r.bytes) (sym e)
-
--- ---- the length of a reply
 kind_on : (k : ReplyKind) (b : List ℕ) → length (pulses_of_kind k b).on ≡ 240
 unfolding mode_s_pulses mode_ac_pulses map_of
 kind_on Short b = map_length _ 0 240

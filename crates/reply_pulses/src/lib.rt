@@ -2,7 +2,7 @@
 // Each function is equal to a definition of specs/ on every input.
 #![tactic(auto)]
 
-ghost use Rattle.std.specs.Prelude.{◌≡◌, ◌<◌};
+ghost use Rattle.std.specs.Prelude.{◌≡◌};
 ghost use Rattle.constants.specs.Setting.{per_pulse};
 ghost use Rattle.reply_pulses.specs.ReplyPulses.{data_of, spi_of, pulses_of, num_samples_of};
 
@@ -10,18 +10,15 @@ use constants::SamplesPerPulse;
 use message::{Reply, ReplyKind};
 use pulse_map::Pulses;
 
-fn wide(x: u8) -> u16
-    ensures { (result ≡ x) × (result < 256) }
-{
-    x as u16
-}
-
+// The twelve data bits of a Mode A/C message.
+#[tactic(auto, unfolding(crate::specs::ReplyPulses::data_of))]
 fn mode_ac_data(b: [u8; 14]) -> u16
     ensures { result ≡ data_of b }
 {
-    wide(b[0]) + wide(b[1]) % 16 * 256
+    u16::from(b[0]) + u16::from(b[1]) % 16 * 256
 }
 
+#[tactic(auto, unfolding(crate::specs::ReplyPulses::spi_of))]
 fn mode_ac_spi(b: [u8; 14]) -> bool
     ensures { result ≡ spi_of b }
 {
@@ -29,12 +26,12 @@ fn mode_ac_spi(b: [u8; 14]) -> bool
 }
 
 // The pulses of a reply.
+#[tactic(auto, unfolding(crate::specs::ReplyPulses::pulses_of))]
 pub fn message_to_pulses(r: Reply) -> Pulses
     ensures { result ≡ pulses_of r }
 {
     let b = r.bytes;
-    let kind = r.kind;
-    match kind {
+    match r.kind {
         ReplyKind::Short => pulse_map::mode_s_pulses(b, false),
         ReplyKind::Long => pulse_map::mode_s_pulses(b, true),
         ReplyKind::ModeAc => pulse_map::mode_ac_pulses(mode_ac_data(b), mode_ac_spi(b)),
@@ -42,14 +39,13 @@ pub fn message_to_pulses(r: Reply) -> Pulses
 }
 
 // The samples that a reply lasts at the nominal clock rate.
+#[tactic(auto, unfolding(crate::specs::ReplyPulses::num_samples_of))]
 pub fn message_num_samples(setting: SamplesPerPulse, r: Reply) -> usize
     ensures { result ≡ num_samples_of (per_pulse setting) r }
 {
-    let b = r.bytes;
-    let kind = r.kind;
-    match kind {
+    match r.kind {
         ReplyKind::Short => pulse_length::mode_s_num_samples(setting, false),
         ReplyKind::Long => pulse_length::mode_s_num_samples(setting, true),
-        ReplyKind::ModeAc => pulse_length::mode_ac_num_samples(setting, mode_ac_spi(b)),
+        ReplyKind::ModeAc => pulse_length::mode_ac_num_samples(setting, mode_ac_spi(r.bytes)),
     }
 }

@@ -9,6 +9,7 @@ use constants::RECORD_LEN;
 use message::{Reply, ReplyKind};
 use message_config::MessageConfig;
 
+#[tactic(auto, unfolding(crate::specs::Record::message_length))]
 fn message_length(kind: ReplyKind) -> u8
     ensures { result ≡ message_length kind }
 {
@@ -19,6 +20,7 @@ fn message_length(kind: ReplyKind) -> u8
     }
 }
 
+#[tactic(auto, using(le_read::proofs::Halves::overwritten_one))]
 fn put_u8(d: &mut [u8], at: usize, v: u8)
     requires { at < length d.old }
     ensures { d.new ≡ overwritten d.old at (v ∷ []) }
@@ -26,15 +28,12 @@ fn put_u8(d: &mut [u8], at: usize, v: u8)
     d[at] = v;
 }
 
+#[tactic(auto, using(std::proofs::lemmas::Slice::overwrites), unfolding(le_read::specs::LeBytes::overwritten))]
 fn put_bytes(d: &mut [u8], at: usize, b: [u8; 14])
     requires { at + 14 ≤ length d.old }
     ensures { d.new ≡ overwritten d.old at b }
 {
-    let mut k: usize = 0;
-    while k < 14 {
-        d[at + k] = b[k];
-        k = k + 1;
-    }
+    d[at..at + 14].copy_from_slice(&b);
 }
 
 fn put_floats(d: &mut [u8], at: usize, c: MessageConfig)
@@ -52,24 +51,21 @@ fn put_others(d: &mut [u8], at: usize, reply: Reply, first: u64, kind: u8, count
     requires { at + 26 ≤ length d.old }
     ensures { d.new ≡ overwritten d.old at (other_bytes reply first kind count) }
 {
-    let sent = reply.kind;
-    let bytes = reply.bytes;
-    let n = message_length(sent);
     le_write::put_u64(d, at, first);
     put_u8(d, at + 8, kind);
     le_write::put_u16(d, at + 9, count);
-    put_u8(d, at + 11, n);
-    put_bytes(d, at + 12, bytes);
+    put_u8(d, at + 11, message_length(reply.kind));
+    put_bytes(d, at + 12, reply.bytes);
 }
 
 // The record of a message, written at an offset: its first sample, its type's number and its count of samples. False where it would run past the end: then nothing is written.
+#[tactic(auto, using(crate::proofs::Overwritten::room))]
 pub fn put(d: &mut [u8], at: usize, c: MessageConfig, first: u64, kind: u8, count: u16) -> bool
     ensures { (result ≡ inside record_length d.old at) × (d.new ≡ record_at d.old at (record_bytes c first kind count)) }
 {
     if le_read::holds(d.len(), at, RECORD_LEN) {
-        let reply = c.reply;
         put_floats(d, at, c);
-        put_others(d, at + 40, reply, first, kind, count);
+        put_others(d, at + 40, c.reply, first, kind, count);
         return true;
     }
     false

@@ -19,7 +19,16 @@ pub struct Sample {
     pub im: f32,
 }
 
+// A reply's carrier: its amplitude, what its phase goes on by in a sample, and its phase at the first sample.
+#[derive(Clone, Copy)]
+pub struct Carrier {
+    pub amplitude: f32,
+    pub rate: f64,
+    pub phase: f64,
+}
+
 // A value of the filterbank times the amplitude, rotated by the carrier's phase.
+#[tactic(auto, unfolding(crate::specs::Samples::sample_at))]
 fn sample_at(amplitude: f32, value: f32, phase: f64) -> Sample
     ensures { result ≡ sample_at amplitude value phase }
 {
@@ -31,79 +40,65 @@ fn sample_at(amplitude: f32, value: f32, phase: f64) -> Sample
     }
 }
 
-// Adds a number to one of the memory's.
-fn add_to(memory: &mut [f32], i: usize, x: f32)
-    requires { i < length memory.old }
-    ensures { memory.new ≡ set memory.old i (add binary32 (get_or memory.old i nan) x) }
-{
-    memory[i] = memory[i] + x;
-}
-
 // Adds a sample at a slot of the memory.
+#[tactic(auto, unfolding(crate::specs::RingModel::added_at))]
 fn add_at(memory: &mut [f32], slot: usize, z: Sample)
     requires { 2 * slot + 1 < length memory.old }
     ensures { (memory.new ≡ added_at memory.old slot z) × (length memory.new ≡ length memory.old) }
 {
     let i = 2 * slot;
-    add_to(memory, i, z.re);
-    add_to(memory, i + 1, z.im);
+    memory[i] += z.re;
+    memory[i + 1] += z.im;
 }
 
 // The slot after a slot of the ring.
+#[tactic(auto, unfolding(crate::specs::RingModel::next_slot))]
 fn next_slot(setting: SamplesPerPulse, slot: usize) -> usize
     ensures { (result ≡ next_slot (per_pulse setting) slot) × (result < ring_slots (per_pulse setting)) }
 {
     if slot < setting.ring_slots() - 1 {
-        return slot + 1;
+        slot + 1
+    } else {
+        0
     }
-    0
 }
 
 // Adds values, rotated by the carrier, from a slot on.
 fn add_from(
     setting: SamplesPerPulse,
     values: &[f32],
-    amplitude: f32,
-    rate: f64,
-    first: f64,
+    carrier: Carrier,
     memory: &mut [f32],
     slot: usize,
 )
     requires { (length memory.old ≡ working_memory (per_pulse setting)) × (slot < ring_slots (per_pulse setting)) }
-    ensures { memory.new ≡ added_from (per_pulse setting) memory.old slot (rotated amplitude rate first values.now) }
+    ensures { memory.new ≡ added_from (per_pulse setting) memory.old slot (rotated carrier.amplitude carrier.rate carrier.phase values.now) }
 {
-    let count = values.len();
-    let mut phase = first;
+    let mut phase = carrier.phase;
     let mut at = slot;
-    let mut i: usize = 0;
-    while i < count {
-        let next = math::phase_wrap_once_f64(phase + rate);
-        let z = sample_at(amplitude, values[i], phase);
+    for v in values {
+        let next = math::phase_wrap_once_f64(phase + carrier.rate);
+        let z = sample_at(carrier.amplitude, *v, phase);
         add_at(memory, at, z);
         phase = next;
         at = next_slot(setting, at);
-        i = i + 1;
     }
 }
 
 // Adds values of the filterbank, times the amplitude and rotated by the carrier, into working memory from a slot on, and answers how many they are.
+#[tactic(auto, unfolding(crate::specs::RingModel::is_slot, crate::specs::RingModel::added_reply, crate::specs::RingModel::added_count))]
 pub fn add_rotated(
     setting: SamplesPerPulse,
     values: &[f32],
-    amplitude: f32,
-    rate: f64,
-    phase: f64,
+    carrier: Carrier,
     memory: &mut [f32],
     slot: usize,
 ) -> usize
-    ensures { (memory.new ≡ added_reply (per_pulse setting) memory.old slot (rotated amplitude rate phase values.now)) × (result ≡ added_count (per_pulse setting) memory.old slot (length values.now)) × (result ≤ length values.now) }
+    ensures { (memory.new ≡ added_reply (per_pulse setting) memory.old slot (rotated carrier.amplitude carrier.rate carrier.phase values.now)) × (result ≡ added_count (per_pulse setting) memory.old slot (length values.now)) × (result ≤ length values.now) }
 {
-    if memory.len() != setting.memory_len() {
+    if memory.len() != setting.memory_len() || slot >= setting.ring_slots() {
         return 0;
     }
-    if slot >= setting.ring_slots() {
-        return 0;
-    }
-    add_from(setting, values, amplitude, rate, phase, memory, slot);
+    add_from(setting, values, carrier, memory, slot);
     values.len()
 }

@@ -1,20 +1,11 @@
 // A reply added into working memory and recorded, from its message and the bytes of its draw.
 #![tactic(auto)]
 
-ghost use Rattle.std.specs.Prelude.{◌≡◌, ◌%◌};
-ghost use Rattle.constants.specs.Rate.{four};
-ghost use Rattle.reply_samples.specs.RingModel.{ring_slots};
+ghost use Rattle.std.specs.Prelude.{◌≡◌};
 ghost use Rattle.run_add_reply.specs.RecordedModel.{memory_with, count_with, records_with};
 
 use constants::{RING_SLOTS_U64, SamplesPerPulse};
 use message_config::{Delays, MessageConfig};
-
-// The slot of a sample in working memory.
-fn ring(n: u64) -> usize
-    ensures { result ≡ n % ring_slots four }
-{
-    (n % RING_SLOTS_U64) as usize
-}
 
 // Adds the reply of the draw at the start of the bytes, given its message but for the reply's bytes, from its first sample on, and writes its record from `at` on. It yields the count in that record, the number of samples added. Other memory, and records with no room, are left as they are.
 pub fn add(
@@ -41,7 +32,7 @@ pub fn add(
         amplitude,
         delays,
         memory,
-        ring(first),
+        (first % RING_SLOTS_U64) as usize,
     );
     reply_record::put(records, at, c, first, kind, count);
     count

@@ -1,16 +1,14 @@
 -- Each answer of the code is what the definition gives.
+use Rattle.std.specs.Prelude.{option_map, Option}
+use Rattle.std.specs.Prelude.{Some, None, Result, Ok, Err}
 use Prim.Native.Nat.{ℕ, ◌*◌, ◌/◌, ◌%◌}
 use mathlib.Core.Path.{◌≡◌, refl, sym, ap, ◌∙◌}
 use mathlib.Core.List.{List, []}
-use mathlib.Core.Option.{Option, none, some}
-use native.Mathlib.Omega.{arith}
-use lib.ListN.{length, take}
-use lib.Seq.{take_all}
+use lib.ListN.{length}
 use lib.Ieee.{Float}
 use borrow.Author.Tests.{eq-eqb, ne_eqb}
 use Rattle.refusals.specs.declared.Refusal as Refusal
-use Rattle.refusals.specs.Answer.{accepted, unless}
-use Rattle.draw.specs.declared.DrawFault as DrawFault
+use Rattle.refusals.specs.Answer.{unless}
 use Rattle.draw.specs.Fault.{first_fault}
 use Rattle.run_theory.specs.Generator.{Generator}
 use Rattle.run_theory.specs.PlainBench as Bench
@@ -19,12 +17,11 @@ use Rattle.run_call_checks.proofs.Draws.{fault_same}
 use Rattle.run_call.specs.declared.State.{State}
 use Rattle.run_call.specs.StateGenerator.{gen_of}
 use Rattle.run_call.specs.Given.{refusal_given}
-use Rattle.run_open_checks.specs.declared.Opened as Opened
 use Rattle.run_booking_walk.specs.declared.Walked.{Walked}
 use Rattle.run_booking_walk.specs.Walk as Walk
 use Rattle.run_booking_walk.specs.Answered.{walk_generator, walked_read}
-use Rattle.run_booking.specs.declared.Booked as Booked
-use Rattle.run_booking.specs.Booking.{figures_of, given, draws_then, opened_then, opened, booking_of}
+use Rattle.run_booking.specs.declared.Figures as Code
+use Rattle.run_booking.specs.Booking.{figures_of, draws_then, opened_then, opened, booking_of}
 use Rattle.run_booking.specs.Booked.{figures_read, booked_read}
 
 module _ (s : State) (mode_s mode_ac : List Float) (time : Float) (draws : List ℕ) where
@@ -32,27 +29,27 @@ module _ (s : State) (mode_s mode_ac : List Float) (time : Float) (draws : List 
   G = gen_of s mode_s mode_ac
 
   -- the first fault of all draws
-  module _ (f : DrawFault.DrawFault) (whole : length draws % 65 ≡ 0) (e : f ≡ first_fault s.rates s.distributions (take (length draws / 65 * 65) draws)) where
+  module _ (f : (Option (ℕ × ℕ))) (e : f ≡ first_fault s.rates s.distributions draws) where
     fault_is : fault_read f ≡ Bench.first_fault (gen_of s mode_s mode_ac) 0 (Bench.draws_of (gen_of s mode_s mode_ac) draws)
     unfolding first_fault
     fault_is =
-        ap fault_read (e ∙ ap (first_fault s.rates s.distributions) (take_all (length draws / 65 * 65) draws (omega arith)))
+        ap fault_read e
         ∙ fault_same s.rates s.distributions (length draws / 65) 0 draws
 
-    answer : (o : Option Bench.Refusal) → fault_read f ≡ o → unless (given o) (figures_of G time (Bench.draws_of G draws)) ≡ draws_then s mode_s mode_ac time draws
+    answer : (o : Option Bench.Refusal) → fault_read f ≡ o → unless (option_map refusal_given o) (figures_of G time (Bench.draws_of G draws)) ≡ draws_then s mode_s mode_ac time draws
     unfolding draws_then
-    answer o q = ap (λ (x : Option Bench.Refusal). unless (given x) (figures_of G time (Bench.draws_of G draws))) (sym q ∙ fault_is)
+    answer o q = ap (λ (x : Option Bench.Refusal). unless (option_map refusal_given x) (figures_of G time (Bench.draws_of G draws))) (sym q ∙ fault_is)
 
-    pub draw_refused : (k field : ℕ) → f ≡ DrawFault.TheVariants.At k field → booked_read (Booked.TheVariants.Refused (Refusal.TheVariants.Draw k field)) ≡ draws_then s mode_s mode_ac time draws
-    unfolding booked_read given unless fault_read refusal_given
-    draw_refused k field q = answer (some (Bench.wrong_draw k field)) (ap fault_read q)
+    pub draw_refused : (k field : ℕ) → f ≡ Some (k, field) → booked_read (Err (Refusal.TheVariants.Draw k field)) ≡ draws_then s mode_s mode_ac time draws
+    unfolding booked_read unless fault_read refusal_given
+    draw_refused k field q = answer (Some (Bench.wrong_draw k field)) (ap fault_read q)
 
-    pub figures_given : f ≡ DrawFault.TheVariants.None → (w : Walked) → walked_read w ≡ Walk.walk_of (walk_generator s.distributions s.delays s.total) time (Bench.draws_of (walk_generator s.distributions s.delays s.total) draws)
-        → booked_read (Booked.TheVariants.Booking (record { samples = s.total; noise = 2 * s.total; records = w.records; taken = w.taken; end = w.end })) ≡ draws_then s mode_s mode_ac time draws
-    unfolding booked_read figures_read walked_read given unless fault_read
+    pub figures_given : f ≡ None → (w : Walked) → walked_read w ≡ Walk.walk_of (walk_generator s.distributions s.delays s.total) time (Bench.draws_of (walk_generator s.distributions s.delays s.total) draws)
+        → booked_read (Ok (record { samples = s.total; noise = 2 * s.total; records = w.records; taken = w.taken; end = w.end })) ≡ draws_then s mode_s mode_ac time draws
+    unfolding booked_read figures_read walked_read unless fault_read
     figures_given q w p =
-        (λ i. accepted (record { samples = s.total; noise = 2 * s.total; records = (p i).records; taken = (p i).taken; end = (p i).end }))
-        ∙ answer none (ap fault_read q)
+        (λ i. Ok (record { samples = s.total; noise = 2 * s.total; records = (p i).records; taken = (p i).taken; end = (p i).end }))
+        ∙ answer None (ap fault_read q)
 
 -- prototypes do not matter
 pub any_prototypes : (s : State) (mode_s mode_ac : List Float) (time : Float) (draws : List ℕ) → draws_then s mode_s mode_ac time draws ≡ draws_then s [] [] time draws
@@ -60,22 +57,22 @@ unfolding draws_then
 any_prototypes s mode_s mode_ac time draws = refl
 
 module _ (taps_s taps_ac : List Float) (time : Float) (settings draws : List ℕ) where
-  abbrev Answers : Booked.Booked → Type 0
+  abbrev Answers : (Result Code.Figures Refusal.Refusal) → Type 0
   Answers r = booked_read r ≡ booking_of taps_s taps_ac time settings draws
 
-  pub length_refused : (length draws % 65 ≡ 0 → ⊥) → Answers (Booked.TheVariants.Refused Refusal.TheVariants.Length)
+  pub length_refused : (length draws % 65 ≡ 0 → ⊥) → Answers (Err Refusal.TheVariants.Length)
   unfolding booking_of booked_read
   length_refused h = sym (rw (ne_eqb (length draws % 65) 0 h))
 
-  module _ (h : length draws % 65 ≡ 0) (o : Opened.Opened) (e : o ≡ opened taps_s taps_ac settings) where
+  module _ (h : length draws % 65 ≡ 0) (o : (Result State Refusal.Refusal)) (e : o ≡ opened taps_s taps_ac settings) where
     opens : opened_then taps_s taps_ac time draws o ≡ booking_of taps_s taps_ac time settings draws
     unfolding booking_of
     opens = ap (opened_then taps_s taps_ac time draws) e ∙ sym (rw (eq-eqb (length draws % 65) 0 h))
 
-    pub opening_refused : (q : Refusal.Refusal) → o ≡ Opened.TheVariants.Refused q → Answers (Booked.TheVariants.Refused q)
+    pub opening_refused : (q : Refusal.Refusal) → o ≡ Err q → Answers (Err q)
     unfolding booked_read opened_then
     opening_refused q k = sym (ap (opened_then taps_s taps_ac time draws) k) ∙ opens
 
-    pub run_booked : (s : State) (r : Booked.Booked) → o ≡ Opened.TheVariants.Run s → booked_read r ≡ draws_then s [] [] time draws → Answers r
+    pub run_booked : (s : State) (r : (Result Code.Figures Refusal.Refusal)) → o ≡ Ok s → booked_read r ≡ draws_then s [] [] time draws → Answers r
     unfolding opened_then
     run_booked s r k p = p ∙ sym (any_prototypes s _ _ time draws) ∙ sym (ap (opened_then taps_s taps_ac time draws) k) ∙ opens

@@ -1,8 +1,8 @@
 -- What a list of calls on the plain bench counts in all is what the bench took and used; and the draws that it took end at the end draw, if that is among them.
+use Rattle.std.specs.Prelude.{Option, Some, None}
 use Prim.Native.Nat.{ℕ, zero, suc, ◌+◌, ◌-◌, ◌*◌, ◌≤◌}
 use mathlib.Core.Bool.{false}
 use mathlib.Core.List.{List, [], ◌∷◌, ◌++◌}
-use mathlib.Core.Option.{Option, none, some}
 use mathlib.Core.Path.{◌≡◌, refl, sym, ap, ◌∙◌}
 use native.Mathlib.Omega.{arith}
 use lib.ListN.{length, length-append}
@@ -142,8 +142,8 @@ module _ (G : Generator) where
     pub all_taken_lem : AllTaken b.taken → AllTaken b'.taken
 
   one_call : (b : Bench G) (c : Call G) (x : Option Refusal) → Sums b (result_of G c (bench_call G b c x).0 ∷ []) (bench_call G b c x).1
-  one_call b c (some q) = record { taken = omega arith; samples = omega arith; noise = omega arith; records = omega arith; all_taken_lem = λ h. h }
-  one_call b c none =
+  one_call b c (Some q) = record { taken = omega arith; samples = omega arith; noise = omega arith; records = omega arith; all_taken_lem = λ h. h }
+  one_call b c None =
       let l = remaining_of G c in
       let u = steps_used (fuel G l) b l in
       record {

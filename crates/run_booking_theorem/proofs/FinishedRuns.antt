@@ -1,4 +1,5 @@
 -- A finished run uses exactly what its booking says: `finished-runs`, at the end.
+use Rattle.std.specs.Prelude.{Ok}
 use Prim.Native.Nat.{ℕ, suc, ◌+◌, ◌*◌}
 use mathlib.Core.Bool.{true}
 use mathlib.Core.List.{List, [], ◌∷◌, ◌++◌, map, append-nil}
@@ -9,7 +10,6 @@ use lib.ListN.{length}
 use lib.Ieee.{Float, nan}
 use Rattle.constants.specs.Rate.{four, working_memory}
 use Rattle.pulse_shape.specs.Prototype.{mode_s_prototype, mode_ac_prototype}
-use Rattle.refusals.specs.Answer.{Answer, accepted}
 use Rattle.run_theory.specs.FloatGenerator.{nought}
 use Rattle.run_theory.specs.Zeros.{zeros}
 use Rattle.run_theory.specs.Generator.{Generator}
@@ -23,7 +23,6 @@ use Rattle.run_generator.proofs.InstanceDemand3.{instance_laws}
 use Rattle.run_call.specs.declared.State.{State}
 use Rattle.run_call.specs.StateGenerator.{filters_of}
 use Rattle.run_call.specs.Buffers.{Left, CallBuffers}
-use Rattle.run_open_checks.specs.declared.Opened as Opened
 use Rattle.run_open_checks.specs.Opening as Opening
 use Rattle.run_open_checks.proofs.WhatIsOpened.{opened_run_in_range}
 use Rattle.run_theorem.specs.Seen.{Seen, seen_left, counts_of, seen_result}
@@ -64,7 +63,7 @@ module _ (r : Run) where
   seen_results (x ∷ xs) = ap (added (counts_of x.answer)) (seen_results xs) ∙ counts_in_lem x.answer (totals xs)
 
 -- ---- a run opened to its buffers
-module _ (taps_s taps_ac : List Float) (settings : List ℕ) (given : Opening.OpenBuffers) (s : State) (opens : Opening.opened_of four taps_s taps_ac settings given ≡ Opened.TheVariants.Run s) where
+module _ (taps_s taps_ac : List Float) (settings : List ℕ) (given : Opening.OpenBuffers) (s : State) (opens : Opening.opened_of four taps_s taps_ac settings given ≡ Ok s) where
   abbrev run : Run
   run = record { state = s; buffers = record { mode_s = mode_s_prototype four taps_s; mode_ac = mode_ac_prototype four taps_ac; memory = zeros (working_memory four) } }
 
@@ -124,7 +123,7 @@ module _ (taps_s taps_ac : List Float) (settings : List ℕ) (given : Opening.Op
       taken = ap (λ (n : Totals). n.taken) counts_are ∙ sym (zero-add _) ∙ S.taken ∙ sym all_taken_lem;
       booked =
           booked taps_s taps_ac settings s nought bytes (opened_so taps_s taps_ac settings given s opens) F.whole in_range
-          ∙ (λ i. accepted (record {
+          ∙ (λ i. Ok (record {
             samples = samples_are i;
             noise = noise_are i;
             records = records_are i;

@@ -1,8 +1,9 @@
 -- The figures of parts added are those of the whole: `parts`, at the end.
+use Rattle.std.specs.Prelude.{option_map, Option, Some, None}
+use Rattle.std.specs.Prelude.{Result, Ok, Err}
 use Prim.Native.Nat.{ℕ, suc, ◌+◌, ◌*◌, ◌/◌, ◌%◌}
 use mathlib.Core.Bool.{Bool, true, false, cond}
 use mathlib.Core.List.{List, [], ◌∷◌, ◌++◌, append-nil}
-use mathlib.Core.Option.{Option, none, some}
 use mathlib.Core.Path.{◌≡◌, refl, sym, ap, ◌∙◌, subst}
 use native.Mathlib.Omega.{arith}
 use lib.Dec.{eqb}
@@ -11,7 +12,7 @@ use lib.Ieee.{Float}
 use Rattle.constants.specs.Rate.{four}
 use Rattle.pulse_shape.specs.Prototype.{mode_s_prototype, mode_ac_prototype}
 use Rattle.refusals.specs.declared.Refusal as Refusal
-use Rattle.refusals.specs.Answer.{Answer, accepted, refused, unless}
+use Rattle.refusals.specs.Answer.{unless}
 use Rattle.run_theory.specs.Each.{Each}
 use Rattle.run_theory.specs.Generator.{Generator}
 use Rattle.run_theory.specs.PlainRun.{Kind, ignored, ends, reply, kind, time_of, ended, replies}
@@ -21,10 +22,10 @@ use Rattle.run_theory.specs.Laws.{AllInRange}
 use Rattle.run_theory.proofs.Refusals.{accepted_draws}
 use Rattle.run_generator.specs.Instance.{RepresentableDraw}
 use Rattle.run_call.specs.declared.State.{State}
+use Rattle.run_call.specs.Given.{refusal_given}
 use Rattle.run_call.specs.StateGenerator.{filters_of, gen_of}
-use Rattle.run_open_checks.specs.declared.Opened as Opened
 use Rattle.run_booking_walk.specs.Walk.{Walk, End, at_draw, by_kind, walk_from, walk_of}
-use Rattle.run_booking.specs.Booking.{Figures, figures_of, given, draws_then, opened, opened_then, booking_of}
+use Rattle.run_booking.specs.Booking.{Figures, figures_of, draws_then, opened, opened_then, booking_of}
 use Rattle.run_booking_theorem.specs.Parts.{behind, added_to, go_on, and_then, in_parts, WholeDraws, Parts}
 use Rattle.run_booking_theorem.proofs.Walked.{walk_on, walk_out, walk_ends}
 use Rattle.run_booking_theorem.proofs.OpenedBooking.{booked}
@@ -69,44 +70,44 @@ module _ (G : Generator) where
         same m = omega arith
 
 -- ---- an accepted booking
-not_accepted : {X Y : Type 0} (q : Refusal.Refusal) (y : Y) → ◌≡◌ {A = Answer Y} (refused q) (accepted y) → X
+not_accepted : {X Y : Type 0} (q : Refusal.Refusal) (y : Y) → ◌≡◌ {A = Result Y Refusal.Refusal} (Err q) (Ok y) → X
 not_accepted q y e = let z : ◌≡◌ {A = ℕ} 0 1 = cc in absurd (omega arith)
 
 module _ (taps_s taps_ac : List Float) (settings : List ℕ) where
   abbrev H : State → Generator
   H s = gen_of s (mode_s_prototype four taps_s) (mode_ac_prototype four taps_ac)
 
-  in_range : (s : State) (t : Float) (ds : List RepresentableDraw) → Bench.first_fault (H s) 0 ds ≡ none → AllInRange (H s) ds
+  in_range : (s : State) (t : Float) (ds : List RepresentableDraw) → Bench.first_fault (H s) 0 ds ≡ None → AllInRange (H s) ds
   in_range s t [] e = tt
-  in_range s t (d ∷ ds) e = (accepted_draws (H s) t none (d ∷ ds) e).in_range
+  in_range s t (d ∷ ds) e = (accepted_draws (H s) t None (d ∷ ds) e).in_range
 
   record Accepts (t : Float) (bytes : List ℕ) (f : Figures Float) : Type 0 where
     state : State
-    is_opened : opened taps_s taps_ac settings ≡ Opened.TheVariants.Run state
+    is_opened : opened taps_s taps_ac settings ≡ Ok state
     all_in_range : AllInRange (gen_of state (mode_s_prototype four taps_s) (mode_ac_prototype four taps_ac)) (Bench.draws_of (gen_of state (mode_s_prototype four taps_s) (mode_ac_prototype four taps_ac)) bytes)
     figures : figures_of (gen_of state (mode_s_prototype four taps_s) (mode_ac_prototype four taps_ac)) t (Bench.draws_of (gen_of state (mode_s_prototype four taps_s) (mode_ac_prototype four taps_ac)) bytes) ≡ f
 
-  what_is_accepted : (t : Float) (bytes : List ℕ) (f : Figures Float) → booking_of taps_s taps_ac t settings bytes ≡ accepted f → Accepts t bytes f
-  unfolding booking_of opened_then draws_then given unless
+  what_is_accepted : (t : Float) (bytes : List ℕ) (f : Figures Float) → booking_of taps_s taps_ac t settings bytes ≡ Ok f → Accepts t bytes f
+  unfolding booking_of opened_then draws_then unless
   what_is_accepted t bytes f e = by_length (eqb (length bytes % 65) 0) e
     where
-      by_fault_lem : (s : State) → opened taps_s taps_ac settings ≡ Opened.TheVariants.Run s → (x : Option Bench.Refusal) → Bench.first_fault (H s) 0 (Bench.draws_of (H s) bytes) ≡ x
-          → unless (given x) (figures_of (H s) t (Bench.draws_of (H s) bytes)) ≡ accepted f → Accepts t bytes f
-      by_fault_lem s o none k q =
+      by_fault_lem : (s : State) → opened taps_s taps_ac settings ≡ Ok s → (x : Option Bench.Refusal) → Bench.first_fault (H s) 0 (Bench.draws_of (H s) bytes) ≡ x
+          → unless (option_map refusal_given x) (figures_of (H s) t (Bench.draws_of (H s) bytes)) ≡ Ok f → Accepts t bytes f
+      by_fault_lem s o None k q =
           let same : figures_of (H s) t (Bench.draws_of (H s) bytes) ≡ f = cc in
           record { state = s; is_opened = o; all_in_range = in_range s t (Bench.draws_of (H s) bytes) k; figures = same }
-      by_fault_lem s o (some r) k q = not_accepted _ f q
+      by_fault_lem s o (Some r) k q = not_accepted _ f q
 
-      by_opened : (x : Opened.Opened) → opened taps_s taps_ac settings ≡ x → opened_then taps_s taps_ac t bytes x ≡ accepted f → Accepts t bytes f
-      by_opened (Opened.TheVariants.Run s) o q = by_fault_lem s o (Bench.first_fault (H s) 0 (Bench.draws_of (H s) bytes)) refl q
-      by_opened (Opened.TheVariants.Refused r) o q = not_accepted r f q
+      by_opened : (x : (Result State Refusal.Refusal)) → opened taps_s taps_ac settings ≡ x → opened_then taps_s taps_ac t bytes x ≡ Ok f → Accepts t bytes f
+      by_opened (Ok s) o q = by_fault_lem s o (Bench.first_fault (H s) 0 (Bench.draws_of (H s) bytes)) refl q
+      by_opened (Err r) o q = not_accepted r f q
 
-      by_length : (b : Bool) → cond b (opened_then taps_s taps_ac t bytes (opened taps_s taps_ac settings)) (refused Refusal.TheVariants.Length) ≡ accepted f → Accepts t bytes f
+      by_length : (b : Bool) → cond b (opened_then taps_s taps_ac t bytes (opened taps_s taps_ac settings)) (Err Refusal.TheVariants.Length) ≡ Ok f → Accepts t bytes f
       by_length true q = by_opened (opened taps_s taps_ac settings) refl q
       by_length false q = not_accepted _ f q
 
   -- ---- part after part
-  module _ (s : State) (o : opened taps_s taps_ac settings ≡ Opened.TheVariants.Run s) where
+  module _ (s : State) (o : opened taps_s taps_ac settings ≡ Ok s) where
     abbrev draws_in : List ℕ → List RepresentableDraw
     draws_in bytes = Bench.draws_of (gen_of s (mode_s_prototype four taps_s) (mode_ac_prototype four taps_ac)) bytes
 
@@ -119,33 +120,33 @@ module _ (taps_s taps_ac : List Float) (settings : List ℕ) where
     rest_in_range (d ∷ ds) es h = rest_in_range ds es h.1
 
     -- the figures of two parts of draws
-    went : (t : Float) (ds es : List RepresentableDraw) (next : Float → Answer (Figures Float)) → ((t' : Float) → next t' ≡ accepted (figures_of (H s) t' es))
-        → go_on (figures_of (H s) t ds) next (walk_of (H s) t ds).end ≡ accepted (figures_of (H s) t (ds ++ es))
+    went : (t : Float) (ds es : List RepresentableDraw) (next : Float → Result (Figures Float) Refusal.Refusal) → ((t' : Float) → next t' ≡ Ok (figures_of (H s) t' es))
+        → go_on (figures_of (H s) t ds) next (walk_of (H s) t ds).end ≡ Ok (figures_of (H s) t (ds ++ es))
     went t ds es next ih = go (ended (H s) t ds) refl
       where
         figured : Walk Float → Figures Float
         figured w = record { samples = (H s).total; noise = 2 * (H s).total; records = w.records; taken = w.taken; end = w.end }
 
-        go : (b : Bool) → ended (H s) t ds ≡ b → go_on (figures_of (H s) t ds) next (walk_of (H s) t ds).end ≡ accepted (figures_of (H s) t (ds ++ es))
+        go : (b : Bool) → ended (H s) t ds ≡ b → go_on (figures_of (H s) t ds) next (walk_of (H s) t ds).end ≡ Ok (figures_of (H s) t (ds ++ es))
         go true e =
             let f = walk_ends (H s) 0 0 t ds e in
             ap (λ (x : End Float). go_on (figures_of (H s) t ds) next x) (ap (λ (w : Walk Float). w.end) (ap (walk_from (H s) 0 0 t) (sym (append-nil ds)) ∙ f.1 []))
-            ∙ ap (λ (w : Walk Float). accepted (figured w)) (sym (one_part (H s) t ds es e))
+            ∙ ap (λ (w : Walk Float). Ok (figured w)) (sym (one_part (H s) t ds es e))
         go false e =
             ap (λ (x : End Float). go_on (figures_of (H s) t ds) next x) (ap (λ (w : Walk Float). w.end) (walk_out (H s) 0 0 t ds e))
             ∙ ap (added_to (figures_of (H s) t ds)) (ih (time_of (H s) t ds))
-            ∙ ap (λ (w : Walk Float). accepted (figured w)) (sym (two_parts (H s) t ds es e))
+            ∙ ap (λ (w : Walk Float). Ok (figured w)) (sym (two_parts (H s) t ds es e))
 
-    in_parts_lem : (t : Float) (ps : List (List ℕ)) → Each WholeDraws ps → AllInRange (H s) (draws_in (join ps)) → in_parts taps_s taps_ac settings t ps ≡ accepted (figures_of (H s) t (draws_in (join ps)))
+    in_parts_lem : (t : Float) (ps : List (List ℕ)) → Each WholeDraws ps → AllInRange (H s) (draws_in (join ps)) → in_parts taps_s taps_ac settings t ps ≡ Ok (figures_of (H s) t (draws_in (join ps)))
     in_parts_lem t [] w h = booked taps_s taps_ac settings s t [] o refl h
     in_parts_lem t (p ∷ ps) w h =
         let joined = draws_joined (filters_of s (mode_s_prototype four taps_s) (mode_ac_prototype four taps_ac)) s.total (length p / 65) p (join ps) (omega (arith, w.0)) in
         let both = subst (AllInRange (H s)) joined h in
-        ap (λ (x : Answer (Figures Float)). and_then x (λ t'. in_parts taps_s taps_ac settings t' ps)) (booked taps_s taps_ac settings s t p o w.0 (first_in_range (draws_in p) (draws_in (join ps)) both))
+        ap (λ (x : Result (Figures Float) Refusal.Refusal). and_then x (λ t'. in_parts taps_s taps_ac settings t' ps)) (booked taps_s taps_ac settings s t p o w.0 (first_in_range (draws_in p) (draws_in (join ps)) both))
         ∙ went t (draws_in p) (draws_in (join ps)) (λ t'. in_parts taps_s taps_ac settings t' ps) (λ t'. in_parts_lem t' ps w.1 (rest_in_range (draws_in p) (draws_in (join ps)) both))
-        ∙ ap (λ (l : List RepresentableDraw). accepted (figures_of (H s) t l)) (sym joined)
+        ∙ ap (λ (l : List RepresentableDraw). Ok (figures_of (H s) t l)) (sym joined)
 
 pub parts : Parts
 parts taps_s taps_ac settings t ps w f e =
     let a = what_is_accepted taps_s taps_ac settings t (join ps) f e in
-    in_parts_lem taps_s taps_ac settings a.state a.is_opened t ps w a.all_in_range ∙ ap accepted a.figures
+    in_parts_lem taps_s taps_ac settings a.state a.is_opened t ps w a.all_in_range ∙ ap Ok a.figures

@@ -1,6 +1,6 @@
 -- A finished run uses exactly what its booking says (SPECIFICATION 10.4), hypothesis and claim in one statement: `FinishedRuns`, at the end of this file.
+use Rattle.std.specs.Prelude.{Ok}
 use Rattle.std.specs.Prelude.{ℕ, suc, ◌+◌, ◌%◌, List, [], ◌∷◌, ◌++◌, ◌≡◌, length, Float}
-use Rattle.refusals.specs.Answer.{accepted}
 use Rattle.draw.specs.Draw.{draw_length}
 use Rattle.run_theory.specs.FloatGenerator.{nought}
 use Rattle.run_theory.specs.PlainBench as Bench
@@ -41,7 +41,7 @@ pub record Finished (taps_s taps_ac : List Float) (settings : List ℕ) (r : Run
   pub taken : (in_all (calls r cs)).taken ≡ suc last
   pub booked :
       booking_of taps_s taps_ac nought settings bytes
-      ≡ accepted (record { samples = (in_all (calls r cs)).samples; noise = (in_all (calls r cs)).noise; records = (in_all (calls r cs)).records; taken = suc last; end = at_draw last })
+      ≡ Ok (record { samples = (in_all (calls r cs)).samples; noise = (in_all (calls r cs)).noise; records = (in_all (calls r cs)).records; taken = suc last; end = at_draw last })
 
 abbrev pub FinishedRuns : Type 0
 FinishedRuns = (taps_s taps_ac : List Float) (settings : List ℕ) (given : Opening.OpenBuffers) (r : Run) → Opens taps_s taps_ac settings given r

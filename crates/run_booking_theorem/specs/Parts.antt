@@ -1,6 +1,7 @@
 -- A booking in parts (SPECIFICATION 10.4): each part is asked from the time at which draws ran out in the one before, and the figures are added. They are those of the whole: `Parts`, at the end of this file.
+use Rattle.std.specs.Prelude.{Result, Ok, Err}
+use Rattle.refusals.specs.declared.Refusal.{Refusal}
 use Rattle.std.specs.Prelude.{ℕ, ◌+◌, ◌%◌, List, [], ◌∷◌, ◌≡◌, length, Float}
-use Rattle.refusals.specs.Answer.{Answer, accepted, refused}
 use Rattle.draw.specs.Draw.{draw_length}
 use Rattle.run_theory.specs.Each.{Each}
 use Rattle.run_theory.specs.PlainBench.{join}
@@ -16,22 +17,22 @@ behind n (ran_out t) = ran_out t
 abbrev pub added : Figures Float → Figures Float → Figures Float
 added f g = record { samples = f.samples; noise = f.noise; records = f.records + g.records; taken = f.taken + g.taken; end = behind f.taken g.end }
 
-abbrev pub added_to : Figures Float → Answer (Figures Float) → Answer (Figures Float)
-added_to f (accepted g) = accepted (added f g)
-added_to f (refused q) = refused q
+abbrev pub added_to : Figures Float → Result (Figures Float) Refusal → Result (Figures Float) Refusal
+added_to f (Ok g) = Ok (added f g)
+added_to f (Err q) = Err q
 
 -- a part, and what is asked behind it: nothing once a draw ends the run
-abbrev pub go_on : Figures Float → (Float → Answer (Figures Float)) → End Float → Answer (Figures Float)
-go_on f next (at_draw k) = accepted f
+abbrev pub go_on : Figures Float → (Float → Result (Figures Float) Refusal) → End Float → Result (Figures Float) Refusal
+go_on f next (at_draw k) = Ok f
 go_on f next (ran_out t) = added_to f (next t)
 
-abbrev pub and_then : Answer (Figures Float) → (Float → Answer (Figures Float)) → Answer (Figures Float)
-and_then (accepted f) next = go_on f next f.end
-and_then (refused q) next = refused q
+abbrev pub and_then : Result (Figures Float) Refusal → (Float → Result (Figures Float) Refusal) → Result (Figures Float) Refusal
+and_then (Ok f) next = go_on f next f.end
+and_then (Err q) next = Err q
 
 module _ (taps_s taps_ac : List Float) (settings : List ℕ) where
   -- what a host has that asks part after part, from a time on
-  abbrev pub in_parts : Float → List (List ℕ) → Answer (Figures Float)
+  abbrev pub in_parts : Float → List (List ℕ) → Result (Figures Float) Refusal
   in_parts t [] = booking_of taps_s taps_ac t settings []
   in_parts t (p ∷ ps) = and_then (booking_of taps_s taps_ac t settings p) (λ t'. in_parts t' ps)
 
@@ -42,4 +43,4 @@ WholeDraws bytes = length bytes % draw_length ≡ 0
 -- Wherever draws that are accepted are cut, the parts give what the whole gives.
 abbrev pub Parts : Type 0
 Parts = (taps_s taps_ac : List Float) (settings : List ℕ) (t : Float) (parts : List (List ℕ)) → Each WholeDraws parts
-    → (f : Figures Float) → booking_of taps_s taps_ac t settings (join parts) ≡ accepted f → in_parts taps_s taps_ac settings t parts ≡ accepted f
+    → (f : Figures Float) → booking_of taps_s taps_ac t settings (join parts) ≡ Ok f → in_parts taps_s taps_ac settings t parts ≡ Ok f

@@ -1,12 +1,11 @@
 -- What step 4 makes of a draw, by its start, test by test as the code meets it.
-use mathlib.Core.Path.{◌≡◌, refl, sym, ap, ◌∙◌}
-use mathlib.Core.Bool.{true, true≢false}
+use mathlib.Core.Path.{◌≡◌, sym, ap, ◌∙◌}
 use Prim.Native.Nat.{ℕ, ◌+◌, ◌≤◌, ◌<◌}
-use lib.IntN.{ℤ, pos, negsuc}
-use Rattle.run_theory.specs.Generator.{from, start_from}
+use lib.IntN.{ℤ, pos}
+use Rattle.run_theory.specs.Generator.{Start, negative, from, start_from}
 use Rattle.run_theory.specs.PlainRun as Plain
 use Rattle.run_call_model.proofs.Plan as Laws
-use Rattle.run_steps.specs.PlanModel.{counted, is_negative}
+use Rattle.run_steps.specs.PlanModel.{counted}
 use Rattle.run_booking_walk.specs.declared.Kind as Kind
 use Rattle.run_booking_walk.specs.WalkModel.{kind_seen}
 
@@ -14,13 +13,9 @@ module _ (total : ℕ) (start : ℤ) where
   abbrev Seen : Kind.Kind → Type 0
   Seen k = k ≡ kind_seen (Plain.kind_of (counted total) (start_from start))
 
-  pub ignored : true ≡ is_negative start → Seen Kind.TheVariants.Ignored
-  unfolding kind_seen start_from
-  ignored e = go start e
-    where
-      go : (z : ℤ) → true ≡ is_negative z → Kind.TheVariants.Ignored ≡ kind_seen (Plain.kind_of (counted total) (start_from z))
-      go (pos n) q = absurd (true≢false q)
-      go (negsuc n) q = refl
+  pub ignored : start_from start ≡ negative → Seen Kind.TheVariants.Ignored
+  unfolding kind_seen
+  ignored e = sym (ap (λ (s : Start). kind_seen (Plain.kind_of (counted total) s)) e)
 
   at_start : (first : ℕ) → start ≡ pos first → Plain.kind_of (counted total) (from first) ≡ Plain.kind_of (counted total) (start_from start)
   unfolding start_from

@@ -1,9 +1,8 @@
 -- The code's loop: one draw more, and its ends.
 use Prim.Native.Nat.{ℕ, suc, ◌+◌, ◌-◌, ◌<◌, ◌≤◌}
 use mathlib.Core.Path.{◌≡◌, sym, ap, ◌∙◌}
-use mathlib.Core.Bool.{Bool, true, false, true≢false, false≢true}
+use mathlib.Core.Bool.{true, false, true≢false, false≢true}
 use mathlib.Core.List.{List, ◌∷◌}
-use native.Mathlib.Nat.{add-zero}
 use native.Mathlib.Numerals.{add-one}
 use native.Mathlib.Omega.{arith}
 use lib.Dec.{lit<}
@@ -33,20 +32,6 @@ use Rattle.run_booking_walk.specs.WalkModel.{kind_seen, progress_after}
 -- the part of a list from an offset to its end
 pub part_is : (s : List ℕ) (at : ℕ) → take (length s - at) (drop at s) ≡ drop at s
 part_is s at = take_all (length s - at) (drop at s) (rw length-drop (omega arith))
-
--- a draw taken at its time, with n records more
-module _ (w w' : Progress) (kind : Kind.Kind) (time time' : Float) (ended : Bool) (n : ℕ) (e : w' ≡ record { records = w.records + n; time = time'; ended = ended }) where
-  pub after_ignored : kind ≡ Kind.TheVariants.Ignored → n ≡ 0 → time' ≡ time → ended ≡ false → w' ≡ progress_after w kind time
-  unfolding progress_after
-  after_ignored k z t b = e ∙ (λ i. record { records = (ap (λ (m : ℕ). w.records + m) z ∙ add-zero w.records) i; time = t i; ended = b i }) ∙ sym (ap (λ (x : Kind.Kind). progress_after w x time) k)
-
-  pub after_end : kind ≡ Kind.TheVariants.Ends → n ≡ 0 → time' ≡ time → ended ≡ true → w' ≡ progress_after w kind time
-  unfolding progress_after
-  after_end k z t b = e ∙ (λ i. record { records = (ap (λ (m : ℕ). w.records + m) z ∙ add-zero w.records) i; time = t i; ended = b i }) ∙ sym (ap (λ (x : Kind.Kind). progress_after w x time) k)
-
-  pub after_reply : kind ≡ Kind.TheVariants.Reply → n ≡ 1 → time' ≡ time → ended ≡ false → w' ≡ progress_after w kind time
-  unfolding progress_after
-  after_reply k z t b = e ∙ (λ i. record { records = w.records + z i; time = t i; ended = b i }) ∙ sym (ap (λ (x : Kind.Kind). progress_after w x time) k)
 
 -- at most one record a draw
 pub counted_on : (w w' : Progress) (kind : Kind.Kind) (time : Float) → w' ≡ progress_after w kind time → w'.records ≤ w.records + 1

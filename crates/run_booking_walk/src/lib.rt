@@ -1,11 +1,11 @@
 // The walk over draws: the records of a run, and the draw that ends it. No sample is made.
 #![tactic(auto)]
 
-ghost use Rattle.std.specs.Prelude.{◌≡◌, false, ◌+◌, ◌*◌, ◌≤◌, ◌<◌, ◌^◌, pos, length};
+ghost use Rattle.std.specs.Prelude.{◌≡◌, ◌+◌, ◌*◌, ◌≤◌, ◌<◌, ◌^◌, length};
 ghost use Rattle.run_theory.specs.Generator.{start_from};
 ghost use Rattle.run_theory.specs.PlainRun.{kind_of};
 ghost use Rattle.run_theory.specs.PlainBench.{draws_of};
-ghost use Rattle.run_steps.specs.PlanModel.{counted, is_negative};
+ghost use Rattle.run_steps.specs.PlanModel.{counted};
 ghost use Rattle.run_booking_walk.specs.Walk.{walk_of};
 ghost use Rattle.run_booking_walk.specs.Answered.{walk_generator, walked_read};
 ghost use Rattle.run_booking_walk.specs.WalkModel.{kind_seen, progress_after};
@@ -47,32 +47,15 @@ pub struct Progress {
     pub ended: bool,
 }
 
-fn negative(start: i64) -> bool
-    ensures { result ≡ is_negative start }
-{
-    start < 0
-}
-
-// The number of the sample at a start that is not negative.
-fn sample_number(start: i64) -> u64
-    requires { is_negative start ≡ false }
-    ensures { (start ≡ pos result) × (result < 2 ^ 63) }
-{
-    start as u64
-}
-
 // Of a draw's start.
 fn kind_of(total: u64, start: i64) -> Kind
     ensures { result ≡ kind_seen (kind_of (counted total) (start_from start)) }
 {
-    if negative(start) {
-        return Kind::Ignored;
+    match u64::try_from(start) {
+        Err(_) => Kind::Ignored,
+        Ok(first) if total <= first + REPLY_LIMIT => Kind::Ends,
+        Ok(_) => Kind::Reply,
     }
-    let first = sample_number(start);
-    if total <= first + REPLY_LIMIT {
-        return Kind::Ends;
-    }
-    Kind::Reply
 }
 
 // A draw taken at its time, with n records more.
@@ -82,12 +65,13 @@ fn took(w: Progress, time: f64, ended: bool, n: u64) -> Progress
 {
     Progress {
         records: w.records + n,
-        time: time,
-        ended: ended,
+        time,
+        ended,
     }
 }
 
 // The walk after one more draw. An ignored draw's time counts.
+#[tactic(auto, unfolding(crate::specs::WalkModel::progress_after))]
 fn after_draw(w: Progress, kind: Kind, time: f64) -> Progress
     requires { w.records + 1 < 2 ^ 64 }
     ensures { result ≡ progress_after w kind time }
@@ -107,9 +91,10 @@ pub fn walk(all: Distributions, delays: Delays, total: u64, time: f64, draws: &[
     let mut k: u64 = 0;
     let mut w = Progress {
         records: 0,
-        time: time,
+        time,
         ended: false,
     };
+    // A walk along a slice that shrinks; k names the draw in the answer.
     while DRAW_LEN <= rest.len() {
         let message = draw_config::pending(all, w.time, rest);
         let start = message.first_sample_index(delays);
@@ -122,7 +107,7 @@ pub fn walk(all: Distributions, delays: Delays, total: u64, time: f64, draws: &[
             };
         }
         rest = &rest[DRAW_LEN..];
-        k = k + 1;
+        k += 1;
     }
     Walked {
         records: w.records,

@@ -1,4 +1,5 @@
 -- The invariant of a call's loop, the rest of the call being the whole call, and what each end of a step does to it.
+use Rattle.std.specs.Prelude.{Ok}
 use mathlib.Core.Path.{◌≡◌, refl, sym, ap, ◌∙◌, subst}
 use mathlib.Core.List.{List}
 use Prim.Native.Nat.{ℕ, suc, ◌+◌, ◌-◌, ◌*◌, ◌/◌, ◌≤◌, ◌<◌}
@@ -11,7 +12,6 @@ use Rattle.run_call.specs.declared.State.{State}
 use Rattle.run_steps.specs.declared.Progress.{Progress}
 use Rattle.run_steps.specs.declared.LastStep as LastStep
 use Rattle.run_steps.specs.declared.Stop as Stop
-use Rattle.run_call.specs.declared.Answer as Answer
 use Rattle.run_call.specs.declared.Ran.{Ran}
 use Rattle.run_steps.specs.PlanModel.{stop_read}
 use Rattle.run_steps.specs.ProgressModel.{added_of}
@@ -113,7 +113,7 @@ module _ {s : State} {mode_s mode_ac memory₀ : List Float} {draws : List ℕ} 
         ran = record {
           state = record { written = r.written; total = s.total; time = r.time; latest = r.latest; ended = r.ended; rates = s.rates; delays = s.delays; distributions = s.distributions };
           counts = record { taken = r.taken; samples = r.samples; noise = 2 * r.samples; records = r.records; added_high = high_half (added_of r); added_low = low_half (added_of r) };
-          answer = Answer.TheVariants.Stopped (sym (given_read w) j);
+          answer = Ok (sym (given_read w) j);
         };
         memory = memory';
         output = output';

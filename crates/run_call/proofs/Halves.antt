@@ -1,4 +1,5 @@
 -- The two halves of the count of reply samples added stand for it: no carry leaves the high half.
+use Rattle.std.specs.Prelude.{Ok}
 use mathlib.Core.Path.{◌≡◌, ap, ◌∙◌}
 use Prim.Native.Nat.{ℕ, ◌*◌, ◌%◌, ◌≤◌, ◌<◌, ◌^◌}
 use native.Mathlib.Omega.{arith}
@@ -6,7 +7,6 @@ use Rattle.run_theory.specs.Added.{high_half, low_half, whole_of}
 use Rattle.run_steps.specs.declared.Progress.{Progress}
 use Rattle.run_steps.specs.declared.Stop.{Stop}
 use Rattle.run_call.specs.declared.State.{State}
-use Rattle.run_call.specs.declared.Answer as Answer
 use Rattle.run_call.specs.declared.Ran.{Ran}
 use Rattle.run_call.specs.CallModel.{ran_by}
 
@@ -39,12 +39,12 @@ pub stopped_is : (s : State) (t : Progress) (w : Stop) → t.added_low < 2 ^ 64
     (record {
       state = record { written = t.written; total = s.total; time = t.time; latest = t.latest; ended = t.ended; rates = s.rates; delays = s.delays; distributions = s.distributions };
       counts = record { taken = t.taken; samples = t.samples; noise = 2 * t.samples; records = t.records; added_high = t.added_high; added_low = t.added_low };
-      answer = Answer.TheVariants.Stopped w;
+      answer = Ok w;
     })
     (ran_by s t w)
 unfolding ran_by
 stopped_is s t w b = λ i. record {
   state = record { written = t.written; total = s.total; time = t.time; latest = t.latest; ended = t.ended; rates = s.rates; delays = s.delays; distributions = s.distributions };
   counts = record { taken = t.taken; samples = t.samples; noise = 2 * t.samples; records = t.records; added_high = high_is t.added_high t.added_low b i; added_low = low_is t.added_high t.added_low b i };
-  answer = Answer.TheVariants.Stopped w;
+  answer = Ok w;
 }

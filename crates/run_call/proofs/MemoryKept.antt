@@ -1,7 +1,7 @@
 -- The theory's machine keeps the length of working memory (`run-kept`).
+use Rattle.std.specs.Prelude.{Option, Some, None}
 use mathlib.Core.Path.{◌≡◌, refl, ap, ◌∙◌}
 use mathlib.Core.List.{List, [], ◌∷◌}
-use mathlib.Core.Option.{Option, none, some}
 use Prim.Native.Nat.{ℕ, zero, suc, ◌%◌}
 use lib.ListN.{length}
 use Rattle.run_theory.specs.Generator.{Generator, Sample, silence, add}
@@ -44,8 +44,8 @@ module _ (G : Generator) (o : G.Value) where
   steps_kept (suc f) z l = on_kept (λ z' l'. machine_steps G o f z' l') (λ z' l'. steps_kept f z' l') z l (state_step G o z l)
 
   call_kept : (z : State G o) (c : Call G) (q : Option Refusal) → length (machine_call G o z c q).1.memory ≡ length z.memory
-  call_kept z c none = steps_kept (fuel G (remaining_of G c)) z (remaining_of G c)
-  call_kept z c (some q) = refl
+  call_kept z c None = steps_kept (fuel G (remaining_of G c)) z (remaining_of G c)
+  call_kept z c (Some q) = refl
 
   pub run_kept : (z : State G o) (c : Call G) → length (machine_run G o z c).1.memory ≡ length z.memory
-  run_kept z c = call_kept z c (refusal_of G z.time (some z.mark) c)
+  run_kept z c = call_kept z c (refusal_of G z.time (Some z.mark) c)

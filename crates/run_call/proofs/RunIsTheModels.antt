@@ -1,8 +1,8 @@
 -- `run_is`: with working memory and prototypes of their lengths, a run call is the theory's `machine_run`, refused or not, on the flat buffers.
+use Rattle.std.specs.Prelude.{Option, Some, None}
 use mathlib.Core.Path.{◌≡◌, refl, ap, ◌∙◌}
 use mathlib.Core.Bool.{Bool, false, cond}
 use mathlib.Core.List.{List}
-use mathlib.Core.Option.{Option, none, some}
 use lib.ListN.{length}
 use lib.Ieee.{Float, nan}
 use borrow.Author.Tests.{eq-eqb}
@@ -24,8 +24,8 @@ module _ (s : State) (mode_s mode_ac memory : List Float) (c : Bench.Call (gen_o
       → run_by s memory c.output c.records (call_left s mode_s mode_ac memory c.draws c.noise c.output c.records) o
       ≡ left_given s mode_s mode_ac (Bench.result_of (gen_of s mode_s mode_ac) c (theirs o).0) (theirs o).1
   unfolding call_left left_by left_given ran_given refused_by
-  by_refusal none = λ i. left_given s mode_s mode_ac (call_result (gen_of s mode_s mode_ac) nan (machine_of s mode_s mode_ac memory) c i) (call_state (gen_of s mode_s mode_ac) nan (machine_of s mode_s mode_ac memory) c i)
-  by_refusal (some q) = refl
+  by_refusal None = λ i. left_given s mode_s mode_ac (call_result (gen_of s mode_s mode_ac) nan (machine_of s mode_s mode_ac memory) c i) (call_state (gen_of s mode_s mode_ac) nan (machine_of s mode_s mode_ac memory) c i)
+  by_refusal (Some q) = refl
 
   pub run_is : length memory ≡ 2252 → length mode_s ≡ 1792 → length mode_ac ≡ 1792
       → run_left s mode_s mode_ac memory c.draws c.noise c.output c.records
@@ -34,10 +34,10 @@ module _ (s : State) (mode_s mode_ac memory : List Float) (c : Bench.Call (gen_o
   run_is m p a = ap (run_by s memory c.output c.records (call_left s mode_s mode_ac memory c.draws c.noise c.output c.records)) lengths_right ∙ by_refusal check_generator
     where
       check_generator : Option Bench.Refusal
-      check_generator = Bench.refusal_of (gen_of s mode_s mode_ac) s.time (some s.latest) c
+      check_generator = Bench.refusal_of (gen_of s mode_s mode_ac) s.time (Some s.latest) c
 
       lengths_right : call_refusal s mode_s mode_ac memory c.draws c.noise c.output c.records ≡ check_generator
-      lengths_right = ap (λ (x : Bool). cond x (some Bench.wrong_length) check_generator) right
+      lengths_right = ap (λ (x : Bool). cond x (Some Bench.wrong_length) check_generator) right
         where
           right : wrong_memory (length memory) (length mode_s) (length mode_ac) ≡ false
           right = rw (eq-eqb (length memory) 2252 m, eq-eqb (length mode_s) 1792 p, eq-eqb (length mode_ac) 1792 a)

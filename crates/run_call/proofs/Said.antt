@@ -1,6 +1,7 @@
 -- What the plan of a step says of the buffers, and what doing it leaves of the rest of the call: each arm of `step`.
 use mathlib.Core.Path.{◌≡◌, refl, sym, ap, ◌∙◌, subst}
 use mathlib.Core.Bool.{Bool, true, false}
+use mathlib.Core.Logic.{◌⊎◌, inl, inr}
 use mathlib.Core.List.{List}
 use Prim.Native.Nat.{ℕ, ◌+◌, ◌-◌, ◌*◌, ◌%◌, ◌≤◌, ◌<◌, ◌^◌}
 use native.Mathlib.Omega.{arith}
@@ -134,7 +135,7 @@ module _ (P : Planned) where
   by_plan x h r memory' output' records' k = subst (λ (y : Progress). Step y memory' output' records') (sym (k ∙ ap (λ (y : Plan.Plan). progress_after_step t y 0) h))
 
   -- ---- a stop
-  pub halted : (w : Stop.Stop) → plan ≡ Plan.TheVariants.Halt w → (r : Progress) → r ≡ progress_after_step t plan 0 → Step r memory output records
+  halted : (w : Stop.Stop) → plan ≡ Plan.TheVariants.Halt w → (r : Progress) → r ≡ progress_after_step t plan 0 → Step r memory output records
   unfolding plan_read progress_after_step progress_after_stop
   halted w h r k = by_plan (Plan.TheVariants.Halt w) h r memory output records k (says (Plan.TheVariants.Halt w) h, refl)
 
@@ -162,13 +163,13 @@ module _ (P : Planned) where
     records = records;
   }
 
-  pub drained : (n : ℕ) → plan ≡ Plan.TheVariants.Drain n → (r : Progress) (memory' output' : List Float) → r ≡ progress_after_step t plan 0 → SamplesWritten n memory' output' → Step r memory' output' records
+  drained : (n : ℕ) → plan ≡ Plan.TheVariants.Drain n → (r : Progress) (memory' output' : List Float) → r ≡ progress_after_step t plan 0 → SamplesWritten n memory' output' → Step r memory' output' records
   unfolding plan_read progress_after_step progress_after_samples
   drained n h r memory' output' k e =
       by_plan (Plan.TheVariants.Drain n) h r memory' output' records k
       (went (Plan.TheVariants.Drain n) h refl refl _ (samples_written_is n t.latest (says (Plan.TheVariants.Drain n) h) memory' output' e), refl, refl)
 
-  pub dued : (n : ℕ) (time : Float) → plan ≡ Plan.TheVariants.Due n time → (r : Progress) (memory' output' : List Float) → r ≡ progress_after_step t plan 0 → SamplesWritten n memory' output' → Step r memory' output' records
+  dued : (n : ℕ) (time : Float) → plan ≡ Plan.TheVariants.Due n time → (r : Progress) (memory' output' : List Float) → r ≡ progress_after_step t plan 0 → SamplesWritten n memory' output' → Step r memory' output' records
   unfolding plan_read progress_after_step progress_after_samples
   dued n time h r memory' output' k e =
       by_plan (Plan.TheVariants.Due n time) h r memory' output' records k
@@ -208,19 +209,29 @@ module _ (P : Planned) where
     records = records;
   }
 
-  pub skipped : (time : Float) → plan ≡ Plan.TheVariants.Skip time → (r : Progress) → r ≡ progress_after_step t plan 0 → Step r memory output records
+  skipped : (time : Float) → plan ≡ Plan.TheVariants.Skip time → (r : Progress) → r ≡ progress_after_step t plan 0 → Step r memory output records
   unfolding plan_read progress_after_step progress_after_draw time_after
   skipped time h r k =
       let f = says (Plan.TheVariants.Skip time) h in
       by_plan (Plan.TheVariants.Skip time) h r memory output records k
       (went (Plan.TheVariants.Skip time) h refl refl _ (draw_taken_none time t.ended f.bytes f.at), one_taken f.bytes, f.bytes, added_few f.bytes 0 (omega arith))
 
-  pub ended_by : (time : Float) → plan ≡ Plan.TheVariants.End time → (r : Progress) → r ≡ progress_after_step t plan 0 → Step r memory output records
+  ended_by : (time : Float) → plan ≡ Plan.TheVariants.End time → (r : Progress) → r ≡ progress_after_step t plan 0 → Step r memory output records
   unfolding plan_read progress_after_step progress_after_draw time_after
   ended_by time h r k =
       let f = says (Plan.TheVariants.End time) h in
       by_plan (Plan.TheVariants.End time) h r memory output records k
       (went (Plan.TheVariants.End time) h refl refl _ (draw_taken_none time true f.bytes f.at), one_taken f.bytes, f.bytes, added_few f.bytes 0 (omega arith))
+
+  -- a plan that touches no buffer, and one that writes samples
+  pub untouched : ((w : Stop.Stop) × plan ≡ Plan.TheVariants.Halt w) ⊎ (((x : Float) × plan ≡ Plan.TheVariants.Skip x) ⊎ ((x : Float) × plan ≡ Plan.TheVariants.End x)) → (r : Progress) → r ≡ progress_after_step t plan 0 → Step r memory output records
+  untouched (inl h) r k = halted h.0 h.1 r k
+  untouched (inr (inl h)) r k = skipped h.0 h.1 r k
+  untouched (inr (inr h)) r k = ended_by h.0 h.1 r k
+
+  pub wrote : (n : ℕ) → (plan ≡ Plan.TheVariants.Drain n) ⊎ ((x : Float) × plan ≡ Plan.TheVariants.Due n x) → (r : Progress) (memory' output' : List Float) → r ≡ progress_after_step t plan 0 → SamplesWritten n memory' output' → Step r memory' output' records
+  wrote n (inl h) r memory' output' k e = drained n h r memory' output' k e
+  wrote n (inr h) r memory' output' k e = dued n h.0 h.1 r memory' output' k e
 
   pub added : (time : Float) (first : ℕ) → plan ≡ Plan.TheVariants.Add time first → (n : ℕ) → n ≤ 65535 → (r : Progress) (memory' : List Float) (records' : List ℕ) → r ≡ progress_after_step t (Plan.TheVariants.Add time first) n
       → memory' ≡ memory_with last s.delays first rest mode_s mode_ac memory → records' ≡ records_with last s.delays first rest memory (66 * t.records) records → n ≡ count_with last s.delays first rest memory → Step r memory' output records'

@@ -1,11 +1,10 @@
 -- A model of code: a run call as `run_call_model` has it, in the code's words.
-use Rattle.std.specs.Prelude.{List, [], ◌∷◌, Float}
+use Rattle.std.specs.Prelude.{Ok, Err, List, [], ◌∷◌, Float}
 use Rattle.std.specs.Float.{nan}
 use Rattle.run_theory.specs.Added.{high_half, low_half}
 use Rattle.run_theory.specs.PlainBench as Bench
 use Rattle.run_call_model.specs.Machine as Machine
 use Rattle.run_call.specs.declared.State.{State}
-use Rattle.run_call.specs.declared.Answer as Answer
 use Rattle.run_call.specs.declared.Ran.{Ran}
 use Rattle.run_call.specs.StateGenerator.{gen_of}
 use Rattle.run_call.specs.Buffers.{Left, CallBuffers}
@@ -22,9 +21,9 @@ module _ (s : State) (mode_s mode_ac : List Float) where
   state_of z = record { written = z.written; total = s.total; time = z.time; latest = z.mark; ended = z.over; rates = s.rates; delays = s.delays; distributions = s.distributions }
 
   unfoldable pub ran_given : Bench.Answer → Machine.State (gen_of s mode_s mode_ac) nan → Ran
-  ran_given (Bench.refused q) z = record { state = state_of z; counts = record { taken = 0; samples = 0; noise = 0; records = 0; added_high = 0; added_low = 0 }; answer = Answer.TheVariants.Refused (refusal_given q) }
+  ran_given (Bench.refused q) z = record { state = state_of z; counts = record { taken = 0; samples = 0; noise = 0; records = 0; added_high = 0; added_low = 0 }; answer = Err (refusal_given q) }
   ran_given (Bench.ran taken samples noise records added stop) z =
-      record { state = state_of z; counts = record { taken = taken; samples = samples; noise = noise; records = records; added_high = high_half added; added_low = low_half added }; answer = Answer.TheVariants.Stopped (stop_given stop) }
+      record { state = state_of z; counts = record { taken = taken; samples = samples; noise = noise; records = records; added_high = high_half added; added_low = low_half added }; answer = Ok (stop_given stop) }
 
   -- what the code answers and leaves, for a result of the theory and the machine's state after it
   unfoldable pub left_given : Bench.Result (gen_of s mode_s mode_ac) → Machine.State (gen_of s mode_s mode_ac) nan → Left

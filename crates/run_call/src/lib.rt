@@ -8,10 +8,8 @@ ghost use Rattle.run_call.specs.StepModel.{Inside, progress_read, rest_after, St
 ghost use Rattle.run_call.specs.StateGenerator.{gen_of};
 
 use constants::{DRAW_LEN, RECORD_LEN};
-use draw::DrawFault;
 use message_config::Delays;
 use refusals::Refusal;
-use run_call_checks::NoiseFault;
 pub use run_steps::Stop;
 use run_steps::{LastStep, Plan, Progress};
 use settings::{Distributions, MessagesPerSecond};
@@ -40,18 +38,12 @@ pub struct Counts {
     pub added_low: u64,
 }
 
-#[derive(Clone, Copy)]
-pub enum Answer {
-    Stopped(Stop),
-    Refused(Refusal),
-}
-
 // What a run call answers: the state for the next call, the counts, and its stop or refusal.
 #[derive(Clone, Copy)]
 pub struct Ran {
     pub state: State,
     pub counts: Counts,
-    pub answer: Answer,
+    pub answer: Result<Stop, Refusal>,
 }
 
 // One step: a stop, n samples, or a draw. The count of a reply is known once its samples are added.
@@ -69,16 +61,14 @@ fn step(
     requires { (length memory.old ≡ 2252) × (Inside t (length noise.now) (length output.old) (length records.old)) × (65 * t.taken + length rest.now < 2 ^ 64) × (s.total < 2 ^ 64) }
     ensures { StepSays (gen_of s mode_s.now mode_ac.now) noise.now nan result.last (progress_read s mode_s.now mode_ac.now t memory.old rest.now output.old records.old) (progress_read s mode_s.now mode_ac.now result memory.new (rest_after result.last rest.now) output.new records.new) }
 {
-    let all = s.distributions;
-    let delays = s.delays;
-    let last = draw_config::pending(all, t.time, rest);
+    let last = draw_config::pending(s.distributions, t.time, rest);
     let used = 2 * t.samples;
     let lines = t.records;
     let p = run_steps::choose(
         t.ended,
         t.written,
         s.total,
-        delays,
+        s.delays,
         last,
         rest.len(),
         output.len() - used,
@@ -87,21 +77,15 @@ fn step(
     );
     let r = run_steps::after_step(t, p, 0);
     match p {
-        Plan::Halt(_) => r,
-        Plan::Drain(n) => {
+        Plan::Halt(_) | Plan::Skip(_) | Plan::End(_) => r,
+        Plan::Drain(n) | Plan::Due(n, _) => {
             run_due_samples::write_due(memory, noise, output, t.written, t.samples, n);
             r
         }
-        Plan::Due(n, _) => {
-            run_due_samples::write_due(memory, noise, output, t.written, t.samples, n);
-            r
-        }
-        Plan::Skip(_) => r,
-        Plan::End(_) => r,
         Plan::Add(_, first) => {
             let count = run_add_reply::add(
                 last,
-                delays,
+                s.delays,
                 first,
                 mode_s,
                 mode_ac,
@@ -116,6 +100,7 @@ fn step(
 }
 
 // A call before its first step.
+#[tactic(auto, unfolding(crate::specs::CallModel::initial_by))]
 fn initial_progress(s: State) -> Progress
     ensures { result ≡ initial_by s }
 {
@@ -138,19 +123,13 @@ fn stopped_at(s: State, t: Progress, w: Stop) -> Ran
     requires { 2 * t.samples < 2 ^ 64 }
     ensures { result ≡ ran_by s t w }
 {
-    let rates = s.rates;
-    let delays = s.delays;
-    let all = s.distributions;
     Ran {
         state: State {
             written: t.written,
-            total: s.total,
             time: t.time,
             latest: t.latest,
             ended: t.ended,
-            rates: rates,
-            delays: delays,
-            distributions: all,
+            ..s
         },
         counts: Counts {
             taken: t.taken,
@@ -160,7 +139,7 @@ fn stopped_at(s: State, t: Progress, w: Stop) -> Ran
             added_high: t.added_high,
             added_low: t.added_low,
         },
-        answer: Answer::Stopped(w),
+        answer: Ok(w),
     }
 }
 
@@ -182,8 +161,7 @@ fn steps(
     let mut rest = draws;
     loop {
         t = step(s, t, mode_s, mode_ac, memory, rest, noise, output, records);
-        let last = t.last;
-        match last {
+        match t.last {
             LastStep::SamplesWritten => {}
             LastStep::DrawTaken => {
                 rest = &rest[DRAW_LEN..];
@@ -195,6 +173,7 @@ fn steps(
     }
 }
 
+#[tactic(auto, unfolding(crate::specs::CallModel::refused_by))]
 fn refused(s: State, q: Refusal) -> Ran
     ensures { result ≡ refused_by s q }
 {
@@ -208,7 +187,7 @@ fn refused(s: State, q: Refusal) -> Ran
             added_high: 0,
             added_low: 0,
         },
-        answer: Answer::Refused(q),
+        answer: Err(q),
     }
 }
 
@@ -234,14 +213,11 @@ pub fn run(
     ) {
         return refused(s, Refusal::Length);
     }
-    let rates = s.rates;
-    let all = s.distributions;
-    let fault = run_call_checks::check_draws(s.time, s.latest, rates, all, draws);
-    if let DrawFault::At(k, n) = fault {
+    let fault = run_call_checks::check_draws(s.time, s.latest, s.rates, s.distributions, draws);
+    if let Some((k, n)) = fault {
         return refused(s, Refusal::Draw(k, n));
     }
-    let noise_fault = run_call_checks::check_noise(noise);
-    if let NoiseFault::At(p) = noise_fault {
+    if let Some(p) = run_call_checks::check_noise(noise) {
         return refused(s, Refusal::Noise(p));
     }
     steps(s, mode_s, mode_ac, memory, draws, noise, output, records)

@@ -1,6 +1,5 @@
 -- A model of code: refusals 9 and 7 of a run call in the code's own tests. The plain bench has them as `wrong_lengths` and `draw_refusal`.
-use Rattle.std.specs.Prelude.{ℕ, ◌%◌, Bool, false, cond, not, ◌||◌, List, [], eqb, ltb, length, Float}
-use Rattle.std.proofs.Math.Option.{Option, none, some}
+use Rattle.std.specs.Prelude.{Option, Some, None, ℕ, ◌%◌, Bool, false, cond, not, ◌||◌, List, [], eqb, ltb, length, Float}
 use Rattle.std.specs.Float.Ieee.{lt}
 use Rattle.run_theory.specs.Generator.{Generator}
 use Rattle.run_theory.specs.PlainBench as Bench
@@ -9,7 +8,6 @@ use Rattle.settings.specs.declared.Distributions.{Distributions}
 use Rattle.settings.specs.declared.MessagesPerSecond.{MessagesPerSecond}
 use Rattle.draw.specs.Draw.{draw_at}
 use Rattle.draw.specs.Config.{time_after}
-use Rattle.draw.specs.declared.DrawFault as DrawFault
 use Rattle.constants.specs.declared.SamplesPerPulse.TheVariants.{Four}
 use Rattle.run_generator.specs.Instance.{instance_of}
 
@@ -22,9 +20,9 @@ unfoldable pub jump_of : Float → Float → List ℕ → Bool
 jump_of time latest draws = cond (ltb (length draws) 65) false (lt (time_after time (draw_at draws)) latest)
 
 -- the first fault of draws, as the plain bench refuses it
-unfoldable pub fault_read : DrawFault.DrawFault → Option Bench.Refusal
-fault_read DrawFault.TheVariants.None = none
-fault_read (DrawFault.TheVariants.At k field) = some (Bench.wrong_draw k field)
+unfoldable pub fault_read : Option (ℕ × ℕ) → Option Bench.Refusal
+fault_read None = None
+fault_read (Some (k, field)) = Some (Bench.wrong_draw k field)
 
 -- the generator of rates and distributions: the check of draws depends on nothing else
 abbrev pub check_generator : MessagesPerSecond → Distributions → Generator

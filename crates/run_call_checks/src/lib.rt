@@ -1,8 +1,7 @@
 // The checks of a run call: refusal 9 for lengths, 7 for draws, 8 for noise.
 #![tactic(auto)]
 
-ghost use Rattle.std.specs.Prelude.{◌≡◌, ◌||◌, false, cond};
-ghost use Rattle.std.proofs.Math.Option.{some, none};
+ghost use Rattle.std.specs.Prelude.{◌≡◌, ◌||◌, false, cond, None, Some};
 ghost use Rattle.run_theory.specs.PlainBench.{draw_refusal, draws_of};
 ghost use Rattle.run_call_checks.specs.Checks.{wrong_memory};
 ghost use Rattle.run_call_checks.specs.ChecksModel.{wrong_buffers, jump_of, fault_read, check_generator};
@@ -10,7 +9,6 @@ ghost use Rattle.run_generator.specs.Instance.{out_of_range};
 ghost use Rattle.run_call_checks.specs.NoiseModel.{out_of_range_from, noise_fault_read};
 
 use constants::{DRAW_LEN, MEMORY_LEN, PROTOTYPE_LEN};
-use draw::DrawFault;
 use settings::{Distributions, MessagesPerSecond};
 
 // Refusal 9.
@@ -23,32 +21,20 @@ pub fn lengths_wrong(
 ) -> bool
     ensures { result ≡ (wrong_memory memory mode_s mode_ac || wrong_buffers output draws) }
 {
-    if memory != MEMORY_LEN {
-        return true;
-    }
-    if mode_s != PROTOTYPE_LEN {
-        return true;
-    }
-    if mode_ac != PROTOTYPE_LEN {
-        return true;
-    }
-    if output == 0 {
-        return true;
-    }
-    if output % 2 != 0 {
-        return true;
-    }
-    draws % DRAW_LEN != 0
+    memory != MEMORY_LEN
+        || mode_s != PROTOTYPE_LEN
+        || mode_ac != PROTOTYPE_LEN
+        || output == 0
+        || output % 2 != 0
+        || draws % DRAW_LEN != 0
 }
 
 // A first draw jumps back.
+#[tactic(auto, unfolding(crate::specs::ChecksModel::jump_of))]
 fn jumps_back(time: f64, latest: f64, draws: &[u8]) -> bool
     ensures { result ≡ jump_of time latest draws.now }
 {
-    if draws.len() < DRAW_LEN {
-        return false;
-    }
-    draw::time_after(time, draws) < latest
+    draws.len() >= DRAW_LEN && draw::time_after(time, draws) < latest
 }
 
 // Refusal 7: a first draw that jumps back, or the first draw and field at fault.
@@ -58,67 +44,49 @@ pub fn check_draws(
     rates: MessagesPerSecond,
     all: Distributions,
     draws: &[u8],
-) -> DrawFault
-    ensures { fault_read result ≡ draw_refusal (check_generator rates all) time (some latest) (draws_of (check_generator rates all) draws.now) }
+) -> Option<(u64, u64)>
+    ensures { fault_read result ≡ draw_refusal (check_generator rates all) time (Some latest) (draws_of (check_generator rates all) draws.now) }
 {
     if jumps_back(time, latest, draws) {
-        return DrawFault::At(0, 0);
+        return Some((0, 0));
     }
     draw_fields::first_fault(draws, rates, all)
-}
-
-// The index of the first noise value at fault, or none.
-#[derive(Clone, Copy)]
-pub enum NoiseFault {
-    None,
-    At(u64),
 }
 
 // The size that noise may have.
 const NOISE_LIMIT: f32 = 64.0;
 
 // The first noise value at fault.
-fn first_out_of_range(noise: &[f32]) -> NoiseFault
+fn first_out_of_range(noise: &[f32]) -> Option<u64>
     ensures { noise_fault_read result ≡ out_of_range_from 0 noise.now }
 {
-    let mut k: usize = 0;
-    while k < noise.len() {
+    for k in 0..noise.len() {
         if !float_range::within_f32(noise[k], NOISE_LIMIT) {
-            return NoiseFault::At(k as u64);
+            return Some(k as u64);
         }
-        k = k + 1;
     }
-    NoiseFault::None
-}
-
-fn still_in_range(within: bool, x: f32) -> bool
-    ensures { result ≡ cond (out_of_range x) false within }
-{
-    if float_range::within_f32(x, NOISE_LIMIT) {
-        return within;
-    }
-    false
+    None
 }
 
 // No noise value is at fault. Without an early exit the compiler can test several at once.
 fn all_in_range(noise: &[f32]) -> bool
-    ensures { cond result (out_of_range_from 0 noise.now) none ≡ none }
+    ensures { cond result (out_of_range_from 0 noise.now) None ≡ None }
 {
     let mut within = true;
-    let mut k: usize = 0;
-    while k < noise.len() {
-        within = still_in_range(within, noise[k]);
-        k = k + 1;
+    for x in noise {
+        within &= float_range::within_f32(*x, NOISE_LIMIT);
     }
     within
 }
 
 // Refusal 8.
-pub fn check_noise(noise: &[f32]) -> NoiseFault
+#[tactic(auto, unfolding(crate::specs::NoiseModel::noise_fault_read))]
+pub fn check_noise(noise: &[f32]) -> Option<u64>
     ensures { noise_fault_read result ≡ out_of_range_from 0 noise.now }
 {
     if all_in_range(noise) {
-        return NoiseFault::None;
+        None
+    } else {
+        first_out_of_range(noise)
     }
-    first_out_of_range(noise)
 }

@@ -1,6 +1,6 @@
 -- The call as the code goes, on flat buffers, due samples at once, with a bound on its steps: `batched-result` and `batched-state` show it to be the call step by step, and the bound to be enough.
+use Rattle.std.specs.Prelude.{None}
 use mathlib.Core.List.{List}
-use mathlib.Core.Option.{none}
 use mathlib.Core.Path.{◌≡◌, refl, sym, ap, ◌∙◌}
 use Prim.Native.Nat.{ℕ, zero, suc, ◌+◌, ◌-◌, ◌*◌, ◌/◌, ◌≤◌, ◌<◌}
 use native.Mathlib.Nat.{mul-add}
@@ -109,8 +109,8 @@ module _ (G : Generator) (o : G.Value) (draw-pos : 0 < G.draw_bytes) (record-pos
   batched_is : batched ≡ rest_of G o c.noise (initial_progress G o z c)
   batched_is = batched_steps_are G o c.noise draw-pos record-pos line_length (step_fuel G o c.noise (initial_progress G o z c)) (initial_progress G o z c) first_within (omega arith)
 
-  pub batched_result : end_result G o batched ≡ result_of G c (machine_call G o z c none).0
+  pub batched_result : end_result G o batched ≡ result_of G c (machine_call G o z c None).0
   batched_result = ap (λ (e : Ended G o). end_result G o e) batched_is ∙ call_result G o z c
 
-  pub batched_state : batched.state ≡ (machine_call G o z c none).1
+  pub batched_state : batched.state ≡ (machine_call G o z c None).1
   batched_state = ap (λ (e : Ended G o). e.state) batched_is ∙ call_state G o z c

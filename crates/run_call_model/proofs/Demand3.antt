@@ -1,7 +1,7 @@
 -- Demand 3 holds of the machine, by `demand3` at the end of this file: its calls keep step with the plain bench's, refused ones too. So does its state (`matched`).
+use Rattle.std.specs.Prelude.{Option, Some, None}
 use mathlib.Core.Bool.{Bool, true, false, ◌||◌, false≢true}
 use mathlib.Core.List.{List, [], ◌∷◌, ◌++◌, map, map-append, append-nil, append_assoc}
-use mathlib.Core.Option.{Option, none, some}
 use mathlib.Core.Path.{◌≡◌, refl, sym, ap, ◌∙◌, subst}
 use Prim.Native.Nat.{ℕ, zero, suc, ◌+◌, ◌-◌, ◌*◌, ◌≤◌}
 use native.Mathlib.Omega.{arith}
@@ -92,8 +92,8 @@ module _ (G : Generator) (L : Laws G) (o : G.Value) where
   steps_stay f b l h = rw (h.0, le-leb total (length b.used) h.1)
 
   call_kept : (b : Bench G) (z : State G o) (c : Call G) (x : Option Refusal) → Reached G L b → Matches G L o b z
-      → (x ≡ none → Accepted G (time_of G t0 b.taken) b.mark (remaining_of G c).draws) → CallKept b c (bench_call G b c x) (machine_call G o z c x)
-  call_kept b z c (some q) g h acc = record {
+      → (x ≡ None → Accepted G (time_of G t0 b.taken) b.mark (remaining_of G c).draws) → CallKept b c (bench_call G b c x) (machine_call G o z c x)
+  call_kept b z c (Some q) g h acc = record {
     given = refl;
     reached = g;
     matches = h;
@@ -106,7 +106,7 @@ module _ (G : Generator) (L : Laws G) (o : G.Value) where
     finished = λ e. absurd (false≢true e);
     stays = λ e. refl;
   }
-  call_kept b z c none g h acc = record {
+  call_kept b z c None g h acc = record {
     given = λ i. record {
       answer = counts G l (k.rest i) (sum_of (new_part (plain_counts G b.taken) rz.added (plain_counts G rb.bench.taken) k.added i)) (k.stop i);
       samples = new_part (plain_samples G b.taken b.used) rz.samples (plain_samples G rb.bench.taken rb.bench.used) k.samples i;
@@ -218,8 +218,8 @@ module _ (G : Generator) (L : Laws G) (o : G.Value) where
       x : Option Refusal
       x = refusal_of G (time_of G t0 b.taken) b.mark c
 
-      same_test : refusal_of G z.time (some z.mark) c ≡ refusal_of G (time_of G t0 b.taken) b.mark c
-      same_test = ap (λ (t : Time). refusal_of G t (some z.mark) c) h.time ∙ refusal_alike G L (time_of G t0 b.taken) b.mark z.mark c g.good h.mark
+      same_test : refusal_of G z.time (Some z.mark) c ≡ refusal_of G (time_of G t0 b.taken) b.mark c
+      same_test = ap (λ (t : Time). refusal_of G t (Some z.mark) c) h.time ∙ refusal_alike G L (time_of G t0 b.taken) b.mark z.mark c g.good h.mark
 
       on : (p : Given G × Bench G) (q : Given G × State G o) → CallKept b c p q
           → ((b' : Bench G) (z' : State G o) → Reached G L b' → Matches G L o b' z' → CallsKept b' cs (bench_results G b' cs) (bench_after G b' cs) (machine_results G o z' cs) (machine_after G o z' cs))

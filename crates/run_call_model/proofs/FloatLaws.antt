@@ -1,7 +1,7 @@
 -- Demand 3 for f64 times and f32 samples: what is left to show of draws is that a gap in range is finite and not negative, the hold-back, the count bound and the length of a record.
+use Rattle.std.specs.Prelude.{Some, None}
 use mathlib.Core.Bool.{false}
 use mathlib.Core.Logic.{◌≢◌}
-use mathlib.Core.Option.{none, some}
 use mathlib.Core.Path.{◌≡◌, refl}
 use Prim.Native.Nat.{ℕ, ◌+◌, ◌≤◌, ◌<◌}
 use lib.Ieee.{Float, binary32, binary64, fits, lt, of_bits}
@@ -17,13 +17,13 @@ use Rattle.run_theory.proofs.Times.{GoodTime, Gap, not_before_itself, not_before
 
 -- what is asked of draws
 pub record DrawLaws (S : Draws) (sps total : ℕ) : Type 0 where
-  pub gap_in_range : (d : S.Draw) → S.fault d ≢ some 0 → Gap (S.gap d)
+  pub gap_in_range : (d : S.Draw) → S.fault d ≢ Some 0 → Gap (S.gap d)
   -- Hold-back: of two replies, the one at a later or equal time starts at most 32 samples earlier
   pub held :
-      (t t' : Float) (d d' : S.Draw) (s s' : ℕ) → GoodTime t → GoodTime t' → S.fault d ≡ none → S.fault d' ≡ none → lt t' t ≡ false
+      (t t' : Float) (d d' : S.Draw) (s s' : ℕ) → GoodTime t → GoodTime t' → S.fault d ≡ None → S.fault d' ≡ None → lt t' t ≡ false
       → kind (generator S sps total) t d ≡ reply s → kind (generator S sps total) t' d' ≡ reply s' → s ≤ s' + hold_back sps
   -- Count bound: a reply adds to at most 1,094 samples
-  pub short : (t : Float) (d : S.Draw) (s : ℕ) → GoodTime t → S.fault d ≡ none → kind (generator S sps total) t d ≡ reply s → length (S.adds t d s) ≤ reply_limit sps
+  pub short : (t : Float) (d : S.Draw) (s : ℕ) → GoodTime t → S.fault d ≡ None → kind (generator S sps total) t d ≡ reply s → length (S.adds t d s) ≤ reply_limit sps
   pub some_limit : 0 < reply_limit sps
   pub entry_length : (t : Float) (d : S.Draw) (s n : ℕ) → length (S.entry t d s n) ≡ 66
 

@@ -1,7 +1,7 @@
 -- A call step by step, as the code goes: each step of the code's loop leaves `rest_of`, what the rest of the call yields, as it is. No law of the generator is used but the length of a record.
+use Rattle.std.specs.Prelude.{None}
 use mathlib.Core.Bool.{Bool, true, false, cond}
 use mathlib.Core.List.{List, [], ◌∷◌, ◌++◌}
-use mathlib.Core.Option.{none}
 use mathlib.Core.Path.{◌≡◌, refl, sym, ap, ◌∙◌}
 use Prim.Native.Nat.{ℕ, suc, ◌+◌, ◌-◌, ◌*◌, ◌/◌, ◌≤◌, ◌<◌}
 use native.Mathlib.Nat.{le-div_iff_mul-le, div-lt_iff_lt-mul, mul_comm, mul-add}
@@ -373,10 +373,10 @@ module _ (G : Generator) (o : G.Value) where
     unfolding rest_of
     first_rest = ap (λ (x : Remaining G). finish G o c.noise (initial_progress G o z c) (all_steps G o z x)) first_left
 
-    pub call_state : (rest_of G o c.noise (initial_progress G o z c)).state ≡ (machine_call G o z c none).1
+    pub call_state : (rest_of G o c.noise (initial_progress G o z c)).state ≡ (machine_call G o z c None).1
     call_state = ap (λ (e : Ended G o). e.state) first_rest
 
-    pub call_result : end_result (rest_of G o c.noise (initial_progress G o z c)) ≡ result_of G c (machine_call G o z c none).0
+    pub call_result : end_result (rest_of G o c.noise (initial_progress G o z c)) ≡ result_of G c (machine_call G o z c None).0
     call_result = ap end_result first_rest ∙ (λ i. record {
       answer = ran (taken i) (samples i) (noise i) (lines i) (added i) r.stop;
       output = at_start (flatten r.samples) c.output i;

@@ -235,9 +235,6 @@ module _ (G : Generator) (o : G.Value) where
         number : plus (get_or (overwritten p (replicate i nought) m) (p + i) o) (scaled (get_or noise (from + i) o)) ≡ plus (get_or (drop p m) i o) (scaled (get_or (drop from noise) i o))
         number = (λ j. plus ((read ∙ sym (get_or-drop p m i o)) j) (scaled (sym (get_or-drop from noise i o) j)))
 
-    pub stretch_memory : set (overwritten p (replicate i nought) m) (p + i) nought ≡ overwritten p (replicate (suc i) nought) m
-    stretch_memory = overwritten_snoc p i (replicate i nought) m nought (length-replicate i nought) in_memory ∙ ap (λ (l : List Value). overwritten p l m) (replicate_snoc i nought)
-
   -- memory after a stretch, as overwritten
   pub cleared_overwritten : (k j : ℕ) (m : List Value) (w : ℕ) → (w + k) % window G o + j ≤ window G o → length m ≡ 2 * window G o
       → cleared G o m w (k + j) ≡ overwritten (2 * ((w + k) % window G o)) (replicate (2 * j) nought) (cleared G o m w k)

@@ -1,7 +1,6 @@
 -- A model of the code, and not the specification's words: a run call on working memory of limit + hold samples as a flat list used as a ring, a count of samples written, the time, the end and the latest time.
 -- From an opened run it is the plain bench's (run_call_model/proofs/Demand3); it is defined on any state. Its fuel is enough (run_call_model/proofs/EnoughFuel, `machine-enough`).
-use Rattle.std.specs.Prelude.{Bool, true, false, cond, List, [], ◌∷◌, ℕ, zero, suc, ◌+◌, ◌*◌, ◌%◌, length, get_or, set, replicate}
-use Rattle.std.proofs.Math.Option.{Option, none, some}
+use Rattle.std.specs.Prelude.{Option, Some, None, Bool, true, false, cond, List, [], ◌∷◌, ℕ, zero, suc, ◌+◌, ◌*◌, ◌%◌, length, get_or, set, replicate}
 use Rattle.run_theory.specs.Generator.{Generator, Sample, NoisePair, silence, add, noisy}
 use Rattle.run_theory.specs.Added.{sum_of}
 use Rattle.run_theory.specs.PlainRun.{Kind, ignored, ends, reply}
@@ -98,14 +97,14 @@ module _ (G : Generator) (o : G.Value) where
   machine_given l r = record { answer = counts G l r.rest (sum_of r.added) r.stop; samples = r.samples; records = r.records }
 
   abbrev pub machine_call : State → Call G → Option Refusal → Given G × State
-  machine_call z c (some q) = (refused_with G q, z)
-  machine_call z c none =
+  machine_call z c (Some q) = (refused_with G q, z)
+  machine_call z c None =
       let r = machine_steps (fuel G (remaining_of G c)) z (remaining_of G c) in
       (machine_given (remaining_of G c) r, r.state)
 
   -- a run call
   abbrev pub machine_run : State → Call G → Given G × State
-  machine_run z c = machine_call z c (refusal_of G z.time (some z.mark) c)
+  machine_run z c = machine_call z c (refusal_of G z.time (Some z.mark) c)
 
   abbrev pub machine_results : State → List (Call G) → List (Result G)
   machine_results z [] = []

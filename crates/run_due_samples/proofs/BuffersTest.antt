@@ -30,13 +30,6 @@ fits_for memory noise output k n e = go (eqb memory 2252) refl (leb (2 * (k + n)
     go true p false q c r e = absurd (false≢true e)
     go true p true q false r e = absurd (false≢true e)
 
-pub fits_not : (memory noise output k n : ℕ) → (Fits memory noise output k n → ⊥) → false ≡ fits_of memory noise output k n
-fits_not memory noise output k n no-fit = go (fits_of memory noise output k n) refl
-  where
-    go : (x : Bool) → fits_of memory noise output k n ≡ x → false ≡ x
-    go true e = absurd (no-fit (fits_for memory noise output k n e))
-    go false e = refl
-
 -- the buffers after both cases
 pub unchanged : (noise : List Float) (w k n : ℕ) (l : DueBuffers) → false ≡ fits_of (length l.memory) (length noise) (length l.output) k n → l ≡ due_of noise w k n l
 unfolding due_of

@@ -1,4 +1,4 @@
--- The loops: a number of a stretch more (`mix_next`, `clear_next`), and a stretch more (`Writing`).
+-- The loops: a number of a stretch more (`mix_next`), and a stretch more (`Writing`).
 use mathlib.Core.List.{List, [], ◌∷◌, ◌++◌}
 use mathlib.Core.Path.{◌≡◌, refl, sym, ap, ◌∙◌}
 use Prim.Native.Nat.{ℕ, ◌+◌, ◌-◌, ◌*◌, ◌/◌, ◌%◌, ◌≤◌, ◌<◌, min}
@@ -13,8 +13,8 @@ use Rattle.run_call_model.proofs.Batch.{length_written}
 use lib.Ieee.{Float, nan, binary32, of_bits, add, mul}
 use Rattle.run_call_model.specs.Buffers.{overwritten}
 use Rattle.run_call_model.proofs.FlatLists.{overwritten_beyond, overwritten_overwritten, length_flatten, length_pairs}
-use Rattle.run_call_model.proofs.Stretch.{stretch_output, stretch_memory, slot_wraps, written_more, cleared_overwritten}
-use Rattle.run_call_model.proofs.FloatLaws.{scale_bits, nought_bits}
+use Rattle.run_call_model.proofs.Stretch.{stretch_output, slot_wraps, written_more, cleared_overwritten}
+use Rattle.run_call_model.proofs.FloatLaws.{scale_bits}
 use Rattle.run_theory.specs.FloatGenerator.{nought}
 use Rattle.run_theory.specs.Zeros.{zeros}
 use Rattle.run_due_samples.specs.DueModel.{gen, mix, samples_of, clear_of}
@@ -30,9 +30,6 @@ none_overwritten at b = ap (λ (n : ℕ). take at b ++ drop n b) {x = at + 0} {y
 pub mix_first : (m noise out : List Float) (p from at : ℕ) → out ≡ overwritten at (mix (drop p m) (take 0 (drop from noise))) out
 mix_first m noise out p from at = sym (ap (λ (l : List Float). overwritten at l out) (no_mix (drop p m)) ∙ none_overwritten at out)
 
-pub clear_first : (m : List Float) (p : ℕ) → m ≡ overwritten p (zeros 0) m
-clear_first m p = sym (none_overwritten p m)
-
 module _ (m : List Float) (p i : ℕ) (in_memory : p + i < length m) where
   -- what was not cleared yet stands as it was
   read : get_or (overwritten p (zeros i) m) (p + i) nan ≡ get_or m (p + i) nan
@@ -47,19 +44,6 @@ module _ (m : List Float) (p i : ℕ) (in_memory : p + i < length m) where
       (λ j. set (e j) (at + i) (add binary32 (sym read j) (mul binary32 (get_or noise (from + i) nan) (scale_bits j))))
       ∙ stretch_output gen nan m noise out₀ p from at i in_memory b c
       ∙ ap (λ (n : ℕ). overwritten at (mix (drop p m) (take n (drop from noise))) out₀) (sym (add-one i))
-
-  pub clear_next : (m' : List Float) → m' ≡ overwritten p (zeros i) m → set m' (p + i) (of_bits binary32 0) ≡ overwritten p (zeros (i + 1)) m
-  clear_next m' e =
-      (λ j. set (e j) (p + i) (nought_bits.0 j))
-      ∙ stretch_memory gen nan m m m p p p i in_memory in_memory in_memory
-      ∙ ap (λ (n : ℕ). overwritten p (zeros n) m) (sym (add-one i))
-
--- and at the end all of them
-pub all_mixed : (m noise out₀ out : List Float) (p from at i len : ℕ) → i ≤ len → len ≤ i → out ≡ overwritten at (mix (drop p m) (take i (drop from noise))) out₀ → out ≡ overwritten at (mix (drop p m) (take len (drop from noise))) out₀
-all_mixed m noise out₀ out p from at i len h g e = e ∙ ap (λ (n : ℕ). overwritten at (mix (drop p m) (take n (drop from noise))) out₀) {x = i} {y = len} (omega arith)
-
-pub all_cleared : (m m' : List Float) (p i len : ℕ) → i ≤ len → len ≤ i → m' ≡ overwritten p (zeros i) m → m' ≡ overwritten p (zeros len) m
-all_cleared m m' p i len h g e = e ∙ ap (λ (n : ℕ). overwritten p (zeros n) m) {x = i} {y = len} (omega arith)
 
 -- after k samples, the rest in stretches
 pub record Writing (m₀ noise out₀ : List Float) (w from at values : ℕ) (m out : List Float) (p done : ℕ) : Type 0 where

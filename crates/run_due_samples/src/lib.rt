@@ -1,7 +1,7 @@
 // Samples that are due, written at once from working memory: the memory's numbers with their noise go to output, and their slots are cleared.
 #![tactic(auto)]
 
-ghost use Rattle.std.specs.Prelude.{◌≡◌, ◌+◌, ◌*◌, ◌/◌, ◌%◌, ◌≤◌, ◌<◌, min, length, drop, take};
+ghost use Rattle.std.specs.Prelude.{◌≡◌, ◌+◌, ◌*◌, ◌/◌, ◌%◌, ◌≤◌, ◌<◌, length, drop, take};
 ghost use Rattle.run_call_model.specs.Buffers.{overwritten};
 ghost use Rattle.run_theory.specs.Zeros.{zeros};
 ghost use Rattle.run_due_samples.specs.DueModel.{mix, samples_of, clear_of, fits_of, DueBuffers, due_of};
@@ -21,10 +21,8 @@ fn mix_stretch(
     requires { (p + len ≤ length memory.now) × (from + len ≤ length noise.now) × (at + len ≤ length output.old) }
     ensures { output.new ≡ overwritten at (mix (drop p memory.now) (take len (drop from noise.now))) output.old }
 {
-    let mut i: usize = 0;
-    while i < len {
+    for i in 0..len {
         output[at + i] = memory[p + i] + noise[from + i] * NOISE_SCALE;
-        i = i + 1;
     }
 }
 
@@ -33,11 +31,7 @@ fn clear_stretch(memory: &mut [f32], p: usize, len: usize)
     requires { p + len ≤ length memory.old }
     ensures { memory.new ≡ overwritten p (zeros len) memory.old }
 {
-    let mut i: usize = 0;
-    while i < len {
-        memory[p + i] = 0.0;
-        i = i + 1;
-    }
+    memory[p..p + len].fill(0.0);
 }
 
 // Writes a stretch of the memory with its noise, and clears it: by two loops, so that the clearing is one call of `memset`.
@@ -57,19 +51,6 @@ fn stretch(
     clear_stretch(memory, p, len);
 }
 
-fn least(a: usize, b: usize) -> usize
-    ensures { result ≡ min a b }
-{
-    if a < b { a } else { b }
-}
-
-// The slot of a sample in the memory.
-fn ring(n: u64) -> usize
-    ensures { result ≡ n % 1126 }
-{
-    (n % RING_SLOTS_U64) as usize
-}
-
 // Writes samples from sample `written` on, two numbers each, stretch by stretch.
 fn write_all(
     memory: &mut [f32],
@@ -83,31 +64,24 @@ fn write_all(
     requires { (length memory.old ≡ 2252) × (values % 2 ≡ 0) × (from + values ≤ length noise.now) × (at + values ≤ length output.old) }
     ensures { (output.new ≡ overwritten at (samples_of memory.old written (take values (drop from noise.now))) output.old) × (memory.new ≡ clear_of memory.old written (values / 2)) }
 {
-    let mut p = 2 * ring(written);
+    let mut p = 2 * (written % RING_SLOTS_U64) as usize;
     let mut done: usize = 0;
+    // The stretches differ in length, so that `done` is no index to count.
     while done < values {
-        let len = least(MEMORY_LEN - p, values - done);
+        let len = (MEMORY_LEN - p).min(values - done);
         stretch(memory, noise, output, p, from + done, at + done, len);
-        done = done + len;
+        done += len;
         p = 0;
     }
 }
 
 // Memory has its length, and noise and output hold k samples and n more.
+#[tactic(auto, unfolding(crate::specs::DueModel::fits_of))]
 fn fits(memory: usize, noise: usize, output: usize, samples: usize, n: usize) -> bool
     ensures { result ≡ fits_of memory noise output samples n }
 {
-    if memory != MEMORY_LEN {
-        return false;
-    }
-    let room = least(noise, output) / 2;
-    if room < samples {
-        return false;
-    }
-    if room - samples < n {
-        return false;
-    }
-    true
+    let room = noise.min(output) / 2;
+    memory == MEMORY_LEN && samples <= room && n <= room - samples
 }
 
 // Writes n samples that are due, after k samples of the call. Where the buffers do not hold them, nothing is changed.

@@ -1,4 +1,5 @@
 -- What opening gives: delays from 0 to below seven pulses, and distributions in the ranges of SPECIFICATION 4.2 (`FiltersInRange`); settings that are accepted and prototypes with a crossing give them, and at most 2^52 samples (`opened-in-range`).
+use Rattle.std.specs.Prelude.{Some, Ok}
 use Prim.Native.Nat.{ℕ, ◌-◌, ◌*◌, ◌^◌, ◌≤◌, ◌<◌}
 use mathlib.Core.Path.{◌≡◌}
 use mathlib.Core.Bool.{true}
@@ -12,7 +13,6 @@ use Rattle.constants.specs.Setting.{per_pulse}
 use Rattle.constants.specs.Rate.{prototype_length}
 use Rattle.constants.proofs.Settings.{rate_pos, rate_few}
 use Rattle.float_rounding.proofs.Units.{Units}
-use Rattle.pulse_shape.specs.declared.Crossing.TheVariants.{At}
 use Rattle.pulse_shape.specs.Accepted.{all_within16}
 use Rattle.pulse_shape.specs.GroupDelay.{group_delay, mode_ac_group_delay}
 use Rattle.pulse_shape.specs.Prototype.{prototype_of, mode_s_prototype, mode_ac_prototype}
@@ -22,7 +22,6 @@ use Rattle.pulse_shape.proofs.Whole.{length_prototype}
 use Rattle.message_config.proofs.InRange.{zero_f, DelayInRange, DelaysInRange}
 use Rattle.settings.specs.declared.Settings.{Settings}
 use Rattle.settings.specs.declared.Distributions.{Distributions}
-use Rattle.settings.specs.declared.Checked.TheVariants.{Accepted}
 use Rattle.settings.specs.Accepted.{accepted_of}
 use Rattle.settings.proofs.InRange.{InRange, HeldSettings, accepted_in_range}
 use Rattle.run_generator.specs.Instance.{Filters, pulse_samples}
@@ -53,8 +52,8 @@ module _ (setting : SamplesPerPulse) (s : Settings) (H : HeldSettings s) (level 
     }
 
     pub opened_in_range :
-        accepted_of sps s ≡ Accepted n all → all_within16 (mode_s_prototype sps mode_s) ≡ true → all_within16 (mode_ac_prototype sps mode_ac) ≡ true
-        → group_delay sps level (mode_s_prototype sps mode_s) ≡ At a → mode_ac_group_delay sps level (mode_ac_prototype sps mode_ac) ≡ At b
+        accepted_of sps s ≡ Ok (n, all) → all_within16 (mode_s_prototype sps mode_s) ≡ true → all_within16 (mode_ac_prototype sps mode_ac) ≡ true
+        → group_delay sps level (mode_s_prototype sps mode_s) ≡ Some a → mode_ac_group_delay sps level (mode_ac_prototype sps mode_ac) ≡ Some b
         → FiltersInRange opened × (n ≤ 2 ^ 52)
     opened_in_range e w v g h =
         let r = accepted_in_range sps s H n all e in (

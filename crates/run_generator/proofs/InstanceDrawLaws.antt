@@ -1,8 +1,8 @@
 -- What the theory of calls asks of draws holds of the real ones, by filters in range and at most 2^52 samples (`instance-draw-laws`): gaps, hold-back, count bound and length of a record.
+use Rattle.std.specs.Prelude.{None}
 use Prim.Native.Nat.{ℕ, ◌+◌, ◌^◌, ◌≤◌, ◌<◌}
 use mathlib.Core.Path.{◌≡◌, ap, ◌∙◌}
 use mathlib.Core.Bool.{false}
-use mathlib.Core.Option.{none}
 use native.Mathlib.Nat.{le_trans, le_of_eq}
 use native.Mathlib.Omega.{arith}
 use lib.Dec.{lit<}
@@ -63,10 +63,10 @@ some_limit Four = lit< tt
 some_limit Eight = lit< tt
 
 module _ (f : Filters) (R : FiltersInRange f) (total : ℕ) (few : total ≤ 2 ^ 52) where
-  pub fields : (d : RepresentableDraw) → (draws f).fault d ≡ none → InRange f.rates f.distributions d.draw
+  pub fields : (d : RepresentableDraw) → (draws f).fault d ≡ None → InRange f.rates f.distributions d.draw
   fields d e = in_range f.rates f.distributions d.draw (fine_of (draw_fault f.rates f.distributions d.draw) e)
 
-  error_in_range : (t : Float) (d : RepresentableDraw) → (draws f).fault d ≡ none → ErrorInRange (config_of f.distributions t d.draw).reply.kind (config_of f.distributions t d.draw).error
+  error_in_range : (t : Float) (d : RepresentableDraw) → (draws f).fault d ≡ None → ErrorInRange (config_of f.distributions t d.draw).reply.kind (config_of f.distributions t d.draw).error
   error_in_range t d e = message_error f.rates f.distributions R.distributions.clock d.draw d.held.clock (fields d e) t
 
   pub reply_at : (t : Float) (d : RepresentableDraw) (s : ℕ) → kind (instance_of f total) t d ≡ reply s → start_at f.distributions f.delays t d.draw ≡ pos s
@@ -80,7 +80,7 @@ module _ (f : Filters) (R : FiltersInRange f) (total : ℕ) (few : total ≤ 2 ^
 
   -- Hold-back
   pub instance_held :
-      (t t' : Float) (d d' : RepresentableDraw) (s s' : ℕ) → GoodTime t → GoodTime t' → (draws f).fault d ≡ none → (draws f).fault d' ≡ none → lt t' t ≡ false
+      (t t' : Float) (d d' : RepresentableDraw) (s s' : ℕ) → GoodTime t → GoodTime t' → (draws f).fault d ≡ None → (draws f).fault d' ≡ None → lt t' t ≡ false
       → kind (instance_of f total) t d ≡ reply s → kind (instance_of f total) t' d' ≡ reply s' → s ≤ s' + hold_back (pulse_samples f)
   unfolding config_of config_with
   instance_held t t' d d' s s' g g' e e' o k k' =
@@ -88,7 +88,7 @@ module _ (f : Filters) (R : FiltersInRange f) (total : ℕ) (few : total ≤ 2 ^
       (time_in_range t g) (time_in_range t' g') (error_in_range t d e) (error_in_range t' d' e') o (reply_at t d s k) (reply_at t' d' s' k') (below_52 t' d' s' k')
 
   -- Count bound
-  pub instance_short : (t : Float) (d : RepresentableDraw) (s : ℕ) → GoodTime t → (draws f).fault d ≡ none → kind (instance_of f total) t d ≡ reply s → length ((draws f).adds t d s) ≤ reply_limit (pulse_samples f)
+  pub instance_short : (t : Float) (d : RepresentableDraw) (s : ℕ) → GoodTime t → (draws f).fault d ≡ None → kind (instance_of f total) t d ≡ reply s → length ((draws f).adds t d s) ≤ reply_limit (pulse_samples f)
   unfolding config_of config_with
   instance_short t d s g e k =
       let c = config_of f.distributions t d.draw in

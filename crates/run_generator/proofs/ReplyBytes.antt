@@ -1,4 +1,5 @@
--- A made reply has 14 bytes, whatever the type and the picks (`made_bytes`).
+-- The bytes of a made reply, or of zeros in its place, are 14, whatever the type and the picks (`made_bytes`).
+use Rattle.std.specs.Prelude.{Option, Some, None}
 use Prim.Native.Nat.{ℕ, ◌+◌, ◌-◌, ◌≤◌}
 use mathlib.Core.Path.{◌≡◌, ap, ◌∙◌}
 use mathlib.Core.List.{List, [], ◌∷◌}
@@ -8,9 +9,8 @@ use Rattle.mode_s.specs.Parity.{parity_of, parity_bytes, with_parity}
 use Rattle.message.specs.declared.MessageType.{MessageType}
 use Rattle.message.specs.declared.MessageType.TheVariants.{ExtendedSquitter, AcquisitionSquitter, ShortAp, AllCallReply, LongAp, MilitaryExtendedSquitter, ModeAc}
 use Rattle.message.specs.declared.Picks.{Picks}
-use Rattle.message.specs.declared.FieldFault.{FieldFault}
-use Rattle.message.specs.declared.FieldFault.TheVariants.{NoFault, Field}
 use Rattle.message.specs.Making.{byte0, later, message_bytes, filled, reply_of, field_fault, made_where, made}
+use Rattle.draw.specs.Config.{bytes_made}
 
 later_most : (p : Picks) (n : ℕ) → length (later p n) ≤ n
 unfolding later
@@ -34,10 +34,10 @@ filled_length : (m : List ℕ) → length m ≤ 14 → length (filled m) ≡ 14
 unfolding filled
 filled_length m h = length-append m (replicate (14 - length m) 0) ∙ ap (λ (n : ℕ). length m + n) (length-replicate {A = ℕ} (14 - length m) 0) ∙ omega arith
 
-pub made_bytes : (t : MessageType) (p : Picks) → length (made t p).reply.bytes ≡ 14
+pub made_bytes : (t : MessageType) (p : Picks) → length (bytes_made (made t p)) ≡ 14
 unfolding made
 made_bytes t p = go (field_fault t p)
   where
-    go : (x : FieldFault) → length (made_where x (reply_of t p)).reply.bytes ≡ 14
-    go NoFault = unfold made_where reply_of in filled_length (message_bytes t p) (most t p)
-    go (Field k) = unfold made_where in length-replicate {A = ℕ} 14 0
+    go : (x : Option ℕ) → length (bytes_made (made_where x (reply_of t p))) ≡ 14
+    go None = unfold made_where bytes_made reply_of in filled_length (message_bytes t p) (most t p)
+    go (Some k) = unfold made_where bytes_made in length-replicate {A = ℕ} 14 0

@@ -1,9 +1,9 @@
 -- Every number of a sample that a list of run calls writes is finite and at most 2 ^ 53 in size, however many replies overlap and however long the run (`samples-sized`): from 2 ^ 53 on, what a reply or noise adds is less than half of a step of the format.
+use Rattle.std.specs.Prelude.{None}
 use mathlib.Core.Path.{◌≡◌, refl, subst}
 use Prim.Native.Nat.{ℕ, ◌+◌, ◌*◌, ◌^◌, ◌≤◌}
 use mathlib.Core.Bool.{Bool, true, false, not}
 use mathlib.Core.List.{List, [], ◌∷◌, map}
-use mathlib.Core.Option.{none}
 use lib.Dec.{T, lit≤}
 use native.Mathlib.Omega.{arith}
 use lib.IntN.{pos}
@@ -81,7 +81,7 @@ module _ (f : Filters) (R : FiltersInRange f) (total : ℕ) (few : total ≤ 2 ^
   mapped [] h = tt
   mapped (z ∷ zs) h = (h.0, mapped zs h.1)
 
-  adds_sized : (t : Float) (d : RepresentableDraw) (s : ℕ) → GoodTime t → (draws f).fault d ≡ none → kind (instance_of f total) t d ≡ reply s → Each (Both (AtMost most)) ((draws f).adds t d s)
+  adds_sized : (t : Float) (d : RepresentableDraw) (s : ℕ) → GoodTime t → (draws f).fault d ≡ None → kind (instance_of f total) t d ≡ reply s → Each (Both (AtMost most)) ((draws f).adds t d s)
   unfolding of_bits
   adds_sized t d s g e k =
       let c = config_of f.distributions t d.draw in

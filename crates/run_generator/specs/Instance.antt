@@ -1,6 +1,5 @@
 -- What the settings and filters of a run make of draws: the generator, as plain run and plain bench take it (SPECIFICATION 10).
-use Rattle.std.specs.Prelude.{ℕ, Bool, not, List, map, Float}
-use Rattle.std.proofs.Math.Option.{Option, none, some}
+use Rattle.std.specs.Prelude.{Option, Some, None, ℕ, Bool, not, List, map, Float}
 use Rattle.std.specs.Float.{binary32}
 use Rattle.std.specs.Float.Ieee.{of_bits}
 use Rattle.constants.specs.declared.SamplesPerPulse.{SamplesPerPulse}
@@ -8,8 +7,6 @@ use Rattle.constants.specs.Setting.{per_pulse}
 use Rattle.run_theory.specs.Generator.{Generator, start_from, Pair}
 use Rattle.run_theory.specs.FloatGenerator.{Draws, generator}
 use Rattle.float_narrow.specs.Range.{within}
-use Rattle.message.specs.declared.FieldFault.{FieldFault}
-use Rattle.message.specs.declared.FieldFault.TheVariants.{NoFault, Field}
 use Rattle.message_config.specs.declared.Delays.{Delays}
 use Rattle.settings.specs.declared.Distributions.{Distributions}
 use Rattle.settings.specs.declared.MessagesPerSecond.{MessagesPerSecond}
@@ -25,9 +22,9 @@ use Rattle.reply_record.specs.Record.{record_bytes}
 unfoldable pub pair_of : Sample → Pair Float
 pair_of z = record { re = z.re; im = z.im }
 
-unfoldable pub fault_of : FieldFault → Option ℕ
-fault_of NoFault = none
-fault_of (Field field) = some field
+unfoldable pub fault_of : Option ℕ → Option ℕ
+fault_of None = None
+fault_of (Some field) = Some field
 
 -- Refusal 8 (SPECIFICATION 3.1): a noise value not finite or above 64 in size
 unfoldable pub out_of_range : Float → Bool

@@ -5,31 +5,19 @@ ghost use Rattle.std.specs.Prelude.{cond, ◌≡◌, length};
 ghost use Rattle.run_theory.specs.Zeros.{zeros};
 ghost use Rattle.run_open.specs.FillModel.{over};
 ghost use Rattle.constants.specs.Rate.{four};
-ghost use Rattle.run_open_checks.specs.Opening.{opened_of, is_run, left_by};
+ghost use Rattle.run_open_checks.specs.Opening.{opened_of, left_by};
 
-use constants::{PROTOTYPE_LEN, least};
-use run_open_checks::Opened;
+use constants::PROTOTYPE_LEN;
+use refusals::Refusal;
+use run_call::State;
 
 // Writes a list over the first values of another, as far as either goes.
+#[tactic(auto, unfolding(crate::specs::FillModel::over))]
 fn copy(from: &[f32], to: &mut [f32])
     ensures { to.new ≡ over from.now to.old }
 {
-    let n = least(from.len(), to.len());
-    let mut k: usize = 0;
-    while k < n {
-        to[k] = from[k];
-        k = k + 1;
-    }
-}
-
-fn clear(memory: &mut [f32])
-    ensures { memory.new ≡ zeros (length memory.old) }
-{
-    let mut k: usize = 0;
-    while k < memory.len() {
-        memory[k] = 0.0;
-        k = k + 1;
-    }
+    let n = from.len().min(to.len());
+    to[..n].copy_from_slice(&from[..n]);
 }
 
 // Where it is wanted, writes the two lists over the prototypes and sets working memory to 0.0.
@@ -43,20 +31,10 @@ pub fn fill(
 )
     ensures { (mode_s.new ≡ cond wanted (over proto_s mode_s.old) mode_s.old) × (mode_ac.new ≡ cond wanted (over proto_ac mode_ac.old) mode_ac.old) × (memory.new ≡ cond wanted (zeros (length memory.old)) memory.old) }
 {
-    if !wanted {
-        return;
-    }
-    copy(&proto_s, mode_s);
-    copy(&proto_ac, mode_ac);
-    clear(memory);
-}
-
-fn is_run(answer: Opened) -> bool
-    ensures { result ≡ is_run answer }
-{
-    match answer {
-        Opened::Run(state) => true,
-        Opened::Refused(refusal) => false,
+    if wanted {
+        copy(&proto_s, mode_s);
+        copy(&proto_ac, mode_ac);
+        memory.fill(0.0);
     }
 }
 
@@ -68,7 +46,7 @@ pub fn open(
     mode_s: &mut [f32],
     mode_ac: &mut [f32],
     memory: &mut [f32],
-) -> Opened
+) -> Result<State, Refusal>
     ensures { (result ≡ opened_of four taps_s.now taps_ac.now settings.now (record { mode_s = mode_s.old; mode_ac = mode_ac.old; memory = memory.old })) × (record { mode_s = mode_s.new; mode_ac = mode_ac.new; memory = memory.new } ≡ left_by four taps_s.now taps_ac.now result (record { mode_s = mode_s.old; mode_ac = mode_ac.old; memory = memory.old })) }
 {
     let p = run_open_checks::prepare(
@@ -79,10 +57,13 @@ pub fn open(
         mode_ac.len(),
         memory.len(),
     );
-    let answer = p.opened;
-    let proto_s = p.mode_s;
-    let proto_ac = p.mode_ac;
-    let wanted = is_run(answer);
-    fill(wanted, proto_s, proto_ac, mode_s, mode_ac, memory);
-    answer
+    fill(
+        p.opened.is_ok(),
+        p.mode_s,
+        p.mode_ac,
+        mode_s,
+        mode_ac,
+        memory,
+    );
+    p.opened
 }

@@ -1,4 +1,5 @@
 -- What each test of opening decides: which answer of the definitions it gives.
+use Rattle.std.specs.Prelude.{Option, Some, None, Result, Ok, Err}
 use Prim.Native.Nat.{ℕ}
 use mathlib.Core.Path.{◌≡◌, refl, sym, ap, ◌∙◌}
 use mathlib.Core.Bool.{Bool, true, false, ◌&&◌, cond, false≢true}
@@ -8,8 +9,6 @@ use lib.ListN.{length}
 use lib.Ieee.{Float}
 use borrow.Author.Tests.{eqb-true, eq-eqb}
 use Rattle.constants.specs.Rate.{four}
-use Rattle.pulse_shape.specs.declared.Crossing.{Crossing}
-use Rattle.pulse_shape.specs.declared.Crossing.TheVariants.{At, None}
 use Rattle.pulse_shape.specs.Prototype.{mode_s_prototype, mode_ac_prototype}
 use Rattle.pulse_shape.specs.Accepted.{all_within16, mode_s_taps_accepted, mode_ac_taps_accepted}
 use Rattle.pulse_shape.specs.GroupDelay.{group_delay, mode_ac_group_delay, crossing_answer}
@@ -19,11 +18,8 @@ use Rattle.run_call.specs.declared.State.{State}
 use Rattle.settings.specs.declared.MessagesPerSecond.{MessagesPerSecond}
 use Rattle.settings.specs.declared.Distributions.{Distributions}
 use Rattle.settings.specs.declared.Settings.{Settings}
-use Rattle.settings.specs.declared.Checked as Checked
 use Rattle.settings.specs.Settings.{settings_of}
 use Rattle.settings.specs.Accepted.{accepted_of}
-use Rattle.run_open_checks.specs.declared.Opened.{Opened}
-use Rattle.run_open_checks.specs.declared.Opened.TheVariants.{Run, Refused}
 use Rattle.run_open_checks.specs.FirstCause.{Fits}
 use Rattle.run_open_checks.specs.Opening.{first_state, buffers_fit, mode_s_delay, mode_ac_delay, delays_given, delays_then, delays_of, taps_of, settings_then, opened_for, prepared_of, is_run}
 
@@ -43,120 +39,78 @@ fits_for settings mode_s mode_ac memory e = go (eqb settings 123) refl (eqb memo
     go true o true p false q c r e = absurd (false≢true e)
     go true o true p true q false r e = absurd (false≢true e)
 
-pub fits_not : (settings mode_s mode_ac memory : ℕ) → (Fits settings mode_s mode_ac memory → ⊥) → false ≡ buffers_fit four settings mode_s mode_ac memory
-fits_not settings mode_s mode_ac memory no-fit = go (buffers_fit four settings mode_s mode_ac memory) refl
-  where
-    go : (x : Bool) → buffers_fit four settings mode_s mode_ac memory ≡ x → false ≡ x
-    go true e = absurd (no-fit (fits_for settings mode_s mode_ac memory e))
-    go false e = refl
-
 -- the delay of a prototype
 module _ (sps : ℕ) (level : Float) (prototype : List Float) where
   pub mode_s_delay_of : all_within16 prototype ≡ true → mode_s_delay sps level prototype ≡ group_delay sps level prototype
   unfolding mode_s_delay
   mode_s_delay_of e = rw e
 
-  pub mode_s_none : all_within16 prototype ≡ false → mode_s_delay sps level prototype ≡ None
-  unfolding mode_s_delay
-  mode_s_none e = rw e
-
   pub mode_ac_delay_of : all_within16 prototype ≡ true → mode_ac_delay sps level prototype ≡ mode_ac_group_delay sps level prototype
   unfolding mode_ac_delay
   mode_ac_delay_of e = rw e
 
-  pub mode_ac_none : all_within16 prototype ≡ false → mode_ac_delay sps level prototype ≡ None
-  unfolding mode_ac_delay
-  mode_ac_none e = rw e
-
--- a run is distinguished from a refusal
-pub a_run : (r : Opened) (s : State) → r ≡ Run s → true ≡ is_run r
-unfolding is_run
-a_run r s e = sym (ap is_run e)
-
-pub a_refusal : (r : Opened) (q : Refusal) → r ≡ Refused q → false ≡ is_run r
-unfolding is_run
-a_refusal r q e = sym (ap is_run e)
-
 -- refusal 6, for either delay; or the first state
-module _ (rates : MessagesPerSecond) (total : ℕ) (all : Distributions) (x y : Crossing) where
-  pub no_mode_s : x ≡ None → Refused Cause.Prototype ≡ delays_then rates total all x y
+module _ (rates : MessagesPerSecond) (total : ℕ) (all : Distributions) (x y : Option Float) where
+  pub no_mode_s : x ≡ None → Err Cause.Prototype ≡ delays_then rates total all x y
   unfolding delays_then delays_given crossing_answer
   no_mode_s e = λ i. delays_then rates total all (sym e i) y
 
-  pub no_mode_ac : (a : Float) → x ≡ At a → y ≡ None → Refused Cause.Prototype ≡ delays_then rates total all x y
+  pub no_mode_ac : (a : Float) → x ≡ Some a → y ≡ None → Err Cause.Prototype ≡ delays_then rates total all x y
   unfolding delays_then delays_given crossing_answer
   no_mode_ac a e f = λ i. delays_then rates total all (sym e i) (sym f i)
 
-  pub both_found : (a b : Float) → x ≡ At a → y ≡ At b → Run (first_state rates total all a b) ≡ delays_then rates total all x y
+  pub both_found : (a b : Float) → x ≡ Some a → y ≡ Some b → Ok (first_state rates total all a b) ≡ delays_then rates total all x y
   unfolding delays_then delays_given crossing_answer
   both_found a b e f = λ i. delays_then rates total all (sym e i) (sym f i)
 
 module _ (level : Float) (taps_s taps_ac : List Float) where
   module _ (rates : MessagesPerSecond) (total : ℕ) (all : Distributions) where
     -- refusal 5, for either list
-    by_taps : (b : Bool) → mode_s_taps_accepted four taps_s && mode_ac_taps_accepted four taps_ac ≡ b → cond b (delays_of four level taps_s taps_ac rates total all) (Refused Cause.Taps) ≡ taps_of four level taps_s taps_ac rates total all
+    by_taps : (b : Bool) → mode_s_taps_accepted four taps_s && mode_ac_taps_accepted four taps_ac ≡ b → cond b (delays_of four level taps_s taps_ac rates total all) (Err Cause.Taps) ≡ taps_of four level taps_s taps_ac rates total all
     unfolding taps_of
-    by_taps b e = ap (λ (x : Bool). cond x (delays_of four level taps_s taps_ac rates total all) (Refused Cause.Taps)) (sym e)
+    by_taps b e = ap (λ (x : Bool). cond x (delays_of four level taps_s taps_ac rates total all) (Err Cause.Taps)) (sym e)
 
-    pub mode_s_taps_refused : mode_s_taps_accepted four taps_s ≡ false → Refused Cause.Taps ≡ taps_of four level taps_s taps_ac rates total all
+    pub mode_s_taps_refused : mode_s_taps_accepted four taps_s ≡ false → Err Cause.Taps ≡ taps_of four level taps_s taps_ac rates total all
     mode_s_taps_refused e = by_taps false (ap (λ (x : Bool). x && mode_ac_taps_accepted four taps_ac) e)
 
-    pub mode_ac_taps_refused : mode_s_taps_accepted four taps_s ≡ true → mode_ac_taps_accepted four taps_ac ≡ false → Refused Cause.Taps ≡ taps_of four level taps_s taps_ac rates total all
+    pub mode_ac_taps_refused : mode_s_taps_accepted four taps_s ≡ true → mode_ac_taps_accepted four taps_ac ≡ false → Err Cause.Taps ≡ taps_of four level taps_s taps_ac rates total all
     mode_ac_taps_refused e f = by_taps false (ap (λ (x : Bool). x && mode_ac_taps_accepted four taps_ac) e ∙ f)
 
     pub taps_pass : mode_s_taps_accepted four taps_s ≡ true → mode_ac_taps_accepted four taps_ac ≡ true → delays_of four level taps_s taps_ac rates total all ≡ taps_of four level taps_s taps_ac rates total all
     taps_pass e f = by_taps true (ap (λ (x : Bool). x && mode_ac_taps_accepted four taps_ac) e ∙ f)
 
-    -- refusal 6 or the first state, behind accepted taps
-    pub taps_given : {p q : List Float} {x y : Crossing} {r : Opened} {s ac : Bool} → p ≡ mode_s_prototype four taps_s → q ≡ mode_ac_prototype four taps_ac
-        → s ≡ mode_s_taps_accepted four taps_s → s ≡ true → ac ≡ mode_ac_taps_accepted four taps_ac → ac ≡ true
-        → x ≡ mode_s_delay four level p → y ≡ mode_ac_delay four level q → r ≡ delays_then rates total all x y → r ≡ taps_of four level taps_s taps_ac rates total all
-    unfolding delays_of
-    taps_given e f a b c d g h k =
-        k
-        ∙ (λ i. delays_then rates total all ((g ∙ ap (mode_s_delay four level) e) i) ((h ∙ ap (mode_ac_delay four level) f) i))
-        ∙ taps_pass (sym a ∙ b) (sym c ∙ d)
-
 module _ (taps_s taps_ac : List Float) where
   -- refusal 9, then 1 to 4 and 14
   module _ (bytes : List ℕ) (mode_s mode_ac memory : ℕ) where
     by_buffers : (b : Bool) → buffers_fit four (length bytes) mode_s mode_ac memory ≡ b
-        → cond b (settings_then four taps_s taps_ac (settings_of bytes) (accepted_of four (settings_of bytes))) (Refused Cause.Length) ≡ opened_for four taps_s taps_ac bytes mode_s mode_ac memory
+        → cond b (settings_then four taps_s taps_ac (settings_of bytes) (accepted_of four (settings_of bytes))) (Err Cause.Length) ≡ opened_for four taps_s taps_ac bytes mode_s mode_ac memory
     unfolding opened_for
-    by_buffers b e = ap (λ (x : Bool). cond x (settings_then four taps_s taps_ac (settings_of bytes) (accepted_of four (settings_of bytes))) (Refused Cause.Length)) (sym e)
+    by_buffers b e = ap (λ (x : Bool). cond x (settings_then four taps_s taps_ac (settings_of bytes) (accepted_of four (settings_of bytes))) (Err Cause.Length)) (sym e)
 
-    pub buffers_refused : buffers_fit four (length bytes) mode_s mode_ac memory ≡ false → Refused Cause.Length ≡ opened_for four taps_s taps_ac bytes mode_s mode_ac memory
+    pub buffers_refused : buffers_fit four (length bytes) mode_s mode_ac memory ≡ false → Err Cause.Length ≡ opened_for four taps_s taps_ac bytes mode_s mode_ac memory
     buffers_refused = by_buffers false
 
     -- the settings, and what their check gives
-    module _ (s : Settings) (x : Checked.Checked) (held : s ≡ settings_of bytes) (checks : x ≡ accepted_of four s) (fit : buffers_fit four (length bytes) mode_s mode_ac memory ≡ true) where
+    module _ (s : Settings) (x : Result (ℕ × Distributions) Refusal) (held : s ≡ settings_of bytes) (checks : x ≡ accepted_of four s) (fit : buffers_fit four (length bytes) mode_s mode_ac memory ≡ true) where
       by_settings : settings_then four taps_s taps_ac s x ≡ opened_for four taps_s taps_ac bytes mode_s mode_ac memory
       by_settings =
           ap (settings_then four taps_s taps_ac s) checks
           ∙ ap (λ (z : Settings). settings_then four taps_s taps_ac z (accepted_of four z)) held
           ∙ by_buffers true fit
 
-      pub settings_refused : (r : Refusal) → x ≡ Checked.TheVariants.Refused r → Refused r ≡ opened_for four taps_s taps_ac bytes mode_s mode_ac memory
+      pub settings_refused : (r : Refusal) → x ≡ Err r → Err r ≡ opened_for four taps_s taps_ac bytes mode_s mode_ac memory
       unfolding settings_then
       settings_refused r e = ap (settings_then four taps_s taps_ac s) (sym e) ∙ by_settings
 
-      pub settings_pass : (total : ℕ) (all : Distributions) → x ≡ Checked.TheVariants.Accepted total all → taps_of four s.trigger_level taps_s taps_ac s.rates total all ≡ opened_for four taps_s taps_ac bytes mode_s mode_ac memory
+      pub settings_pass : (total : ℕ) (all : Distributions) → x ≡ Ok (total, all) → taps_of four s.trigger_level taps_s taps_ac s.rates total all ≡ opened_for four taps_s taps_ac bytes mode_s mode_ac memory
       unfolding settings_then
       settings_pass total all e = ap (settings_then four taps_s taps_ac s) (sym e) ∙ by_settings
 
-      pub settings_given : {r : Opened} (total : ℕ) (all : Distributions) → x ≡ Checked.TheVariants.Accepted total all → r ≡ taps_of four s.trigger_level taps_s taps_ac s.rates total all → r ≡ opened_for four taps_s taps_ac bytes mode_s mode_ac memory
-      settings_given total all e k = k ∙ settings_pass total all e
-
     -- a run is opened only where the buffers fit
-    pub run_fits : (o : Opened) → o ≡ opened_for four taps_s taps_ac bytes mode_s mode_ac memory → is_run o ≡ true → Fits (length bytes) mode_s mode_ac memory
+    pub run_fits : (o : Result State Refusal) → o ≡ opened_for four taps_s taps_ac bytes mode_s mode_ac memory → is_run o ≡ true → Fits (length bytes) mode_s mode_ac memory
     unfolding is_run
     run_fits o e t = fits_for (length bytes) mode_s mode_ac memory (go (buffers_fit four (length bytes) mode_s mode_ac memory) refl)
       where
         go : (b : Bool) → buffers_fit four (length bytes) mode_s mode_ac memory ≡ b → b ≡ true
         go true f = refl
         go false f = ap is_run (buffers_refused f ∙ sym e) ∙ t
-
-    pub prepared : {o : Opened} {p q : List Float} → o ≡ opened_for four taps_s taps_ac bytes mode_s mode_ac memory → p ≡ mode_s_prototype four taps_s → q ≡ mode_ac_prototype four taps_ac
-        → record { opened = o; mode_s = p; mode_ac = q } ≡ prepared_of four taps_s taps_ac bytes mode_s mode_ac memory
-    unfolding prepared_of
-    prepared e f g = λ i. record { opened = e i; mode_s = f i; mode_ac = g i }

@@ -1,5 +1,7 @@
 -- Refusals 9, 1 to 4, 14, 5 and 6 of opening are each given for their cause only, and for the first cause in the order of SPECIFICATION 3.2: opening's answer is one that `Answered` of specs/ allows (`answered`), and no other (`only`).
 -- So a run is opened exactly where none has a cause (`opens`).
+use Rattle.std.specs.Prelude.{Option, Some, None, Result, Ok, Err}
+use Rattle.refusals.specs.declared.Refusal.{Refusal}
 use Prim.Native.Nat.{ℕ, zero, suc, ◌+◌}
 use mathlib.Core.Path.{◌≡◌, refl, sym, ◌∙◌}
 use mathlib.Core.Bool.{Bool, true, false, ◌&&◌, cond, false≢true}
@@ -10,21 +12,16 @@ use lib.ListN.{length}
 use lib.Ieee.{Float}
 use borrow.Author.Tests.{eqb-true, eq-eqb}
 use Rattle.constants.specs.Rate.{four, mode_s_taps, mode_ac_taps}
-use Rattle.pulse_shape.specs.declared.Crossing.{Crossing}
-use Rattle.pulse_shape.specs.declared.Crossing.TheVariants.{At, None}
 use Rattle.pulse_shape.specs.Prototype.{mode_s_prototype, mode_ac_prototype}
 use Rattle.pulse_shape.specs.Accepted.{within16, all_within16, mode_s_taps_accepted, mode_ac_taps_accepted}
 use Rattle.pulse_shape.specs.GroupDelay.{crosses, delay_at, choose, delay_from, group_delay, mode_ac_ratio, over, mode_ac_group_delay, crossing_answer}
 use Rattle.refusals.specs.declared.Refusal.TheVariants as Cause
 use Rattle.run_call.specs.declared.State.{State}
 use Rattle.settings.specs.declared.Distributions.{Distributions}
-use Rattle.settings.specs.declared.Checked as Checked
 use Rattle.settings.specs.Settings.{settings_of}
 use Rattle.settings.specs.Accepted.{accepted_of}
 use Rattle.settings.specs.FirstCause as Settings
 use Rattle.settings.proofs.FirstCause as SettingsCause
-use Rattle.run_open_checks.specs.declared.Opened.{Opened}
-use Rattle.run_open_checks.specs.declared.Opened.TheVariants.{Run, Refused}
 use Rattle.run_open_checks.specs.Opening.{OpenBuffers, buffers_fit, mode_s_delay, mode_ac_delay, delays_given, delays_then, delays_of, taps_of, settings_then, opened_for, opened_of}
 use Rattle.run_open_checks.specs.FirstCause.{Fits, AllWithin16, GoodTaps, Crosses, GoodPrototype, BuffersFit, NoEarlierCause, BothTaps, BothPrototypes, level_of, Answered, refused_9, refused_settings, refused_5, refused_6, accepted}
 use Rattle.run_open_checks.proofs.Decided.{fits_if, fits_for, mode_s_delay_of, mode_ac_delay_of, no_mode_s, no_mode_ac, both_found, mode_s_taps_refused, mode_ac_taps_refused, taps_pass, buffers_refused, settings_refused, settings_pass}
@@ -75,8 +72,8 @@ taps_decide count taps = go (eqb (length taps) count) refl (all_within16 taps) (
     go false e b h = λ g. false≢true (sym e ∙ eq-eqb (length taps) count g.count_is)
 
 -- a delay is found where the level crosses
-abbrev CrossingSays : Float → List Float → Crossing → Type 0
-CrossingSays level l (At d) = Crosses level l
+abbrev CrossingSays : Float → List Float → Option Float → Type 0
+CrossingSays level l (Some d) = Crosses level l
 CrossingSays level l None = Crosses level l → ⊥
 
 crossing_says : (sps : ℕ) (level : Float) (j : ℕ) (l : List Float) → CrossingSays level l (delay_from sps level j l)
@@ -85,9 +82,9 @@ crossing_says sps level j [] = λ c. absurd (omega (arith, c.1))
 crossing_says sps level j (a ∷ []) = λ c. absurd (omega (arith, c.1))
 crossing_says sps level j (a ∷ b ∷ l) = go (crosses level a b) refl (delay_from sps level (j + 1) (b ∷ l)) (crossing_says sps level (j + 1) (b ∷ l))
   where
-    go : (t : Bool) → crosses level a b ≡ t → (x : Crossing) → CrossingSays level (b ∷ l) x → CrossingSays level (a ∷ b ∷ l) (choose t (At (delay_at sps level j a b)) x)
+    go : (t : Bool) → crosses level a b ≡ t → (x : Option Float) → CrossingSays level (b ∷ l) x → CrossingSays level (a ∷ b ∷ l) (choose t (Some (delay_at sps level j a b)) x)
     go true e x h = (0, omega arith, e)
-    go false e (At d) h = (suc h.0, omega (arith, h.1), h.2)
+    go false e (Some d) h = (suc h.0, omega (arith, h.1), h.2)
     go false e None h = not_here
       where
         not_here : Crosses level (a ∷ b ∷ l) → ⊥
@@ -95,20 +92,20 @@ crossing_says sps level j (a ∷ b ∷ l) = go (crosses level a b) refl (delay_f
         not_here (suc i, k, c) = h (i, omega arith, c)
 
 -- a prototype's delay is found where the prototype is good
-abbrev DelaySays : Float → List Float → Crossing → Crossing → Type 0
-DelaySays level p found (At d) = GoodPrototype level p × (found ≡ At d)
+abbrev DelaySays : Float → List Float → Option Float → Option Float → Type 0
+DelaySays level p found (Some d) = GoodPrototype level p × (found ≡ Some d)
 DelaySays level p found None = GoodPrototype level p → ⊥
 
-delay_says : (level : Float) (p : List Float) (found : Crossing) → CrossingSays level p found → DelaySays level p found (cond (all_within16 p) found None)
+delay_says : (level : Float) (p : List Float) (found : Option Float) → CrossingSays level p found → DelaySays level p found (cond (all_within16 p) found None)
 delay_says level p found h = go (all_within16 p) (all_decides p) found h
   where
-    go : (b : Bool) → Decides b (AllWithin16 p) → (x : Crossing) → CrossingSays level p x → DelaySays level p x (cond b x None)
-    go true w (At d) c = (record { within = w; crossing = c }, refl)
+    go : (b : Bool) → Decides b (AllWithin16 p) → (x : Option Float) → CrossingSays level p x → DelaySays level p x (cond b x None)
+    go true w (Some d) c = (record { within = w; crossing = c }, refl)
     go true w None c = λ g. c g.crossing
     go false w x c = λ g. w g.within
 
-over_says : (level ratio : Float) (p : List Float) (x : Crossing) → CrossingSays level p x → CrossingSays level p (over ratio x)
-over_says level ratio p (At d) c = c
+over_says : (level ratio : Float) (p : List Float) (x : Option Float) → CrossingSays level p x → CrossingSays level p (over ratio x)
+over_says level ratio p (Some d) c = c
 over_says level ratio p None c = c
 
 mode_s_says : (level : Float) (p : List Float) → DelaySays level p (group_delay four level p) (mode_s_delay four level p)
@@ -123,38 +120,38 @@ module _ (taps_s taps_ac : List Float) (bytes : List ℕ) (l : OpenBuffers) wher
   abbrev level : Float
   level = level_of bytes
 
-  abbrev Right : Opened → Type 0
+  abbrev Right : Result State Refusal → Type 0
   Right = Answered taps_s taps_ac bytes l
 
   -- ---- for its cause only
   by_delays : (n : ℕ) (d : Distributions) → NoEarlierCause bytes l n d → BothTaps taps_s taps_ac
-      → (x : Crossing) → DelaySays level (mode_s_prototype four taps_s) (group_delay four level (mode_s_prototype four taps_s)) x
-      → (y : Crossing) → DelaySays level (mode_ac_prototype four taps_ac) (mode_ac_group_delay four level (mode_ac_prototype four taps_ac)) y
+      → (x : Option Float) → DelaySays level (mode_s_prototype four taps_s) (group_delay four level (mode_s_prototype four taps_s)) x
+      → (y : Option Float) → DelaySays level (mode_ac_prototype four taps_ac) (mode_ac_group_delay four level (mode_ac_prototype four taps_ac)) y
       → Right (delays_then (settings_of bytes).rates n d x y)
   unfolding delays_then delays_given crossing_answer
-  by_delays n d P t (At a) f (At b) g = accepted P t (f.0, g.0) f.1 g.1
-  by_delays n d P t (At a) f None g = refused_6 P t (λ both. g both.1)
+  by_delays n d P t (Some a) f (Some b) g = accepted P t (f.0, g.0) f.1 g.1
+  by_delays n d P t (Some a) f None g = refused_6 P t (λ both. g both.1)
   by_delays n d P t None f y g = refused_6 P t (λ both. f both.0)
 
   by_taps : (n : ℕ) (d : Distributions) → NoEarlierCause bytes l n d
       → (s : Bool) → Decides s (GoodTaps (mode_s_taps four) taps_s) → (ac : Bool) → Decides ac (GoodTaps (mode_ac_taps four) taps_ac)
-      → Right (cond (s && ac) (delays_of four level taps_s taps_ac (settings_of bytes).rates n d) (Refused Cause.Taps))
+      → Right (cond (s && ac) (delays_of four level taps_s taps_ac (settings_of bytes).rates n d) (Err Cause.Taps))
   unfolding delays_of
   by_taps n d P true f true g = by_delays n d P (f, g) _ (mode_s_says level (mode_s_prototype four taps_s)) _ (mode_ac_says level (mode_ac_prototype four taps_ac))
   by_taps n d P true f false g = refused_5 P (λ both. g both.1)
   by_taps n d P false f ac g = refused_5 P (λ both. f both.0)
 
-  by_settings : BuffersFit bytes l → (c : Checked.Checked) → Settings.Answered four (settings_of bytes) c → Right (settings_then four taps_s taps_ac (settings_of bytes) c)
+  by_settings : BuffersFit bytes l → (c : Result (ℕ × Distributions) Refusal) → Settings.Answered four (settings_of bytes) c → Right (settings_then four taps_s taps_ac (settings_of bytes) c)
   unfolding settings_then taps_of mode_s_taps_accepted mode_ac_taps_accepted
-  by_settings f (Checked.TheVariants.Accepted n d) s = by_taps n d (record { lent = f; settings = s }) (mode_s_taps_accepted four taps_s) (taps_decide (mode_s_taps four) taps_s) (mode_ac_taps_accepted four taps_ac) (taps_decide (mode_ac_taps four) taps_ac)
-  by_settings f (Checked.TheVariants.Refused q) s = refused_settings f s
+  by_settings f (Ok (n, d)) s = by_taps n d (record { lent = f; settings = s }) (mode_s_taps_accepted four taps_s) (taps_decide (mode_s_taps four) taps_s) (mode_ac_taps_accepted four taps_ac) (taps_decide (mode_ac_taps four) taps_ac)
+  by_settings f (Err q) s = refused_settings f s
 
   pub answered : Right (opened_of four taps_s taps_ac bytes l)
   unfolding opened_of opened_for
   answered = go (buffers_fit four (length bytes) (length l.mode_s) (length l.mode_ac) (length l.memory)) (buffers_decides (length bytes) (length l.mode_s) (length l.mode_ac) (length l.memory))
     where
       go : (b : Bool) → Decides b (BuffersFit bytes l)
-          → Right (cond b (settings_then four taps_s taps_ac (settings_of bytes) (accepted_of four (settings_of bytes))) (Refused Cause.Length))
+          → Right (cond b (settings_then four taps_s taps_ac (settings_of bytes) (accepted_of four (settings_of bytes))) (Err Cause.Length))
       go true f = by_settings f (accepted_of four (settings_of bytes)) (SettingsCause.answered four (settings_of bytes))
       go false f = refused_9 f
 
@@ -171,32 +168,32 @@ module _ (taps_s taps_ac : List Float) (bytes : List ℕ) (l : OpenBuffers) wher
   good_taps t = (holds _ (taps_decide (mode_s_taps four) taps_s) t.0, holds _ (taps_decide (mode_ac_taps four) taps_ac) t.1)
 
   module _ (n : ℕ) (d : Distributions) where
-    abbrev taps_give : Opened
+    abbrev taps_give : Result State Refusal
     taps_give = taps_of four level taps_s taps_ac (settings_of bytes).rates n d
 
-    taps_refused : (BothTaps taps_s taps_ac → ⊥) → Refused Cause.Taps ≡ taps_give
+    taps_refused : (BothTaps taps_s taps_ac → ⊥) → Err Cause.Taps ≡ taps_give
     unfolding mode_s_taps_accepted mode_ac_taps_accepted
     taps_refused t = go _ refl (taps_decide (mode_s_taps four) taps_s)
       where
-        go : (b : Bool) → mode_s_taps_accepted four taps_s ≡ b → Decides b (GoodTaps (mode_s_taps four) taps_s) → Refused Cause.Taps ≡ taps_give
+        go : (b : Bool) → mode_s_taps_accepted four taps_s ≡ b → Decides b (GoodTaps (mode_s_taps four) taps_s) → Err Cause.Taps ≡ taps_give
         go true e g = mode_ac_taps_refused level taps_s taps_ac _ n d e (fails _ (taps_decide (mode_ac_taps four) taps_ac) (λ h. t (g, h)))
         go false e g = mode_s_taps_refused level taps_s taps_ac _ n d e
 
     taps_go_on : BothTaps taps_s taps_ac → delays_of four level taps_s taps_ac (settings_of bytes).rates n d ≡ taps_give
     taps_go_on t = taps_pass level taps_s taps_ac _ n d (good_taps t).0 (good_taps t).1
 
-    prototype_refused : (BothPrototypes level taps_s taps_ac → ⊥) → Refused Cause.Prototype ≡ delays_of four level taps_s taps_ac (settings_of bytes).rates n d
+    prototype_refused : (BothPrototypes level taps_s taps_ac → ⊥) → Err Cause.Prototype ≡ delays_of four level taps_s taps_ac (settings_of bytes).rates n d
     unfolding delays_of
     prototype_refused p = go _ refl (mode_s_says level (mode_s_prototype four taps_s)) _ refl (mode_ac_says level (mode_ac_prototype four taps_ac))
       where
-        go : (x : Crossing) → mode_s_delay four level (mode_s_prototype four taps_s) ≡ x → DelaySays level (mode_s_prototype four taps_s) (group_delay four level (mode_s_prototype four taps_s)) x
-            → (y : Crossing) → mode_ac_delay four level (mode_ac_prototype four taps_ac) ≡ y → DelaySays level (mode_ac_prototype four taps_ac) (mode_ac_group_delay four level (mode_ac_prototype four taps_ac)) y
-            → Refused Cause.Prototype ≡ delays_of four level taps_s taps_ac (settings_of bytes).rates n d
-        go (At a) e f (At b) h g = absurd (p (f.0, g.0))
-        go (At a) e f None h g = no_mode_ac _ n d _ _ a e h
+        go : (x : Option Float) → mode_s_delay four level (mode_s_prototype four taps_s) ≡ x → DelaySays level (mode_s_prototype four taps_s) (group_delay four level (mode_s_prototype four taps_s)) x
+            → (y : Option Float) → mode_ac_delay four level (mode_ac_prototype four taps_ac) ≡ y → DelaySays level (mode_ac_prototype four taps_ac) (mode_ac_group_delay four level (mode_ac_prototype four taps_ac)) y
+            → Err Cause.Prototype ≡ delays_of four level taps_s taps_ac (settings_of bytes).rates n d
+        go (Some a) e f (Some b) h g = absurd (p (f.0, g.0))
+        go (Some a) e f None h g = no_mode_ac _ n d _ _ a e h
         go None e f y h g = no_mode_s _ n d _ _ e
 
-  pub only : (c : Opened) → Right c → opened_of four taps_s taps_ac bytes l ≡ c
+  pub only : (c : Result State Refusal) → Right c → opened_of four taps_s taps_ac bytes l ≡ c
   unfolding delays_of opened_of
   only c (refused_9 f) = sym (buffers_refused taps_s taps_ac bytes _ _ _ (fails _ (buffers_decides (length bytes) (length l.mode_s) (length l.mode_ac) (length l.memory)) f))
   only c (refused_settings {q} f s) = sym (settings_refused taps_s taps_ac bytes _ _ _ (settings_of bytes) _ refl refl (fit f) q (SettingsCause.only four (settings_of bytes) _ s))
@@ -207,12 +204,12 @@ module _ (taps_s taps_ac : List Float) (bytes : List ℕ) (l : OpenBuffers) wher
       ∙ sym (both_found _ n d _ _ a b (mode_s_delay_of four level _ (within_16 level _ p.0) ∙ f) (mode_ac_delay_of four level _ (within_16 level _ p.1) ∙ g) ∙ taps_go_on n d t)
 
   -- a run is opened where no refusal has a cause
-  pub opens : (n : ℕ) (d : Distributions) → NoEarlierCause bytes l n d → BothTaps taps_s taps_ac → BothPrototypes level taps_s taps_ac → (s : State) × (opened_of four taps_s taps_ac bytes l ≡ Run s)
+  pub opens : (n : ℕ) (d : Distributions) → NoEarlierCause bytes l n d → BothTaps taps_s taps_ac → BothPrototypes level taps_s taps_ac → (s : State) × (opened_of four taps_s taps_ac bytes l ≡ Ok s)
   opens n d P t p = go (mode_s_delay four level (mode_s_prototype four taps_s)) (mode_s_says level (mode_s_prototype four taps_s)) (mode_ac_delay four level (mode_ac_prototype four taps_ac)) (mode_ac_says level (mode_ac_prototype four taps_ac))
     where
-      go : (x : Crossing) → DelaySays level (mode_s_prototype four taps_s) (group_delay four level (mode_s_prototype four taps_s)) x
-          → (y : Crossing) → DelaySays level (mode_ac_prototype four taps_ac) (mode_ac_group_delay four level (mode_ac_prototype four taps_ac)) y
-          → (s : State) × (opened_of four taps_s taps_ac bytes l ≡ Run s)
-      go (At a) f (At b) g = (_, only _ (accepted P t p f.1 g.1))
-      go (At a) f None g = absurd (g p.1)
+      go : (x : Option Float) → DelaySays level (mode_s_prototype four taps_s) (group_delay four level (mode_s_prototype four taps_s)) x
+          → (y : Option Float) → DelaySays level (mode_ac_prototype four taps_ac) (mode_ac_group_delay four level (mode_ac_prototype four taps_ac)) y
+          → (s : State) × (opened_of four taps_s taps_ac bytes l ≡ Ok s)
+      go (Some a) f (Some b) g = (_, only _ (accepted P t p f.1 g.1))
+      go (Some a) f None g = absurd (g p.1)
       go None f y g = absurd (f p.0)

@@ -1,4 +1,6 @@
 -- What an opened run gives, beside that no refusal has a cause (`FirstCause`): its delays and distributions are in range and it has at most 2^52 samples (`opened-run-in-range`), at every trigger level that is accepted; and it stands where the theory of lists of calls begins (`opened-first`).
+use Rattle.std.specs.Prelude.{Some, Result, Ok, Err}
+use Rattle.refusals.specs.declared.Refusal.{Refusal}
 use Prim.Native.Nat.{ℕ, ◌^◌, ◌≤◌}
 use mathlib.Core.Path.{◌≡◌, refl, sym, subst}
 use mathlib.Core.Bool.{true}
@@ -7,7 +9,6 @@ use lib.Dec.{T}
 use lib.Ieee.{Float, nan}
 use Rattle.constants.specs.Rate.{four}
 use Rattle.run_call_model.specs.Machine as Machine
-use Rattle.pulse_shape.specs.declared.Crossing.TheVariants.{At}
 use Rattle.pulse_shape.specs.Prototype.{mode_s_prototype, mode_ac_prototype}
 use Rattle.pulse_shape.specs.Accepted.{all_within16}
 use Rattle.pulse_shape.specs.GroupDelay.{group_delay, mode_ac_group_delay}
@@ -16,12 +17,10 @@ use Rattle.run_generator.proofs.FiltersInRange as Range
 use Rattle.run_call.specs.declared.State.{State}
 use Rattle.run_call.specs.StateGenerator.{filters_of, gen_of}
 use Rattle.settings.specs.declared.Distributions.{Distributions}
-use Rattle.settings.specs.declared.Checked as Checked
 use Rattle.settings.specs.Settings.{settings_of}
 use Rattle.settings.specs.Accepted.{accepted_of}
 use Rattle.settings.proofs.FirstCause as Settings
 use Rattle.settings.proofs.InRange.{read_held, accepted_level}
-use Rattle.run_open_checks.specs.declared.Opened as Opened
 use Rattle.run_open_checks.specs.Opening.{OpenBuffers, first_state, opened_of, left_by}
 use Rattle.run_open_checks.specs.FirstCause.{level_of, Answered, refused_9, refused_settings, refused_5, refused_6, accepted}
 use Rattle.run_open_checks.proofs.FirstCause.{answered, within_16}
@@ -33,16 +32,16 @@ module _ (taps_s taps_ac : List Float) (bytes : List ℕ) (l : OpenBuffers) wher
     pub all : Distributions
     pub mode_s : Float
     pub mode_ac : Float
-    pub settings : accepted_of four (settings_of bytes) ≡ Checked.TheVariants.Accepted total all
-    pub delay_s : (all_within16 (mode_s_prototype four taps_s) ≡ true) × (group_delay four (level_of bytes) (mode_s_prototype four taps_s) ≡ At mode_s)
-    pub delay_ac : (all_within16 (mode_ac_prototype four taps_ac) ≡ true) × (mode_ac_group_delay four (level_of bytes) (mode_ac_prototype four taps_ac) ≡ At mode_ac)
+    pub settings : accepted_of four (settings_of bytes) ≡ Ok (total, all)
+    pub delay_s : (all_within16 (mode_s_prototype four taps_s) ≡ true) × (group_delay four (level_of bytes) (mode_s_prototype four taps_s) ≡ Some mode_s)
+    pub delay_ac : (all_within16 (mode_ac_prototype four taps_ac) ≡ true) × (mode_ac_group_delay four (level_of bytes) (mode_ac_prototype four taps_ac) ≡ Some mode_ac)
     pub is : state ≡ first_state (settings_of bytes).rates total all mode_s mode_ac
 
-  abbrev Told : Opened.Opened → Type 0
-  Told (Opened.TheVariants.Run state) = Accepts state
-  Told (Opened.TheVariants.Refused refusal) = T true
+  abbrev Told : Result State Refusal → Type 0
+  Told (Ok state) = Accepts state
+  Told (Err refusal) = T true
 
-  told : (c : Opened.Opened) → Answered taps_s taps_ac bytes l c → Told c
+  told : (c : Result State Refusal) → Answered taps_s taps_ac bytes l c → Told c
   told c (refused_9 f) = tt
   told c (refused_settings f s) = tt
   told c (refused_5 P t) = tt
@@ -59,7 +58,7 @@ module _ (taps_s taps_ac : List Float) (bytes : List ℕ) (l : OpenBuffers) wher
         is = refl;
       }
 
-  module _ (state : State) (opens : opened_of four taps_s taps_ac bytes l ≡ Opened.TheVariants.Run state) where
+  module _ (state : State) (opens : opened_of four taps_s taps_ac bytes l ≡ Ok state) where
     pub what_is_opened : Accepts state
     what_is_opened = subst Told opens (told _ (answered taps_s taps_ac bytes l))
 
@@ -74,10 +73,10 @@ module _ (taps_s taps_ac : List Float) (bytes : List ℕ) (l : OpenBuffers) wher
     -- with what opening leaves in working memory it is the theory's opened state
     pub opened_first :
         ◌≡◌ {A = Machine.State (gen_of state (mode_s_prototype four taps_s) (mode_ac_prototype four taps_ac)) nan}
-        (record { memory = (left_by four taps_s taps_ac (Opened.TheVariants.Run state) l).memory; written = state.written; time = state.time; over = state.ended; mark = state.latest })
+        (record { memory = (left_by four taps_s taps_ac (Ok state) l).memory; written = state.written; time = state.time; over = state.ended; mark = state.latest })
         (Machine.opened (gen_of state (mode_s_prototype four taps_s) (mode_ac_prototype four taps_ac)) nan)
     unfolding first_state left_by
     opened_first =
         subst (λ (s : State). ◌≡◌ {A = Machine.State (gen_of s (mode_s_prototype four taps_s) (mode_ac_prototype four taps_ac)) nan}
-        (record { memory = (left_by four taps_s taps_ac (Opened.TheVariants.Run s) l).memory; written = s.written; time = s.time; over = s.ended; mark = s.latest })
+        (record { memory = (left_by four taps_s taps_ac (Ok s) l).memory; written = s.written; time = s.time; over = s.ended; mark = s.latest })
         (Machine.opened (gen_of s (mode_s_prototype four taps_s) (mode_ac_prototype four taps_ac)) nan)) (sym what_is_opened.is) refl

@@ -1,22 +1,18 @@
 -- Opening a run (SPECIFICATION 8.2): its checks in order, and what it fills.
-use Rattle.std.specs.Prelude.{ℕ, Bool, true, false, ◌&&◌, cond, List, eqb, length, Float}
+use Rattle.std.specs.Prelude.{Option, None, Result, Ok, Err, is_ok, ℕ, Bool, false, ◌&&◌, cond, List, eqb, length, Float}
 use Rattle.constants.specs.Rate.{prototype_length, working_memory}
 use Rattle.run_theory.specs.FloatGenerator.{nought}
 use Rattle.run_theory.specs.Zeros.{zeros}
-use Rattle.pulse_shape.specs.declared.Crossing as Crossing
 use Rattle.pulse_shape.specs.Prototype.{mode_s_prototype, mode_ac_prototype}
 use Rattle.pulse_shape.specs.Accepted.{all_within16, mode_s_taps_accepted, mode_ac_taps_accepted}
 use Rattle.pulse_shape.specs.GroupDelay.{group_delay, mode_ac_group_delay, crossing_answer}
 use Rattle.refusals.specs.declared.Refusal as Refusal
-use Rattle.refusals.specs.Answer.{Answer, accepted, refused}
 use Rattle.run_call.specs.declared.State.{State}
 use Rattle.settings.specs.declared.MessagesPerSecond.{MessagesPerSecond}
 use Rattle.settings.specs.declared.Distributions.{Distributions}
 use Rattle.settings.specs.declared.Settings.{Settings}
-use Rattle.settings.specs.declared.Checked as Checked
 use Rattle.settings.specs.Settings.{settings_length, settings_of}
 use Rattle.settings.specs.Accepted.{accepted_of}
-use Rattle.run_open_checks.specs.declared.Opened as Opened
 use Rattle.run_open_checks.specs.declared.Prepared.{Prepared}
 
 -- the buffers that opening writes: the two prototypes and working memory
@@ -43,43 +39,43 @@ unfoldable pub buffers_fit : ℕ → ℕ → ℕ → ℕ → ℕ → Bool
 buffers_fit sps settings mode_s mode_ac memory = eqb settings settings_length && eqb memory (working_memory sps) && eqb mode_s (prototype_length sps) && eqb mode_ac (prototype_length sps)
 
 -- the delay of a prototype; nowhere where a value is not finite or above 16 in size
-unfoldable pub mode_s_delay : ℕ → Float → List Float → Crossing.Crossing
-mode_s_delay sps level prototype = cond (all_within16 prototype) (group_delay sps level prototype) Crossing.TheVariants.None
+unfoldable pub mode_s_delay : ℕ → Float → List Float → Option Float
+mode_s_delay sps level prototype = cond (all_within16 prototype) (group_delay sps level prototype) None
 
-unfoldable pub mode_ac_delay : ℕ → Float → List Float → Crossing.Crossing
-mode_ac_delay sps level prototype = cond (all_within16 prototype) (mode_ac_group_delay sps level prototype) Crossing.TheVariants.None
+unfoldable pub mode_ac_delay : ℕ → Float → List Float → Option Float
+mode_ac_delay sps level prototype = cond (all_within16 prototype) (mode_ac_group_delay sps level prototype) None
 
 -- the run's first state, or the refusal of the first prototype without a delay
-unfoldable pub delays_given : MessagesPerSecond → ℕ → Distributions → Answer Float → Answer Float → Opened.Opened
-delays_given rates total all (accepted a) (accepted b) = Opened.TheVariants.Run (first_state rates total all a b)
-delays_given rates total all (accepted a) (refused refusal) = Opened.TheVariants.Refused refusal
-delays_given rates total all (refused refusal) b = Opened.TheVariants.Refused refusal
+unfoldable pub delays_given : MessagesPerSecond → ℕ → Distributions → Result Float Refusal.Refusal → Result Float Refusal.Refusal → Result State Refusal.Refusal
+delays_given rates total all (Ok a) (Ok b) = Ok (first_state rates total all a b)
+delays_given rates total all (Ok a) (Err refusal) = Err refusal
+delays_given rates total all (Err refusal) b = Err refusal
 
 -- refusal 6 (SPECIFICATION 6.2, 6.3), or the run's first state
-unfoldable pub delays_then : MessagesPerSecond → ℕ → Distributions → Crossing.Crossing → Crossing.Crossing → Opened.Opened
+unfoldable pub delays_then : MessagesPerSecond → ℕ → Distributions → Option Float → Option Float → Result State Refusal.Refusal
 delays_then rates total all mode_s mode_ac = delays_given rates total all (crossing_answer mode_s) (crossing_answer mode_ac)
 
 -- the samples per pulse, the trigger level, and the two lowpasses
 module _ (sps : ℕ) (level : Float) (taps_s taps_ac : List Float) where
-  unfoldable pub delays_of : MessagesPerSecond → ℕ → Distributions → Opened.Opened
+  unfoldable pub delays_of : MessagesPerSecond → ℕ → Distributions → Result State Refusal.Refusal
   delays_of rates total all = delays_then rates total all (mode_s_delay sps level (mode_s_prototype sps taps_s)) (mode_ac_delay sps level (mode_ac_prototype sps taps_ac))
 
   -- refusal 5 (SPECIFICATION 4.3), then 6
-  unfoldable pub taps_of : MessagesPerSecond → ℕ → Distributions → Opened.Opened
-  taps_of rates total all = cond (mode_s_taps_accepted sps taps_s && mode_ac_taps_accepted sps taps_ac) (delays_of rates total all) (Opened.TheVariants.Refused Refusal.TheVariants.Taps)
+  unfoldable pub taps_of : MessagesPerSecond → ℕ → Distributions → Result State Refusal.Refusal
+  taps_of rates total all = cond (mode_s_taps_accepted sps taps_s && mode_ac_taps_accepted sps taps_ac) (delays_of rates total all) (Err Refusal.TheVariants.Taps)
 
 module _ (sps : ℕ) (taps_s taps_ac : List Float) where
   -- refusals 1 to 4 and 14, of the settings; then 5 and 6, both prototypes at the settings' trigger level
-  unfoldable pub settings_then : Settings → Checked.Checked → Opened.Opened
-  settings_then s (Checked.TheVariants.Accepted total all) = taps_of sps s.trigger_level taps_s taps_ac s.rates total all
-  settings_then s (Checked.TheVariants.Refused refusal) = Opened.TheVariants.Refused refusal
+  unfoldable pub settings_then : Settings → Result (ℕ × Distributions) Refusal.Refusal → Result State Refusal.Refusal
+  settings_then s (Ok (total, all)) = taps_of sps s.trigger_level taps_s taps_ac s.rates total all
+  settings_then s (Err refusal) = Err refusal
 
   -- what opening answers, given prototypes and working memory of these lengths: refusal 9, "working memory not 2,252 f32, a prototype not 1,792 f32", and settings of another length than 123 bytes, before any of them is read (docs/DECISIONS.md); then the others
-  unfoldable pub opened_for : List ℕ → ℕ → ℕ → ℕ → Opened.Opened
+  unfoldable pub opened_for : List ℕ → ℕ → ℕ → ℕ → Result State Refusal.Refusal
   opened_for bytes mode_s mode_ac memory =
-      cond (buffers_fit sps (length bytes) mode_s mode_ac memory) (settings_then (settings_of bytes) (accepted_of sps (settings_of bytes))) (Opened.TheVariants.Refused Refusal.TheVariants.Length)
+      cond (buffers_fit sps (length bytes) mode_s mode_ac memory) (settings_then (settings_of bytes) (accepted_of sps (settings_of bytes))) (Err Refusal.TheVariants.Length)
 
-  unfoldable pub opened_of : List ℕ → OpenBuffers → Opened.Opened
+  unfoldable pub opened_of : List ℕ → OpenBuffers → Result State Refusal.Refusal
   opened_of bytes lent = opened_for bytes (length lent.mode_s) (length lent.mode_ac) (length lent.memory)
 
   -- the answer, with the prototypes that a run is opened with
@@ -88,12 +84,11 @@ module _ (sps : ℕ) (taps_s taps_ac : List Float) where
       record { opened = opened_for bytes mode_s mode_ac memory; mode_s = mode_s_prototype sps taps_s; mode_ac = mode_ac_prototype sps taps_ac }
 
 -- whether a run is opened, and not refused
-unfoldable pub is_run : Opened.Opened → Bool
-is_run (Opened.TheVariants.Run state) = true
-is_run (Opened.TheVariants.Refused refusal) = false
+unfoldable pub is_run : Result State Refusal.Refusal → Bool
+is_run o = is_ok o
 
 -- what opening leaves (SPECIFICATION 8.2): a refusal changes no buffer
-unfoldable pub left_by : ℕ → List Float → List Float → Opened.Opened → OpenBuffers → OpenBuffers
-left_by sps taps_s taps_ac (Opened.TheVariants.Run state) lent =
+unfoldable pub left_by : ℕ → List Float → List Float → Result State Refusal.Refusal → OpenBuffers → OpenBuffers
+left_by sps taps_s taps_ac (Ok state) lent =
     record { mode_s = mode_s_prototype sps taps_s; mode_ac = mode_ac_prototype sps taps_ac; memory = zeros (working_memory sps) }
-left_by sps taps_s taps_ac (Opened.TheVariants.Refused refusal) lent = lent
+left_by sps taps_s taps_ac (Err refusal) lent = lent

@@ -5,7 +5,7 @@ ghost use Rattle.std.specs.Prelude.{◌≡◌, ◌+◌, ◌-◌, ◌/◌, ◌^�
 ghost use Rattle.run_theory.specs.Generator.{start_from};
 ghost use Rattle.run_theory.specs.PlainRun.{kind_of};
 ghost use Rattle.run_call_model.specs.Plan.{plan_ended, plan_reply, plan_draw, stop_for, some_or, due_many};
-ghost use Rattle.run_steps.specs.PlanModel.{counted, stop_read, plan_read, is_negative, chosen};
+ghost use Rattle.run_steps.specs.PlanModel.{counted, stop_read, plan_read, chosen};
 ghost use Rattle.std.specs.Float.Ieee.{lt};
 ghost use Rattle.run_steps.specs.ProgressModel.{progress_after_samples, progress_after_draw, progress_after_stop, progress_after_step};
 
@@ -32,40 +32,27 @@ pub enum Plan {
     Add(f64, u64),
 }
 
-fn least(a: usize, b: usize) -> usize
-    ensures { result ≡ min a b }
-{
-    if a < b { a } else { b }
-}
-
-// As many of the samples due as there is room.
-fn capped(due: u64, room: usize) -> usize
-    ensures { result ≡ min due room }
-{
-    if due < room as u64 {
-        return due as usize;
-    }
-    room
-}
-
 // How many of the samples due can be written; none where a stop comes first.
 fn batch(due: u64, room: usize, noise: usize) -> usize
     ensures { result ≡ Rattle.run_call_model.specs.Plan.batch due room noise }
 {
-    capped(due, least(room / 2, noise / 2))
+    due.min((room / 2).min(noise / 2) as u64) as usize
 }
 
 // The stop where none can be written.
+#[tactic(auto, unfolding(crate::specs::PlanModel::stop_read))]
 fn stop_for(room: usize) -> Stop
     ensures { stop_read result ≡ stop_for room }
 {
     if room < 2 {
-        return Stop::OutputFull;
+        Stop::OutputFull
+    } else {
+        Stop::WantsNoise
     }
-    Stop::WantsNoise
 }
 
 // After the end draw: the samples that are left.
+#[tactic(auto, unfolding(crate::specs::PlanModel::plan_read, crate::specs::PlanModel::stop_read))]
 fn drain(written: u64, total: u64, room: usize, noise: usize) -> Plan
     ensures { plan_read result ≡ plan_ended (counted total) written room noise }
 {
@@ -74,8 +61,7 @@ fn drain(written: u64, total: u64, room: usize, noise: usize) -> Plan
     }
     let n = batch(total - written, room, noise);
     if n == 0 {
-        let w = stop_for(room);
-        return Plan::Halt(w);
+        return Plan::Halt(stop_for(room));
     }
     Plan::Drain(n)
 }
@@ -84,42 +70,23 @@ fn drain(written: u64, total: u64, room: usize, noise: usize) -> Plan
 fn due_before(first: u64, written: u64) -> u64
     ensures { result ≡ first - 32 - written }
 {
-    if first <= HOLD_BACK {
-        return 0;
-    }
-    if first - HOLD_BACK <= written {
-        return 0;
-    }
-    first - HOLD_BACK - written
+    first.saturating_sub(HOLD_BACK).saturating_sub(written)
 }
 
-// The samples due by the start of a draw at its time.
+// The samples due by the start of a draw at its time. One function for this and `drain` would take a closure, and be no plainer.
+#[tactic(auto, unfolding(crate::specs::PlanModel::plan_read))]
 fn due(n: u64, time: f64, room: usize, noise: usize) -> Plan
     ensures { plan_read result ≡ some_or (λ k. due_many k time) (Rattle.run_call_model.specs.Plan.batch n room noise) room }
 {
     let k = batch(n, room, noise);
     if k == 0 {
-        let w = stop_for(room);
-        return Plan::Halt(w);
+        return Plan::Halt(stop_for(room));
     }
     Plan::Due(k, time)
 }
 
-fn negative(start: i64) -> bool
-    ensures { result ≡ is_negative start }
-{
-    start < 0
-}
-
-// The number of the sample at a start that is not negative.
-fn sample_number(start: i64) -> u64
-    requires { is_negative start ≡ false }
-    ensures { (start ≡ pos result) × (result < 2 ^ 63) }
-{
-    start as u64
-}
-
 // A reply that starts at a sample.
+#[tactic(auto, unfolding(crate::specs::PlanModel::plan_read, crate::specs::PlanModel::stop_read))]
 fn reply(written: u64, time: f64, first: u64, room: usize, noise: usize, bytes: usize) -> Plan
     ensures { plan_read result ≡ plan_reply (counted 0) (first - 32 - written) time first room noise bytes }
 {
@@ -145,10 +112,9 @@ fn classify(
 ) -> Plan
     ensures { plan_read result ≡ plan_draw (counted total) written time (kind_of (counted total) (start_from start)) room noise bytes }
 {
-    if negative(start) {
+    let Ok(first) = u64::try_from(start) else {
         return Plan::Skip(time);
-    }
-    let first = sample_number(start);
+    };
     if total <= first + REPLY_LIMIT {
         return Plan::End(time);
     }
@@ -203,79 +169,55 @@ pub enum LastStep {
 }
 
 // The progress after n samples, with the latest time after them.
+#[tactic(auto, unfolding(crate::specs::ProgressModel::progress_after_samples))]
 fn after_samples(t: Progress, n: usize, latest: f64) -> Progress
     ensures { result ≡ progress_after_samples t n latest }
 {
-    let added = t.added_low;
     Progress {
-        written: std::num::wrapping_add_u64(t.written, n as u64),
-        time: t.time,
-        latest: latest,
-        ended: t.ended,
-        taken: t.taken,
-        samples: std::num::wrapping_add_usize(t.samples, n),
-        records: t.records,
-        added_high: t.added_high,
-        added_low: added,
+        written: t.written.wrapping_add(n as u64),
+        latest,
+        samples: t.samples.wrapping_add(n),
         last: LastStep::SamplesWritten,
+        ..t
     }
 }
 
+// The later of two times; `max` would not do, since it passes over a NaN.
 fn later(a: f64, b: f64) -> f64
     ensures { result ≡ (if lt a b then b else a) }
 {
-    if a < b {
-        return b;
-    }
-    a
-}
-
-// What goes into the high half when a count is added to the low half.
-fn carry(low: u64, count: u16) -> u64
-    ensures { result ≡ (low + count) / 2 ^ 64 }
-{
-    if std::num::wrapping_add_u64(low, count as u64) < low {
-        return 1;
-    }
-    0
+    if a < b { b } else { a }
 }
 
 // The progress after a draw was taken at its time, with n records more and the samples that its reply added to.
 fn after_draw(t: Progress, time: f64, ended: bool, lines: usize, count: u16) -> Progress
     ensures { result ≡ progress_after_draw t time ended lines count }
 {
+    let (added_low, carried) = t.added_low.overflowing_add(u64::from(count));
     Progress {
-        written: t.written,
-        time: time,
-        latest: t.latest,
-        ended: ended,
-        taken: std::num::wrapping_add_usize(t.taken, 1),
-        samples: t.samples,
-        records: std::num::wrapping_add_usize(t.records, lines),
-        added_high: std::num::wrapping_add_u64(t.added_high, carry(t.added_low, count)),
-        added_low: std::num::wrapping_add_u64(t.added_low, count as u64),
+        time,
+        ended,
+        taken: t.taken.wrapping_add(1),
+        records: t.records.wrapping_add(lines),
+        added_high: t.added_high.wrapping_add(u64::from(carried)),
+        added_low,
         last: LastStep::DrawTaken,
+        ..t
     }
 }
 
+#[tactic(auto, unfolding(crate::specs::ProgressModel::progress_after_stop))]
 fn after_stop(t: Progress, w: Stop) -> Progress
     ensures { result ≡ progress_after_stop t w }
 {
     Progress {
-        written: t.written,
-        time: t.time,
-        latest: t.latest,
-        ended: t.ended,
-        taken: t.taken,
-        samples: t.samples,
-        records: t.records,
-        added_high: t.added_high,
-        added_low: t.added_low,
         last: LastStep::StopReached(w),
+        ..t
     }
 }
 
 // The progress after a plan was carried out, given the count of the reply that it added.
+#[tactic(auto, unfolding(crate::specs::ProgressModel::progress_after_step))]
 pub fn after_step(t: Progress, p: Plan, count: u16) -> Progress
     ensures { result ≡ progress_after_step t p count }
 {

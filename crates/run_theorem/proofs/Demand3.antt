@@ -1,9 +1,9 @@
 -- Demand 3 (SPECIFICATION 2.3) on the contracts of opening and of run calls: `opened-runs`, at the end of this file, is a term of the claim `OpenedRuns`.
+use Rattle.std.specs.Prelude.{None, Ok}
 use Prim.Native.Nat.{ℕ, zero, suc, ◌+◌, ◌*◌}
 use mathlib.Core.Bool.{Bool, true, false, ◌||◌}
 use mathlib.Core.List.{List, [], ◌∷◌, ◌++◌, map}
 use mathlib.Core.Logic.{◌⊎◌, inl, inr}
-use mathlib.Core.Option.{none}
 use mathlib.Core.Path.{◌≡◌, refl, sym, ap, ◌∙◌, subst}
 use native.Mathlib.Omega.{arith}
 use lib.ListN.{length, length-replicate, take}
@@ -27,7 +27,6 @@ use Rattle.pulse_shape.proofs.Whole.{length_prototype}
 use Rattle.run_steps.specs.declared.Stop as Stop
 use Rattle.run_call.specs.declared.State.{State}
 use Rattle.run_call.specs.declared.Counts.{Counts}
-use Rattle.run_call.specs.declared.Answer as Answer
 use Rattle.run_call.specs.StateGenerator.{filters_of}
 use Rattle.run_call.specs.Buffers.{Left, CallBuffers}
 use Rattle.run_call.specs.Given.{stop_given}
@@ -35,7 +34,6 @@ use Rattle.run_call.specs.CallModel.{run_left}
 use Rattle.run_call.specs.Calls.{call_of, runs_left}
 use Rattle.run_call.specs.MachineModel.{machine_of, state_of, ran_given, left_given, runs_given}
 use Rattle.run_call.proofs.RunsAreTheModels.{given_state, runs_are}
-use Rattle.run_open_checks.specs.declared.Opened as Opened
 use Rattle.run_open_checks.specs.Opening as Opening
 use Rattle.run_open_checks.proofs.WhatIsOpened.{opened_run_in_range, opened_first}
 use Rattle.run_theorem.specs.Seen.{stopped, refused, answer_seen, seen_left, counts_of, answer_of, seen_result}
@@ -104,7 +102,7 @@ module _ (r : Run) where
       (ap (λ (n : ℕ). take (66 * n) x.records) a.many ∙ a.lines)
       (added_given x.answer z ∙ a.added)
 
-  done_given : (a : Bench.Answer) (z : Machine.State G nan) → (ran_given s p_s p_ac a z).answer ≡ Answer.TheVariants.Stopped Stop.TheVariants.Done → Theory.done_in a ≡ true
+  done_given : (a : Bench.Answer) (z : Machine.State G nan) → (ran_given s p_s p_ac a z).answer ≡ Ok Stop.TheVariants.Done → Theory.done_in a ≡ true
   unfolding ran_given stop_given
   done_given (Bench.refused q) z e = let n : ◌≡◌ {A = ℕ} 0 1 = cc in absurd (omega arith)
   done_given (Bench.ran taken samples noise lines added Bench.done) z e = refl
@@ -147,7 +145,7 @@ module _ (r : Run) where
     where
       by_done : (c : CallBuffers) (z : Machine.State G nan) (xs : List (Bench.Result G)) (ls : List Left) → (ReachesDone ls → Theory.reaches_done G xs ≡ true) →
           let t = Machine.machine_run G nan z (call_of s p_s p_ac c) in
-          ((ran_given s p_s p_ac t.0.answer t.1).answer ≡ Answer.TheVariants.Stopped Stop.TheVariants.Done) ⊎ ReachesDone ls → Theory.done_in t.0.answer || Theory.reaches_done G xs ≡ true
+          ((ran_given s p_s p_ac t.0.answer t.1).answer ≡ Ok Stop.TheVariants.Done) ⊎ ReachesDone ls → Theory.done_in t.0.answer || Theory.reaches_done G xs ≡ true
       by_done c z xs ls ih (inl e) = ap (λ (b : Bool). b || Theory.reaches_done G xs) (done_given (Machine.machine_run G nan z (call_of s p_s p_ac c)).0.answer (Machine.machine_run G nan z (call_of s p_s p_ac c)).1 e)
       by_done c z xs ls ih (inr d) = either (Theory.done_in (Machine.machine_run G nan z (call_of s p_s p_ac c)).0.answer) (Theory.reaches_done G xs) (ih d)
 
@@ -160,9 +158,9 @@ module _ (r : Run) where
       ap (λ (x : State). last_state x (runs_given s p_s p_ac t.1 cs)) (given_state s p_s p_ac t.0.answer t.1) ∙ state_given cs t.1
 
 -- ---- an opened run
-module _ (taps_s taps_ac : List Float) (settings : List ℕ) (given : Opening.OpenBuffers) (s : State) (opens : Opening.opened_of four taps_s taps_ac settings given ≡ Opened.TheVariants.Run s) where
+module _ (taps_s taps_ac : List Float) (settings : List ℕ) (given : Opening.OpenBuffers) (s : State) (opens : Opening.opened_of four taps_s taps_ac settings given ≡ Ok s) where
   memory : List Float
-  memory = (Opening.left_by four taps_s taps_ac (Opened.TheVariants.Run s) given).memory
+  memory = (Opening.left_by four taps_s taps_ac (Ok s) given).memory
 
   memory_length_lem : length memory ≡ 2252
   unfolding memory Opening.left_by
@@ -233,7 +231,7 @@ module _ (taps_s taps_ac : List Float) (settings : List ℕ) (given : Opening.Op
     records = records_are;
     samples_stay = λ cs ds vs e.
         subst (λ (p : List Float × List RepresentableDraw × List Float). Prefix p.0 (plain_output (gen run) (p.1 ++ ds) (Bench.pairs (p.2 ++ vs)))) (λ i. (sym (as_shown cs).samples i, sym (taken_is cs) i, sym (used_is cs) i))
-        (shown.samples_stay (bench_calls run cs) ds vs (subst (λ (l : List RepresentableDraw). Bench.draw_refusal (gen run) (time_of (gen run) (gen run).t0 l) (bench run cs).mark ds ≡ none) (taken_is cs) e));
+        (shown.samples_stay (bench_calls run cs) ds vs (subst (λ (l : List RepresentableDraw). Bench.draw_refusal (gen run) (time_of (gen run) (gen run).t0 l) (bench run cs).mark ds ≡ None) (taken_is cs) e));
     records_stay = λ cs ds.
         subst (λ (p : List ℕ × List RepresentableDraw). Prefix p.0 (plain_lines (gen run) (p.1 ++ ds))) (λ i. (sym (as_shown cs).records i, sym (taken_is cs) i))
         (shown.records_stay (bench_calls run cs) ds);

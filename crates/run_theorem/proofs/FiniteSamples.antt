@@ -1,4 +1,5 @@
 -- No sample is ever infinite or a NaN: every number that a list of run calls on an opened run writes is finite and at most 2^53 in size, however long the run and however many replies overlap (`opened-finite`).
+use Rattle.std.specs.Prelude.{Ok}
 use mathlib.Core.Path.{◌≡◌}
 use Prim.Native.Nat.{ℕ, ◌*◌, ◌^◌}
 use native.Mathlib.Nat.{mul-one, le_trans, le_of_eq}
@@ -20,7 +21,6 @@ use Rattle.pulse_shape.proofs.Whole.{length_prototype}
 use Rattle.run_generator.proofs.SampleSizes.{samples_sized}
 use Rattle.run_call.specs.declared.State.{State}
 use Rattle.run_call.specs.StateGenerator.{filters_of, gen_of}
-use Rattle.run_open_checks.specs.declared.Opened as Opened
 use Rattle.run_open_checks.specs.Opening as Opening
 use Rattle.run_open_checks.proofs.WhatIsOpened.{opened_run_in_range, what_is_opened}
 use Rattle.run_theorem.specs.OpenedRuns.{Finite53}
@@ -35,7 +35,7 @@ finite_53 nan h = absurd h
 finite_53 (inf s) h = absurd h
 finite_53 (fin s m e) h = is_true (within (fin s m e) (fin false 1 (pos 53))) (fin_le false m e false 1 (pos 53) (le_trans (le_of_eq (mul-one (m * up e))) h))
 
-module _ (taps_s taps_ac : List Float) (bytes : List ℕ) (lent : Opening.OpenBuffers) (s : State) (opens : Opening.opened_of four taps_s taps_ac bytes lent ≡ Opened.TheVariants.Run s) where
+module _ (taps_s taps_ac : List Float) (bytes : List ℕ) (lent : Opening.OpenBuffers) (s : State) (opens : Opening.opened_of four taps_s taps_ac bytes lent ≡ Ok s) where
   abbrev G : Generator
   G = gen_of s (mode_s_prototype four taps_s) (mode_ac_prototype four taps_ac)
 

@@ -1,7 +1,6 @@
 -- Demand 3 (SPECIFICATION 2.3), hypothesis and claim in one statement: `OpenedRuns`, at the end of this file. If opening answers a run, then (a) to (e) hold of every list of run calls on it, refused calls among them, with any draws, noise and buffers;
 -- the state that comes back is the plain bench's, and every number written is finite.
-use Rattle.std.specs.Prelude.{ℕ, zero, suc, ◌+◌, ◌*◌, ◌≤◌, true, false, List, [], ◌∷◌, ◌++◌, map, ◌⊎◌, ◌≡◌, pos, length, take, drop, Float}
-use Rattle.std.proofs.Math.Option.{none}
+use Rattle.std.specs.Prelude.{None, Ok, ℕ, zero, suc, ◌+◌, ◌*◌, ◌≤◌, true, false, List, [], ◌∷◌, ◌++◌, map, ◌⊎◌, ◌≡◌, pos, length, take, drop, Float}
 use Rattle.std.specs.Float.{fin}
 use Rattle.constants.specs.Rate.{four, reply_limit}
 use Rattle.float_narrow.specs.Range.{within}
@@ -15,11 +14,9 @@ use Rattle.run_theory.specs.Demand3.{Prefix, plain_output, plain_lines, Reach}
 use Rattle.run_generator.specs.Instance.{RepresentableDraw}
 use Rattle.run_steps.specs.declared.Stop as Stop
 use Rattle.run_call.specs.declared.State.{State}
-use Rattle.run_call.specs.declared.Answer as Answer
 use Rattle.run_call.specs.StateGenerator.{gen_of}
 use Rattle.run_call.specs.Buffers.{Left, CallBuffers}
 use Rattle.run_call.specs.Calls.{runs_left, call_of}
-use Rattle.run_open_checks.specs.declared.Opened as Opened
 use Rattle.run_open_checks.specs.Opening as Opening
 use Rattle.run_theorem.specs.Seen.{seen_left, seen_result}
 
@@ -31,8 +28,8 @@ pub record Run : Type 0 where
 
 -- Opening with these settings and filters, given these buffers, answers the run and leaves its buffers. (So the contract of `open` says it.)
 pub record Opens (taps_s taps_ac : List Float) (settings : List ℕ) (given : Opening.OpenBuffers) (r : Run) : Type 0 where
-  pub answers : Opening.opened_of four taps_s taps_ac settings given ≡ Opened.TheVariants.Run r.state
-  pub leaves : r.buffers ≡ Opening.left_by four taps_s taps_ac (Opened.TheVariants.Run r.state) given
+  pub answers : Opening.opened_of four taps_s taps_ac settings given ≡ Ok r.state
+  pub leaves : r.buffers ≡ Opening.left_by four taps_s taps_ac (Ok r.state) given
 
 -- ---- a list of run calls on a run
 -- what each call answers and leaves, given state, prototypes and memory as the last call left them (by the contract of `run`)
@@ -112,7 +109,7 @@ pub record CountsAdded (l : Left) : Type 0 where
 -- some call answers Done
 abbrev pub ReachesDone : List Left → Type 0
 ReachesDone [] = ⊥
-ReachesDone (l ∷ ls) = (l.ran.answer ≡ Answer.TheVariants.Stopped Stop.TheVariants.Done) ⊎ ReachesDone ls
+ReachesDone (l ∷ ls) = (l.ran.answer ≡ Ok Stop.TheVariants.Done) ⊎ ReachesDone ls
 
 -- the state that the last call returns, or s where there is none
 abbrev pub last_state : State → List Left → State
@@ -149,7 +146,7 @@ pub record Demand3 (taps_s taps_ac : List Float) (settings : List ℕ) (r : Run)
   pub records : (cs : List CallBuffers) → records_written r cs ≡ plain_lines (gen r) (draws_taken r cs)
   -- (c) They stay a first part of the plain run when any noise, and any draws in range that the state does not refuse, are put after.
   pub samples_stay :
-      (cs : List CallBuffers) (ds : List RepresentableDraw) (vs : List Float) → Bench.draw_refusal (gen r) (time_of (gen r) (gen r).t0 (draws_taken r cs)) (bench r cs).mark ds ≡ none
+      (cs : List CallBuffers) (ds : List RepresentableDraw) (vs : List Float) → Bench.draw_refusal (gen r) (time_of (gen r) (gen r).t0 (draws_taken r cs)) (bench r cs).mark ds ≡ None
       → Prefix (samples_written r cs) (plain_output (gen r) (draws_taken r cs ++ ds) (Bench.pairs (noise_used r cs ++ vs)))
   pub records_stay : (cs : List CallBuffers) (ds : List RepresentableDraw) → Prefix (records_written r cs) (plain_lines (gen r) (draws_taken r cs ++ ds))
   -- (d) Another opening with the same settings and filters, whatever its buffers held, opens the same run.

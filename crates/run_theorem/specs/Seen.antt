@@ -1,11 +1,12 @@
 -- What a caller sees of a run call: its counts, its answer in the specification's numbers, and the two buffers after it; as the contract of `run` has it, and as the plain bench has it.
-use Rattle.std.specs.Prelude.{ℕ, List, ◌∷◌, Float}
+use Rattle.std.specs.Prelude.{Result, Ok, Err, ℕ, List, ◌∷◌, Float}
+use Rattle.refusals.specs.declared.Refusal.{Refusal}
+use Rattle.run_steps.specs.declared.Stop.{Stop}
 use Rattle.run_theory.specs.Added.{high_half, low_half}
 use Rattle.run_theory.specs.PlainBench as Bench
 use Rattle.refusals.specs.Number.{number_of, values_of}
 use Rattle.run_call.specs.declared.State.{State}
 use Rattle.run_call.specs.declared.Counts.{Counts}
-use Rattle.run_call.specs.declared.Answer as Answer
 use Rattle.run_call.specs.StateGenerator.{gen_of}
 use Rattle.run_call.specs.Buffers.{Left}
 use Rattle.run_call.specs.Given.{stop_number}
@@ -22,9 +23,9 @@ pub record Seen : Type 0 where
   pub records : List ℕ
 
 -- of what the contract of a run call leaves
-unfoldable pub answer_seen : Answer.Answer → Numbered
-answer_seen (Answer.TheVariants.Stopped stop) = stopped (stop_number stop)
-answer_seen (Answer.TheVariants.Refused q) = refused (number_of q ∷ values_of q)
+unfoldable pub answer_seen : Result Stop Refusal → Numbered
+answer_seen (Ok stop) = stopped (stop_number stop)
+answer_seen (Err q) = refused (number_of q ∷ values_of q)
 
 unfoldable pub seen_left : Left → Seen
 seen_left l = record { counts = l.ran.counts; answer = answer_seen l.ran.answer; output = l.output; records = l.records }

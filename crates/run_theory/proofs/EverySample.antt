@@ -1,7 +1,7 @@
 -- What sums keep, every number written has: a property of 0.0 that each value which a reply adds, and each noise value that is not refused, leaves to a sum, is one of every sample that a list of run calls writes (`every-sample`).
+use Rattle.std.specs.Prelude.{Option, Some, None}
 use mathlib.Core.Bool.{Bool, true, false, cond}
 use mathlib.Core.List.{List, [], ◌∷◌, ◌++◌}
-use mathlib.Core.Option.{Option, none, some}
 use mathlib.Core.Path.{◌≡◌, refl, sym, ap, ◌∙◌, subst}
 use Prim.Native.Nat.{ℕ, zero, suc, ◌-◌}
 use lib.Dec.{leb}
@@ -58,8 +58,8 @@ module _ (G : Generator) (L : Laws G) where
       (go (refusal_of G (time_of G t0 b.taken) b.mark c) refl) (taken_in_range (bench_run G b c).1 cs)
     where
       go : (o : Option Refusal) → refusal_of G (time_of G t0 b.taken) b.mark c ≡ o → Each (InRange G) (take (draws_taken (bench_call G b c o).0.answer) (draws_of G c.draws))
-      go (some r) e = tt
-      go none e = each_take (InRange G) (draws_taken (bench_call G b c none).0.answer) (draws_of G c.draws) (not_refused G (time_of G t0 b.taken) b.mark c e).in_range
+      go (Some r) e = tt
+      go None e = each_take (InRange G) (draws_taken (bench_call G b c None).0.answer) (draws_of G c.draws) (not_refused G (time_of G t0 b.taken) b.mark c e).in_range
 
   abbrev InRangeNoise : Value → Type 0
   InRangeNoise v = out_of_range v ≡ false
@@ -71,8 +71,8 @@ module _ (G : Generator) (L : Laws G) where
       (go (refusal_of G (time_of G t0 b.taken) b.mark c) refl) (used_in_range (bench_run G b c).1 cs)
     where
       go : (o : Option Refusal) → refusal_of G (time_of G t0 b.taken) b.mark c ≡ o → Each InRangeNoise (take (noise_used (bench_call G b c o).0.answer) c.noise)
-      go (some r) e = tt
-      go none e = each_take InRangeNoise (noise_used (bench_call G b c none).0.answer) c.noise (not_out_of_range G (time_of G t0 b.taken) b.mark c e)
+      go (Some r) e = tt
+      go None e = each_take InRangeNoise (noise_used (bench_call G b c None).0.answer) c.noise (not_out_of_range G (time_of G t0 b.taken) b.mark c e)
 
   module _ (P Q : Value → Type 0) (K : KeptBySums P Q) where
     -- ---- the plain run

@@ -1,7 +1,7 @@
 -- Demand 3 (SPECIFICATION 2.3) in terms of any generator: what is shown here of every list of calls, as a record `Demand3`. What callers are promised is `OpenedRuns` of `run_theorem`, over the calls of the code.
+use Rattle.std.specs.Prelude.{None}
 use mathlib.Core.Bool.{Bool, true, false, ◌||◌}
 use mathlib.Core.List.{List, [], ◌∷◌, ◌++◌, map}
-use mathlib.Core.Option.{none}
 use mathlib.Core.Path.{◌≡◌}
 use Prim.Native.Nat.{ℕ, ◌+◌, ◌*◌, ◌≤◌}
 use lib.ListN.{length, take}
@@ -100,7 +100,7 @@ module _ (G : Generator) where
     pub samples : (cs : List (Call G)) → all_samples (run cs) ≡ plain_output G (bench G cs).taken (bench G cs).used
     pub records : (cs : List (Call G)) → all_records (run cs) ≡ plain_lines G (bench G cs).taken
     pub samples_stay :
-        (cs : List (Call G)) (ds : List Draw) (vs : List Value) → draw_refusal G (time_of G t0 (bench G cs).taken) (bench G cs).mark ds ≡ none
+        (cs : List (Call G)) (ds : List Draw) (vs : List Value) → draw_refusal G (time_of G t0 (bench G cs).taken) (bench G cs).mark ds ≡ None
         → Prefix (all_samples (run cs)) (plain_output G ((bench G cs).taken ++ ds) (pairs (flatten (bench G cs).used ++ vs)))
     pub records_stay : (cs : List (Call G)) (ds : List Draw) → Prefix (all_records (run cs)) (plain_lines G ((bench G cs).taken ++ ds))
     pub written : (cs : List (Call G)) → length (all_samples (run cs)) ≡ 2 * length (bench G cs).used

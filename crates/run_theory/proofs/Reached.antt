@@ -1,7 +1,7 @@
 -- What holds of a bench that calls made: draws that it does not refuse start at or after the samples written, and every reply taken ends within the window.
+use Rattle.std.specs.Prelude.{Option, Some, None}
 use mathlib.Core.Bool.{Bool, true, false, cond, true≢false}
 use mathlib.Core.List.{List, [], ◌∷◌, ◌++◌, map, map-append}
-use mathlib.Core.Option.{Option, none, some}
 use mathlib.Core.Path.{◌≡◌, refl, sym, ap, ◌∙◌, subst}
 use Prim.Native.Nat.{ℕ, ◌+◌, ◌≤◌, ◌<◌}
 use native.Mathlib.Omega.{arith}
@@ -24,8 +24,8 @@ module _ (G : Generator) (L : Laws G) where
   good_on t d g e = L.good_after t d g (in-range→gap d e)
 
   abbrev pub GoodMark : Option Time → Type 0
-  GoodMark none = Unit {0}
-  GoodMark (some m) = L.Good m
+  GoodMark None = Unit {0}
+  GoodMark (Some m) = L.Good m
 
   -- a draw that does not jump back starts at or after w, if it is a reply
   abbrev pub Ahead : Option Time → ℕ → Type 0
@@ -45,8 +45,8 @@ module _ (G : Generator) (L : Laws G) where
   -- where the draws taken do not precede the latest time, no draw in range jumps back
   pub no_jump_on : (t : Time) (m : Option Time) (ds : List Draw) → L.Good t → GoodMark m → jumps_back G m t ≡ false → AllInRange G ds → NoJump G t m ds
   no_jump_on t m [] gt gm h o = tt
-  no_jump_on t none (d ∷ ds) gt gm h o = refl
-  no_jump_on t (some m) (d ∷ ds) gt gm h o = L.time_trans m t (after t d) gm gt (good_on t d gt o.0) h (L.time_on t d gt (in-range→gap d o.0))
+  no_jump_on t None (d ∷ ds) gt gm h o = refl
+  no_jump_on t (Some m) (d ∷ ds) gt gm h o = L.time_trans m t (after t d) gm gt (good_on t d gt o.0) h (L.time_on t d gt (in-range→gap d o.0))
 
   -- the draws after the first
   pub accepted_on : (t : Time) (m : Option Time) (d : Draw) (ds : List Draw) → L.Good t → GoodMark m → Accepted G t m (d ∷ ds) → Accepted G (after t d) m ds
@@ -102,8 +102,8 @@ module _ (G : Generator) (L : Laws G) where
   }
 
   latest_good : (m : Option Time) (t : Time) → GoodMark m → L.Good t → GoodMark (latest G m t)
-  latest_good none t gm gt = gt
-  latest_good (some m) t gm gt = go (before m t)
+  latest_good None t gm gt = gt
+  latest_good (Some m) t gm gt = go (before m t)
     where
       go : (x : Bool) → L.Good (cond x t m)
       go true = gt
@@ -111,16 +111,16 @@ module _ (G : Generator) (L : Laws G) where
 
   -- what does not precede the latest time does not precede the time that came last
   latest_right : (m : Option Time) (t t' : Time) → GoodMark m → L.Good t → L.Good t' → jumps_back G (latest G m t) t' ≡ false → NotAfter G t t'
-  latest_right none t t' gm gt gt' h = h
-  latest_right (some m) t t' gm gt gt' h = go (before m t) refl h
+  latest_right None t t' gm gt gt' h = h
+  latest_right (Some m) t t' gm gt gt' h = go (before m t) refl h
     where
       go : (x : Bool) → before m t ≡ x → before t' (cond x t m) ≡ false → before t' t ≡ false
       go true e p = p
       go false e p = L.time_trans t m t' gt gm gt' e p
 
   latest_fits : (m : Option Time) (t : Time) → L.Good t → jumps_back G m t ≡ false → jumps_back G (latest G m t) t ≡ false
-  latest_fits none t gt h = L.same_time t gt
-  latest_fits (some m) t gt h = go (before m t)
+  latest_fits None t gt h = L.same_time t gt
+  latest_fits (Some m) t gt h = go (before m t)
     where
       go : (x : Bool) → before t (cond x t m) ≡ false
       go true = L.same_time t gt

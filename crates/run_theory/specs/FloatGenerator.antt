@@ -1,6 +1,5 @@
 -- A generator whose times are f64 and whose samples and noise are f32, with the numbers of the rate; what draws mean is left to whoever has their bytes.
-use Rattle.std.specs.Prelude.{Bool, false, List, [], ℕ, Float, pos, negsuc}
-use Rattle.std.proofs.Math.Option.{Option, none}
+use Rattle.std.specs.Prelude.{Option, None, Bool, false, List, [], ℕ, Float, pos, negsuc}
 use Rattle.std.specs.Float.{binary32, binary64, fin}
 use Rattle.std.specs.Float.Ieee.{add, mul, lt}
 use Rattle.run_theory.specs.Generator.{Generator, Start, negative, Pair}
@@ -27,7 +26,7 @@ pub record Draws : Type 1 where
 
 -- no draws, for what does not depend on them
 abbrev pub no_draws : Draws
-no_draws = record { Draw = ℕ; gap = λ d. nought; start = λ t d. negative; adds = λ t d s. []; entry = λ t d s n. []; fault = λ d. none; out_of_range = λ v. false; draw_at = λ bytes. 0 }
+no_draws = record { Draw = ℕ; gap = λ d. nought; start = λ t d. negative; adds = λ t d s. []; entry = λ t d s n. []; fault = λ d. None; out_of_range = λ v. false; draw_at = λ bytes. 0 }
 
 -- sps samples per pulse, total samples of the run
 abbrev pub generator : Draws → ℕ → ℕ → Generator

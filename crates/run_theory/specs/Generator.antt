@@ -1,7 +1,6 @@
 -- What the settings and filters of a run fix: the numbers of samples and noise, draws, times, starts, what a reply adds, records, and what is out of range.
 -- Everything above is said over one such record, so that it holds at each rate.
-use Rattle.std.specs.Prelude.{Bool, List, ℕ, ℤ, pos, negsuc}
-use Rattle.std.proofs.Math.Option.{Option}
+use Rattle.std.specs.Prelude.{Option, Bool, List, ℕ, ℤ, pos, negsuc}
 
 -- Start of a draw, a whole number: negative, or a sample's number.
 pub data Start : Type 0 where

@@ -1,7 +1,6 @@
 -- What is asked of a generator for demand 3: order of times, hold-back, count bound, length of a record.
 -- Each is to be proved of the generator at hand.
-use Rattle.std.specs.Prelude.{false, List, [], ◌∷◌, ◌≢◌, ◌≡◌, ℕ, zero, ◌+◌, ◌≤◌, ◌<◌, length}
-use Rattle.std.proofs.Math.Option.{Option, none, some}
+use Rattle.std.specs.Prelude.{Option, Some, None, false, List, [], ◌∷◌, ◌≢◌, ◌≡◌, ℕ, zero, ◌+◌, ◌≤◌, ◌<◌, length}
 use Rattle.run_theory.specs.Each.{Each}
 use Rattle.run_theory.specs.Generator.{Generator}
 use Rattle.run_theory.specs.PlainRun.{reply, kind}
@@ -16,11 +15,11 @@ module _ (G : Generator) where
 
   -- every field of a draw is in range
   abbrev pub InRange : Draw → Type 0
-  InRange d = fault d ≡ none
+  InRange d = fault d ≡ None
 
   -- the gap of a draw is in range
   abbrev pub GapInRange : Draw → Type 0
-  GapInRange d = fault d ≢ some 0
+  GapInRange d = fault d ≢ Some 0
 
   pub record Laws : Type 1 where
     -- times that gaps in range lead to (for f64: no NaN, not negative)

@@ -1,6 +1,5 @@
 -- Plain bench (SPECIFICATION 10.2): the checks and the five steps of a run call, on the draws taken, the noise used and the latest time.
-use Rattle.std.specs.Prelude.{Bool, true, false, cond, not, ◌&&◌, ◌||◌, List, [], ◌∷◌, ◌++◌, ℕ, zero, suc, ◌+◌, ◌-◌, ◌*◌, ◌/◌, ◌%◌, eqb, leb, ltb, length, drop}
-use Rattle.std.proofs.Math.Option.{Option, none, some}
+use Rattle.std.specs.Prelude.{Option, Some, None, Bool, true, false, cond, not, ◌&&◌, ◌||◌, List, [], ◌∷◌, ◌++◌, ℕ, zero, suc, ◌+◌, ◌-◌, ◌*◌, ◌/◌, ◌%◌, eqb, leb, ltb, length, drop}
 use Rattle.run_theory.specs.Generator.{Generator, Pair, Sample, NoisePair}
 use Rattle.run_theory.specs.PlainRun.{Kind, ignored, ends, reply, kind, time_of, ended, plain_samples, plain_records, plain_counts}
 use Rattle.run_theory.specs.Added.{sum_of}
@@ -85,37 +84,37 @@ module _ (G : Generator) where
 
   -- the first refusal of two
   abbrev pub or_else : Option Refusal → Option Refusal → Option Refusal
-  or_else (some r) o = some r
-  or_else none o = o
+  or_else (Some r) o = Some r
+  or_else None o = o
 
   abbrev pub at_draw : ℕ → Option ℕ → Option Refusal
-  at_draw k none = none
-  at_draw k (some f) = some (wrong_draw k f)
+  at_draw k None = None
+  at_draw k (Some f) = Some (wrong_draw k f)
 
   -- Refusal 7: the first draw, from draw k on, and its first field out of range.
   abbrev pub first_fault : ℕ → List Draw → Option Refusal
-  first_fault k [] = none
+  first_fault k [] = None
   first_fault k (d ∷ ds) = or_else (at_draw k (fault d)) (first_fault (suc k) ds)
 
   -- a time is before the latest time of a draw by whose start a sample was written
   abbrev pub jumps_back : Option Time → Time → Bool
-  jumps_back none t = false
-  jumps_back (some m) t = before t m
+  jumps_back None t = false
+  jumps_back (Some m) t = before t m
 
   -- Refusal 7 of draws: a first one that jumps back is refused at its gap, field 0.
   abbrev pub draw_refusal : Time → Option Time → List Draw → Option Refusal
-  draw_refusal t m [] = none
-  draw_refusal t m (d ∷ ds) = cond (jumps_back m (after t d)) (some (wrong_draw 0 0)) (first_fault 0 (d ∷ ds))
+  draw_refusal t m [] = None
+  draw_refusal t m (d ∷ ds) = cond (jumps_back m (after t d)) (Some (wrong_draw 0 0)) (first_fault 0 (d ∷ ds))
 
   -- Refusal 8: the first index, from index k on, of a noise value not finite or too large.
   abbrev pub first_out_of_range : ℕ → List Value → Option Refusal
-  first_out_of_range k [] = none
-  first_out_of_range k (v ∷ vs) = cond (out_of_range v) (some (wrong_noise k)) (first_out_of_range (suc k) vs)
+  first_out_of_range k [] = None
+  first_out_of_range k (v ∷ vs) = cond (out_of_range v) (Some (wrong_noise k)) (first_out_of_range (suc k) vs)
 
   -- A run call checks 9, then every draw, then every noise value. Of the state it reads the time of the draws taken and the latest time.
   abbrev pub refusal_of : Time → Option Time → Call → Option Refusal
   refusal_of t m c =
-      cond (wrong_lengths c) (some wrong_length) (or_else (draw_refusal t m (draws_of c.draws)) (first_out_of_range 0 c.noise))
+      cond (wrong_lengths c) (Some wrong_length) (or_else (draw_refusal t m (draws_of c.draws)) (first_out_of_range 0 c.noise))
 
   -- ---- the five steps
   -- what is left of the buffers: draws, noise pairs, samples that output can hold, and records that the record bytes can hold
@@ -180,16 +179,16 @@ module _ (G : Generator) where
 
   -- none of these at first
   abbrev pub bench0 : Bench
-  bench0 = record { taken = []; used = []; mark = none }
+  bench0 = record { taken = []; used = []; mark = None }
 
   abbrev pub latest : Option Time → Time → Option Time
-  latest none t = some t
-  latest (some m) t = some (cond (before m t) t m)
+  latest None t = Some t
+  latest (Some m) t = Some (cond (before m t) t m)
 
   -- the latest time as a plain time: the first time, 0.0, where there is none
   abbrev pub latest_or_first : Option Time → Time
-  latest_or_first none = t0
-  latest_or_first (some m) = m
+  latest_or_first None = t0
+  latest_or_first (Some m) = m
 
   -- what a bench is after the steps, what is left of the buffers, and the stop
   pub record Benched : Type 0 where
@@ -241,8 +240,8 @@ module _ (G : Generator) where
   result_of c g = record { answer = g.answer; output = over (flatten g.samples) c.output; records = over (join g.records) c.records }
 
   abbrev pub bench_call : Bench → Call → Option Refusal → Given × Bench
-  bench_call b c (some r) = (refused_with r, b)
-  bench_call b c none =
+  bench_call b c (Some r) = (refused_with r, b)
+  bench_call b c None =
       let r = bench_steps (fuel (remaining_of c)) b (remaining_of c) in
       (bench_given b (remaining_of c) r, r.bench)
 

@@ -1,6 +1,5 @@
 -- The causes of a run call's refusals, in the order in which they are looked for: each number belongs to one cause, and to the first one at fault.
-use Rattle.std.specs.Prelude.{true, false, List, [], ◌∷◌, ◌⊎◌, ◌≡◌, ℕ, zero, suc}
-use Rattle.std.proofs.Math.Option.{Option, some}
+use Rattle.std.specs.Prelude.{Option, Some, true, false, List, [], ◌∷◌, ◌⊎◌, ◌≡◌, ℕ, zero, suc}
 use Rattle.run_theory.specs.Generator.{Generator}
 use Rattle.run_theory.specs.PlainBench.{Refusal, wrong_length, wrong_draw, wrong_noise, Call, draws_of, wrong_lengths, jumps_back}
 use Rattle.run_theory.specs.Laws.{InRange, NoJump, Accepted}
@@ -11,7 +10,7 @@ module _ (G : Generator) where
   -- f is the first field at fault of draw k, and the draws before it are in range
   abbrev pub FaultAt : ℕ → ℕ → List Draw → Type 0
   FaultAt k f [] = ⊥
-  FaultAt zero f (d ∷ ds) = fault d ≡ some f
+  FaultAt zero f (d ∷ ds) = fault d ≡ Some f
   FaultAt (suc k) f (d ∷ ds) = InRange G d × FaultAt k f ds
 
   -- the noise value at index p is the first that is not finite or too large

@@ -1,4 +1,7 @@
 -- Accepted settings give at most 2^52 samples and distributions in the ranges of SPECIFICATION 4.2 (`accepted-in-range`); a constant phase, wrapped, lies from -PI to PI; and a trigger level above 0 (`accepted-level`).
+use Rattle.std.specs.Prelude.{Result, Ok, Err}
+use Rattle.refusals.specs.declared.Refusal.{Refusal}
+use Rattle.refusals.specs.declared.Refusal.TheVariants.{Distribution}
 use Prim.Native.Nat.{ℕ, zero, suc, ◌*◌, ◌≤◌, ◌<◌}
 use mathlib.Core.Path.{◌≡◌, refl, sym, subst}
 use mathlib.Core.Bool.{Bool, true, false, ◌&&◌, cond}
@@ -22,13 +25,9 @@ use Rattle.distributions.specs.declared.RawDistribution.{RawDistribution}
 use Rattle.distributions.specs.declared.CarrierOffset as Offset
 use Rattle.distributions.specs.declared.CarrierPhase as Phase
 use Rattle.distributions.specs.declared.ClockError as Clock
-use Rattle.distributions.specs.declared.OffsetAnswer.TheVariants as OffsetAnswer
-use Rattle.distributions.specs.declared.PhaseAnswer.TheVariants as PhaseAnswer
-use Rattle.distributions.specs.declared.ClockAnswer.TheVariants as ClockAnswer
 use Rattle.settings_duration.specs.Duration.{most_samples}
 use Rattle.settings.specs.declared.Settings.{Settings}
 use Rattle.settings.specs.declared.Distributions.{Distributions}
-use Rattle.settings.specs.declared.Checked.TheVariants.{Accepted, Refused}
 use Rattle.settings.specs.Settings.{raw_distribution_at, settings_of}
 use Rattle.settings.specs.Accepted.{least_level, greatest_level, level_in_range, accepted_of}
 use Rattle.settings.specs.FirstCause.{Answered, accepted}
@@ -87,61 +86,49 @@ split true false e = let z : ◌≡◌ {A = ℕ} 0 1 = cc in absurd (omega arith
 split false b e = let z : ◌≡◌ {A = ℕ} 0 1 = cc in absurd (omega arith)
 
 -- what is accepted has the property P, if what passes each kind's test has it
-module _ {A D : Type 0} (accept : D → A) (refuse : A) (same : (d o : D) → accept d ≡ accept o → d ≡ o) (never : (o : D) → refuse ≡ accept o → ⊥) (P : D → Type 0) (o : D) where
-  tested : (b : Bool) (d : D) → (b ≡ true → P d) → cond b (accept d) refuse ≡ accept o → P o
-  tested true d p e = subst P (same d o e) (p refl)
-  tested false d p e = absurd (never o e)
+module _ {D : Type 0} (q : Refusal) (P : D → Type 0) (o : D) where
+  is_given : (d : D) → P d → ◌≡◌ {A = Result D Refusal} (Ok d) (Ok o) → P o
+  is_given d p e = let same : d ≡ o = cc in subst P same p
 
-  of_kind : (k : ℕ) (a b : A) → (a ≡ accept o → P o) → (b ≡ accept o → P o) → by_kind k a b refuse ≡ accept o → P o
+  never : ◌≡◌ {A = Result D Refusal} (Err q) (Ok o) → P o
+  never e = let z : ◌≡◌ {A = ℕ} 0 1 = cc in absurd (omega arith)
+
+  tested : (b : Bool) (d : D) → (b ≡ true → P d) → cond b (Ok d) (Err q) ≡ Ok o → P o
+  tested true d p e = is_given d (p refl) e
+  tested false d p e = never e
+
+  of_kind : (k : ℕ) (a b : Result D Refusal) → (a ≡ Ok o → P o) → (b ≡ Ok o → P o) → by_kind k a b (Err q) ≡ Ok o → P o
   unfolding by_kind
-  of_kind zero a b p q e = p e
-  of_kind (suc zero) a b p q e = q e
-  of_kind (suc (suc k)) a b p q e = absurd (never o e)
+  of_kind zero a b f g e = f e
+  of_kind (suc zero) a b f g e = g e
+  of_kind (suc (suc k)) a b f g e = never e
 
-offset_same : (d o : Offset.CarrierOffset) → OffsetAnswer.Accepted d ≡ OffsetAnswer.Accepted o → d ≡ o
-offset_same d o e = cc
-
-offset_never : (o : Offset.CarrierOffset) → OffsetAnswer.Refused ≡ OffsetAnswer.Accepted o → ⊥
-offset_never o e = let z : ◌≡◌ {A = ℕ} 0 1 = cc in omega arith
-
-pub offset_in_range : (sps : ℕ) (a : RawDistribution) → HeldAsked a → (o : Offset.CarrierOffset) → carrier_offset sps a ≡ OffsetAnswer.Accepted o → OffsetInRange sps o
+pub offset_in_range : (sps : ℕ) (a : RawDistribution) → HeldAsked a → (o : Offset.CarrierOffset) → carrier_offset sps a ≡ Ok o → OffsetInRange sps o
 unfolding carrier_offset clamped_normal
 offset_in_range sps a H o =
-    of_kind OffsetAnswer.Accepted OffsetAnswer.Refused offset_same offset_never (OffsetInRange sps) o a.kind _ _
-    (tested OffsetAnswer.Accepted OffsetAnswer.Refused offset_same offset_never (OffsetInRange sps) o (within a.first (offset_limit sps)) (Offset.TheVariants.Constant a.first) (λ t. (H.0, subst T (sym t) tt)))
-    (tested OffsetAnswer.Accepted OffsetAnswer.Refused offset_same offset_never (OffsetInRange sps) o (finite_not_negative a.first && up_to a.second (offset_limit sps)) (Offset.TheVariants.ClampedNormal a.first a.second) (λ t. let both = split (finite_not_negative a.first) (up_to a.second (offset_limit sps)) t in (H.0, H.1, both.0, both.1)))
+    of_kind (Distribution 0) (OffsetInRange sps) o a.kind _ _
+    (tested (Distribution 0) (OffsetInRange sps) o (within a.first (offset_limit sps)) (Offset.TheVariants.Constant a.first) (λ t. (H.0, subst T (sym t) tt)))
+    (tested (Distribution 0) (OffsetInRange sps) o (finite_not_negative a.first && up_to a.second (offset_limit sps)) (Offset.TheVariants.ClampedNormal a.first a.second) (λ t. let both = split (finite_not_negative a.first) (up_to a.second (offset_limit sps)) t in (H.0, H.1, both.0, both.1)))
 
-phase_same : (d o : Phase.CarrierPhase) → PhaseAnswer.Accepted d ≡ PhaseAnswer.Accepted o → d ≡ o
-phase_same d o e = cc
-
-phase_never : (o : Phase.CarrierPhase) → PhaseAnswer.Refused ≡ PhaseAnswer.Accepted o → ⊥
-phase_never o e = let z : ◌≡◌ {A = ℕ} 0 1 = cc in omega arith
-
-pub phase_in_range : (a : RawDistribution) → HeldAsked a → (p : Phase.CarrierPhase) → carrier_phase a ≡ PhaseAnswer.Accepted p → PhaseInRange p
+pub phase_in_range : (a : RawDistribution) → HeldAsked a → (p : Phase.CarrierPhase) → carrier_phase a ≡ Ok p → PhaseInRange p
 unfolding carrier_phase
 phase_in_range a H p =
-    of_kind PhaseAnswer.Accepted PhaseAnswer.Refused phase_same phase_never PhaseInRange p a.kind _ _
-    (tested PhaseAnswer.Accepted PhaseAnswer.Refused phase_same phase_never PhaseInRange p (finite a.first) (Phase.TheVariants.Constant (phase_wrap a.first)) (λ t. wrapped a.first H.0 (subst T (sym t) tt)))
-    (tested PhaseAnswer.Accepted PhaseAnswer.Refused phase_same phase_never PhaseInRange p true Phase.TheVariants.Uniform (λ t. tt))
+    of_kind (Distribution 1) PhaseInRange p a.kind _ _
+    (tested (Distribution 1) PhaseInRange p (finite a.first) (Phase.TheVariants.Constant (phase_wrap a.first)) (λ t. wrapped a.first H.0 (subst T (sym t) tt)))
+    (is_given (Distribution 1) PhaseInRange p Phase.TheVariants.Uniform tt)
 
-clock_same : (d o : Clock.ClockError) → ClockAnswer.Accepted d ≡ ClockAnswer.Accepted o → d ≡ o
-clock_same d o e = cc
-
-clock_never : (o : Clock.ClockError) → ClockAnswer.Refused ≡ ClockAnswer.Accepted o → ⊥
-clock_never o e = let z : ◌≡◌ {A = ℕ} 0 1 = cc in omega arith
-
-pub clock_in_range : (a : RawDistribution) → HeldAsked a → (c : Clock.ClockError) → clock_error a ≡ ClockAnswer.Accepted c → ClockInRange c
+pub clock_in_range : (a : RawDistribution) → HeldAsked a → (c : Clock.ClockError) → clock_error a ≡ Ok c → ClockInRange c
 unfolding clock_error
 clock_in_range a H c =
-    of_kind ClockAnswer.Accepted ClockAnswer.Refused clock_same clock_never ClockInRange c a.kind _ _
-    (tested ClockAnswer.Accepted ClockAnswer.Refused clock_same clock_never ClockInRange c (within a.first tenth) (Clock.TheVariants.Constant a.first) (λ t. (H.0, subst T (sym t) tt)))
-    (tested ClockAnswer.Accepted ClockAnswer.Refused clock_same clock_never ClockInRange c (up_to a.first tenth) (Clock.TheVariants.Uniform a.first) (λ t. (H.0, subst T (sym t) tt)))
+    of_kind (Distribution 2) ClockInRange c a.kind _ _
+    (tested (Distribution 2) ClockInRange c (within a.first tenth) (Clock.TheVariants.Constant a.first) (λ t. (H.0, subst T (sym t) tt)))
+    (tested (Distribution 2) ClockInRange c (up_to a.first tenth) (Clock.TheVariants.Uniform a.first) (λ t. (H.0, subst T (sym t) tt)))
 
 -- ---- all of them
-pub accepted_in_range : (sps : ℕ) (s : Settings) → HeldSettings s → (n : ℕ) (d : Distributions) → accepted_of sps s ≡ Accepted n d → (n ≤ most_samples) × InRange sps d
+pub accepted_in_range : (sps : ℕ) (s : Settings) → HeldSettings s → (n : ℕ) (d : Distributions) → accepted_of sps s ≡ Ok (n, d) → (n ≤ most_samples) × InRange sps d
 accepted_in_range sps s H n d e = go (subst (Answered sps s) e (answered sps s))
   where
-    go : Answered sps s (Accepted n d) → (n ≤ most_samples) × InRange sps d
+    go : Answered sps s (Ok (n, d)) → (n ≤ most_samples) × InRange sps d
     go (accepted P D t) = (
       (lasts_for sps s.seconds s.nanoseconds n P.lasts).1,
       record {
@@ -171,9 +158,9 @@ above_0 (fin false n d) t = unfold lt in lt→ltb (0 * down d) (n * up d * 1) (s
         none k h g = omega arith
     some (suc m) k h a g = omega arith
 
-pub accepted_level : (sps : ℕ) (s : Settings) (n : ℕ) (d : Distributions) → accepted_of sps s ≡ Accepted n d → T (lt zero_f s.trigger_level)
+pub accepted_level : (sps : ℕ) (s : Settings) (n : ℕ) (d : Distributions) → accepted_of sps s ≡ Ok (n, d) → T (lt zero_f s.trigger_level)
 unfolding level_in_range
 accepted_level sps s n d e = go (subst (Answered sps s) e (answered sps s))
   where
-    go : Answered sps s (Accepted n d) → T (lt zero_f s.trigger_level)
+    go : Answered sps s (Ok (n, d)) → T (lt zero_f s.trigger_level)
     go (accepted P D t) = above_0 s.trigger_level (split (le least_level s.trigger_level) (le s.trigger_level greatest_level) t).0

@@ -1,21 +1,20 @@
 -- Settings worked out from their bytes, computed: the worked tape (SPECIFICATION 11.3) is accepted with 8,000 samples, and each of refusals 1 to 4 and 14 is met while all that comes after it is wrong too.
+use Rattle.std.specs.Prelude.{Result, Ok, Err}
+use Rattle.settings.specs.declared.Distributions.{Distributions}
+use Rattle.refusals.specs.declared.Refusal.{Refusal}
 use Prim.Native.Nat.{ℕ, ◌+◌, ◌-◌}
 use mathlib.Core.Path.{◌≡◌, refl}
 use mathlib.Core.List.{List, [], ◌∷◌, ◌++◌}
 use lib.Ieee.{binary64, of_bits, of_int, add, lt, le, eq}
-use lib.Ieee.Scale.{finite}
 use Rattle.constants.specs.Rate.{four}
 use Rattle.float_narrow.specs.Range.{abs, within}
 use Rattle.math.specs.Phase.{phase_wrap}
 use Rattle.le_read.specs.LeBytes.{bytes_of, le_of, le_at, read_at}
-use Rattle.distributions.specs.Accepted.{finite_not_negative, up_to, offset_limit, tenth, by_kind, clamped_normal, carrier_offset, carrier_phase, clock_error, offset_answer, phase_answer, clock_answer}
+use Rattle.distributions.specs.Accepted.{finite_not_negative, up_to, offset_limit, tenth, by_kind, clamped_normal, carrier_offset, carrier_phase, clock_error}
 use Rattle.distributions.specs.declared.CarrierOffset.TheVariants as Offset
 use Rattle.distributions.specs.declared.CarrierPhase.TheVariants as Phase
 use Rattle.distributions.specs.declared.ClockError.TheVariants as Clock
 use Rattle.settings_duration.specs.Duration.{duration_of}
-use Rattle.refusals.specs.declared.Refusal.TheVariants as Refusal
-use Rattle.settings.specs.declared.Checked.{Checked}
-use Rattle.settings.specs.declared.Checked.TheVariants.{Accepted, Refused}
 use Rattle.settings.specs.Settings.{rates_at, raw_distribution_at, settings_of, rates_of}
 use Rattle.settings.specs.Accepted.{first_bad_rate, sum_from, total_of, total_fits, with_clock, with_phase, with_offset, distributions_of, total_then, rates_then, duration_then, values_of, level_in_range, level_then, accepted_of}
 
@@ -41,7 +40,7 @@ abbrev pub asked : ℕ → List ℕ
 asked kind = (kind ∷ []) ++ bytes_of 8 0 ++ bytes_of 8 0
 
 -- what is answered to 0 s and n nanoseconds, six rates and a seventh, the kinds of the three distributions, and the bits of the trigger level
-abbrev pub answer : ℕ → ℕ → ℕ → ℕ → ℕ → ℕ → ℕ → Checked
+abbrev pub answer : ℕ → ℕ → ℕ → ℕ → ℕ → ℕ → ℕ → Result (ℕ × Distributions) Refusal
 answer nanoseconds rate last carrier phase clock level =
     accepted_of four
     (settings_of
@@ -59,7 +58,7 @@ answer nanoseconds rate last carrier phase clock level =
     ++ asked clock
     ++ bytes_of 4 level))
 
-abbrev pub answers : List Checked
+abbrev pub answers : List (Result (ℕ × Distributions) Refusal)
 answers =
     answer 1000000 one one 0 0 0 half
     ∷ answer 1000000 one one 0 0 0 least
@@ -75,22 +74,22 @@ answers =
     ∷ answer 999999999 0 one 1 1 1 0x7fc0_0000
     ∷ []
 
-abbrev pub as_worked : Checked
-as_worked = Accepted 8000 (record { carrier = Offset.Constant (of_bits binary64 0); phase = Phase.Constant (phase_wrap (of_bits binary64 0)); clock = Clock.Constant (of_bits binary64 0) })
+abbrev pub as_worked : Result (ℕ × Distributions) Refusal
+as_worked = Ok (8000, (record { carrier = Offset.Constant (of_bits binary64 0); phase = Phase.Constant (phase_wrap (of_bits binary64 0)); clock = Clock.Constant (of_bits binary64 0) }))
 
 pub worked : answers
     ≡ (as_worked
     ∷ as_worked
     ∷ as_worked
-    ∷ Refused Refusal.Duration
-    ∷ Refused (Refusal.Rate 6)
-    ∷ Refused Refusal.Total
-    ∷ Refused (Refusal.Distribution 0)
-    ∷ Refused (Refusal.Distribution 1)
-    ∷ Refused (Refusal.Distribution 2)
-    ∷ Refused Refusal.TriggerLevel
-    ∷ Refused Refusal.TriggerLevel
-    ∷ Refused Refusal.TriggerLevel
+    ∷ Err Refusal.Duration
+    ∷ Err (Refusal.Rate 6)
+    ∷ Err Refusal.Total
+    ∷ Err (Refusal.Distribution 0)
+    ∷ Err (Refusal.Distribution 1)
+    ∷ Err (Refusal.Distribution 2)
+    ∷ Err Refusal.TriggerLevel
+    ∷ Err Refusal.TriggerLevel
+    ∷ Err Refusal.TriggerLevel
     ∷ [])
-unfolding accepted_of level_then level_in_range values_of duration_then duration_of rates_then total_then first_bad_rate finite_not_negative total_fits total_of sum_from distributions_of with_offset with_phase with_clock offset_answer phase_answer clock_answer carrier_offset carrier_phase clock_error clamped_normal by_kind up_to offset_limit tenth within abs finite settings_of rates_at rates_of raw_distribution_at read_at le_at le_of bytes_of of_bits of_int add lt le eq
+unfolding accepted_of level_then level_in_range values_of duration_then duration_of rates_then total_then first_bad_rate finite_not_negative total_fits total_of sum_from distributions_of with_offset with_phase with_clock carrier_offset carrier_phase clock_error clamped_normal by_kind up_to offset_limit tenth within abs settings_of rates_at rates_of raw_distribution_at read_at le_at le_of bytes_of of_bits of_int add lt le eq
 worked = refl

@@ -4,15 +4,11 @@
 ghost use Rattle.std.specs.Prelude.{◌≡◌, ◌≤◌};
 ghost use Rattle.settings.specs.Settings.{settings_length, rates_at, raw_distribution_at, settings_of, rate_of, rates_of};
 ghost use Rattle.constants.specs.Rate.{four};
-ghost use Rattle.settings.specs.Accepted.{first_bad_rate, total_of, total_fits, distributions_of, rates_then, values_of, level_in_range, level_then, accepted_of};
+ghost use Rattle.settings.specs.Accepted.{first_bad_rate, total_of, total_fits, distributions_of, rates_then, values_of, level_in_range, accepted_of};
 
 use constants::SamplesPerPulse;
-use distributions::{
-    CarrierOffset, CarrierPhase, ClockAnswer, ClockError, OffsetAnswer, PhaseAnswer,
-    RawDistribution,
-};
+use distributions::{CarrierOffset, CarrierPhase, ClockError, RawDistribution};
 use refusals::Refusal;
-use settings_duration::InSamples;
 
 // Bytes of settings.
 pub const SETTINGS_LEN: usize = 123;
@@ -52,20 +48,7 @@ pub struct Distributions {
     pub clock: ClockError,
 }
 
-// The first rate that is negative or not finite, or that there is none.
-#[derive(Clone, Copy)]
-pub enum BadRate {
-    None,
-    At(u64),
-}
-
-#[derive(Clone, Copy)]
-pub enum Checked {
-    // The run's samples, and its distributions.
-    Accepted(u64, Distributions),
-    Refused(Refusal),
-}
-
+#[tactic(auto, unfolding(crate::specs::Settings::rates_at))]
 fn rates_at(s: &[u8], at: usize) -> MessagesPerSecond
     requires { at ≤ settings_length }
     ensures { result ≡ rates_at s.now at }
@@ -81,6 +64,7 @@ fn rates_at(s: &[u8], at: usize) -> MessagesPerSecond
     }
 }
 
+#[tactic(auto, unfolding(crate::specs::Settings::raw_distribution_at))]
 fn raw_distribution_at(s: &[u8], at: usize) -> RawDistribution
     requires { at ≤ settings_length }
     ensures { result ≡ raw_distribution_at s.now at }
@@ -93,65 +77,51 @@ fn raw_distribution_at(s: &[u8], at: usize) -> RawDistribution
 }
 
 // The settings at the start of the bytes, 0 standing for each number whose bytes run past the end.
+#[tactic(auto, unfolding(crate::specs::Settings::settings_of))]
 pub fn read(s: &[u8]) -> Settings
     ensures { result ≡ settings_of s.now }
 {
-    let rates = rates_at(s, 12);
-    let carrier = raw_distribution_at(s, 68);
-    let phase = raw_distribution_at(s, 85);
-    let clock = raw_distribution_at(s, 102);
     Settings {
         seconds: le_read_or_zero::u64_at(s, 0),
         nanoseconds: le_read_or_zero::u32_at(s, 8),
-        rates: rates,
-        carrier: carrier,
-        phase: phase,
-        clock: clock,
+        rates: rates_at(s, 12),
+        carrier: raw_distribution_at(s, 68),
+        phase: raw_distribution_at(s, 85),
+        clock: raw_distribution_at(s, 102),
         trigger_level: le_read_floats::f32_at(s, 119),
     }
 }
 
 // The rate of the type with a number; 0.0 for a number that no type has.
+#[tactic(auto, unfolding(crate::specs::Settings::rate_of, crate::specs::Settings::rates_of))]
 pub fn rate_of(r: MessagesPerSecond, n: u64) -> f64
     ensures { result ≡ rate_of r n }
 {
-    if n == 0 {
-        return r.extended_squitter;
+    match n {
+        0 => r.extended_squitter,
+        1 => r.acquisition_squitter,
+        2 => r.short_ap,
+        3 => r.all_call_reply,
+        4 => r.long_ap,
+        5 => r.military_extended_squitter,
+        6 => r.mode_ac,
+        _ => 0.0,
     }
-    if n == 1 {
-        return r.acquisition_squitter;
-    }
-    if n == 2 {
-        return r.short_ap;
-    }
-    if n == 3 {
-        return r.all_call_reply;
-    }
-    if n == 4 {
-        return r.long_ap;
-    }
-    if n == 5 {
-        return r.military_extended_squitter;
-    }
-    if n == 6 {
-        return r.mode_ac;
-    }
-    0.0
 }
 
-fn first_bad_rate(rates: MessagesPerSecond) -> BadRate
+#[tactic(auto, unfolding(crate::specs::Settings::rate_of, crate::specs::Settings::rates_of), using(crate::proofs::Rates::goes_on, crate::proofs::Rates::stops, crate::proofs::Rates::ends))]
+fn first_bad_rate(rates: MessagesPerSecond) -> Option<u64>
     ensures { result ≡ first_bad_rate 0 (rates_of rates) }
 {
-    let mut k: u64 = 0;
-    while k < 7 {
+    for k in 0..7 {
         if !distributions::finite_not_negative(rate_of(rates, k)) {
-            return BadRate::At(k);
+            return Some(k);
         }
-        k = k + 1;
     }
-    BadRate::None
+    None
 }
 
+#[tactic(auto, unfolding(crate::specs::Accepted::total_of, crate::specs::Accepted::sum_from, crate::specs::Settings::rates_of))]
 fn total_of(r: MessagesPerSecond) -> f64
     ensures { result ≡ total_of (rates_of r) }
 {
@@ -164,98 +134,71 @@ fn total_of(r: MessagesPerSecond) -> f64
         + r.mode_ac
 }
 
+#[tactic(auto, unfolding(crate::specs::Accepted::total_fits))]
 fn total_fits(total: f64) -> bool
     ensures { result ≡ total_fits total }
 {
-    if 0.0 < total {
-        return float_range::finite(total);
-    }
-    false
+    0.0 < total && float_range::finite(total)
 }
 
 // Refusal 4, or the run's samples and its distributions.
-fn check_distributions(n: u64, s: Settings) -> Checked
+#[tactic(auto, unfolding(crate::specs::Accepted::distributions_of, crate::specs::Accepted::with_offset, crate::specs::Accepted::with_phase, crate::specs::Accepted::with_clock))]
+fn check_distributions(n: u64, s: Settings) -> Result<(u64, Distributions), Refusal>
     ensures { result ≡ distributions_of four n s }
 {
-    let a = s.carrier;
-    let b = s.phase;
-    let e = s.clock;
-    let OffsetAnswer::Accepted(carrier) = distributions::carrier_offset(a) else {
-        return Checked::Refused(Refusal::Distribution(0));
+    let carrier = distributions::carrier_offset(s.carrier)?;
+    let phase = distributions::carrier_phase(s.phase)?;
+    let clock = distributions::clock_error(s.clock)?;
+    let all = Distributions {
+        carrier,
+        phase,
+        clock,
     };
-    let PhaseAnswer::Accepted(phase) = distributions::carrier_phase(b) else {
-        return Checked::Refused(Refusal::Distribution(1));
-    };
-    let ClockAnswer::Accepted(clock) = distributions::clock_error(e) else {
-        return Checked::Refused(Refusal::Distribution(2));
-    };
-    Checked::Accepted(
-        n,
-        Distributions {
-            carrier: carrier,
-            phase: phase,
-            clock: clock,
-        },
-    )
+    Ok((n, all))
 }
 
 // Refusals 2 and 3, then 4.
-fn check_rates(n: u64, s: Settings) -> Checked
+#[tactic(auto, unfolding(crate::specs::Accepted::rates_then, crate::specs::Accepted::total_then))]
+fn check_rates(n: u64, s: Settings) -> Result<(u64, Distributions), Refusal>
     ensures { result ≡ rates_then four n s }
 {
-    let rates = s.rates;
-    if let BadRate::At(k) = first_bad_rate(rates) {
-        return Checked::Refused(Refusal::Rate(k));
+    if let Some(k) = first_bad_rate(s.rates) {
+        return Err(Refusal::Rate(k));
     }
-    if total_fits(total_of(rates)) {
-        return check_distributions(n, s);
+    if !total_fits(total_of(s.rates)) {
+        return Err(Refusal::Total);
     }
-    Checked::Refused(Refusal::Total)
+    check_distributions(n, s)
 }
 
 // Refusals 1 to 4, in that order, or the run's samples and its distributions.
-fn check_values(s: Settings) -> Checked
+#[tactic(auto, unfolding(crate::specs::Accepted::values_of, crate::specs::Accepted::duration_then))]
+fn check_values(s: Settings) -> Result<(u64, Distributions), Refusal>
     ensures { result ≡ values_of four s }
 {
-    let InSamples::Samples(n) = settings_duration::duration_as_samples(
+    let n = settings_duration::duration_as_samples(
         SamplesPerPulse::Four,
         s.seconds,
         s.nanoseconds,
-    ) else {
-        return Checked::Refused(Refusal::Duration);
-    };
+    )?;
     check_rates(n, s)
 }
 
+#[tactic(auto, unfolding(crate::specs::Accepted::level_in_range))]
 fn level_in_range(level: f32) -> bool
     ensures { result ≡ level_in_range level }
 {
-    if LEAST_LEVEL <= level {
-        return level <= GREATEST_LEVEL;
-    }
-    false
-}
-
-// Refusal 14, where none of 1 to 4 was found.
-fn check_level(level: f32, values: Checked) -> Checked
-    ensures { result ≡ level_then level values }
-{
-    match values {
-        Checked::Accepted(n, all) => {
-            if level_in_range(level) {
-                return Checked::Accepted(n, all);
-            }
-            Checked::Refused(Refusal::TriggerLevel)
-        }
-        Checked::Refused(refusal) => Checked::Refused(refusal),
-    }
+    LEAST_LEVEL <= level && level <= GREATEST_LEVEL
 }
 
 // Refusals 1 to 4 and 14, in that order, or the run's samples and its distributions.
-pub fn check(s: Settings) -> Checked
+#[tactic(auto, unfolding(crate::specs::Accepted::accepted_of, crate::specs::Accepted::level_then))]
+pub fn check(s: Settings) -> Result<(u64, Distributions), Refusal>
     ensures { result ≡ accepted_of four s }
 {
-    let level = s.trigger_level;
-    let values = check_values(s);
-    check_level(level, values)
+    let accepted = check_values(s)?;
+    if !level_in_range(s.trigger_level) {
+        return Err(Refusal::TriggerLevel);
+    }
+    Ok(accepted)
 }

@@ -1,2 +1,1 @@
 pub mod SamplesAtSettings
-pub mod Answers

@@ -2,14 +2,14 @@
 use Prim.Native.Nat.{ℕ, zero, suc, ◌+◌, ◌-◌, ◌*◌, ◌/◌, ◌≤◌, ◌<◌, min}
 use mathlib.Core.Path.{◌≡◌, refl, sym, ap, ◌∙◌, subst}
 use mathlib.Core.Bool.{Bool, cond, ◌&&◌}
-use mathlib.Core.List.{List, ◌∷◌}
-use mathlib.Core.Logic.{◌≢◌}
+use mathlib.Core.List.{List, ◌∷◌, ◌++◌}
 use native.Mathlib.Omega.{arith}
-use borrow.Author.Tests.{eq-eqb, ne_eqb, lt-ltb, le-ltb, le-leb, lt-leb}
+use borrow.Author.Tests.{lt-ltb, le-ltb, le-leb, lt-leb}
 use lib.Dec.{ltb, leb}
 use lib.IntN.{ℤ}
-use lib.ListN.{length, take, drop, length-replicate}
-use lib.Seq.{length-take-le}
+use borrow.Rule.Slice.PartMut.{put_mid}
+use lib.ListN.{length, take, drop, length-drop, length-replicate}
+use lib.Seq.{length-take-le, drop-drop}
 use lib.Ieee.{Float}
 use Rattle.constants.specs.Rate.{working_memory}
 use Rattle.run_theory.specs.FloatGenerator.{nought}
@@ -17,8 +17,8 @@ use Rattle.run_theory.specs.Zeros.{zeros}
 use Rattle.run_call_model.specs.Buffers.{overwritten}
 use Rattle.reply_samples.specs.declared.Sample.{Sample}
 use Rattle.reply_samples.specs.RingModel.{ring_slots, added_reply}
-use Rattle.single_add.specs.Stretch.{laid, first_reached, passed_over}
-use Rattle.single_add.specs.StretchModel.{memory_with, windowed, added_window, stretch_of}
+use Rattle.single_add.specs.Stretch.{first_reached, passed_over}
+use Rattle.single_add.specs.StretchModel.{memory_with, windowed, added_window}
 
 -- ---- working memory
 take_blank : (k n : ℕ) → k ≤ n → take k (zeros n) ≡ zeros k
@@ -38,37 +38,44 @@ blank_length sps slots n e h = part_length slots n h ∙ ap (λ (k : ℕ). 2 * k
 pub past_within : (slots n past : ℕ) → 2 * slots ≤ n → past ≤ slots → 2 * past ≤ length (take (2 * slots) (zeros n))
 past_within slots n past h k = omega (arith, part_length slots n h)
 
-pub through_memory : (sps at past n w : ℕ) (zs : List Sample) (xs blank m m' out : List Float) → n ≡ min (length xs - at) (w - past) → w ≡ working_memory sps → blank ≡ zeros (working_memory sps) → m ≡ overwritten past (take n (drop at xs)) blank → m' ≡ added_reply sps m 0 zs → out ≡ overwritten at (take n (drop past m')) xs
-    → out ≡ windowed sps at past zs xs
+-- a part of a buffer, of n numbers from an offset on, with others in it
+part_written : (at n : ℕ) (b ys : List Float) → at + n ≤ length b → length ys ≡ length (take (at + n - at) (drop at b)) → put_mid at (at + n - at) b ys ≡ overwritten at ys b
+part_written at n b ys h l =
+    ap (λ (r : List Float). take at b ++ (ys ++ r))
+    (drop-drop (at + n - at) at b ∙ ap (λ (k : ℕ). drop k b) {x = at + (at + n - at)} {y = at + length ys} (omega (arith, l, length-take-le (at + n - at) (drop at b) (omega (arith, length-drop at b)))))
+
+pub through_memory : (sps at past n : ℕ) (zs : List Sample) (xs blank given memory back : List Float) → n ≡ min (length xs - at) (length blank - past) → at ≤ length xs → past ≤ length blank
+    → blank ≡ zeros (working_memory sps) → length blank ≡ working_memory sps
+    → given ≡ take (at + n - at) (drop at xs) → length given ≡ length (take (past + n - past) (drop past blank))
+    → memory ≡ added_reply sps (put_mid past (past + n - past) blank given) 0 zs
+    → back ≡ take (past + n - past) (drop past memory) → length back ≡ length (take (at + n - at) (drop at xs))
+    → put_mid at (at + n - at) xs back ≡ windowed sps at past zs xs
 unfolding windowed memory_with
-through_memory sps at past n w zs xs blank m m' out k v b e f g =
-    g ∙ ap (λ (l : List Float). overwritten at (take n (drop past l)) xs) (f ∙ ap (λ (l : List Float). added_reply sps l 0 zs) (e ∙ ap (λ (l : List Float). overwritten past (take n (drop at xs)) l) b))
-    ∙ ap (λ (j : ℕ). overwritten at (take j (drop past (added_reply sps (overwritten past (take j (drop at xs)) (zeros (working_memory sps))) 0 zs))) xs) (k ∙ ap (λ (j : ℕ). min (length xs - at) (j - past)) v)
+through_memory sps at past n zs xs blank given memory back k inside within b w g lg m r lr =
+    part_written at n xs back (omega arith) lr
+    ∙ ap (λ (l : List Float). overwritten at l xs) (r ∙ (λ i. take (same past i) (drop past (m i))))
+    ∙ ap (λ (l : List Float). overwritten at (take n (drop past (added_reply sps l 0 zs))) xs) (part_written past n blank given (omega arith) lg ∙ (λ i. overwritten past (g i) (b i)))
+    ∙ ap (λ (j : ℕ). overwritten at (take n (drop past (added_reply sps (overwritten past (take j (drop at xs)) (zeros (working_memory sps))) 0 zs))) xs) (same at)
+    ∙ ap (λ (j : ℕ). overwritten at (take j (drop past (added_reply sps (overwritten past (take j (drop at xs)) (zeros (working_memory sps))) 0 zs))) xs) (k ∙ ap (λ (j : ℕ). min (length xs - at) (j - past)) w)
+  where
+    same : (a : ℕ) → a + n - a ≡ n
+    same a = omega arith
 
 module _ (sps : ℕ) (start : ℤ) (zs : List Sample) (xs : List Float) where
-  pub past_the_end : (first : ℕ) → first ≡ first_reached start → length xs / 2 < first + 1 → xs ≡ added_window sps start zs xs
+  pub past_the_end : (first : ℕ) → first ≡ first_reached start → length xs / 2 ≤ first → xs ≡ added_window sps start zs xs
   unfolding added_window
   past_the_end first e h =
       sym (ap (λ (n : ℕ). cond (ltb n (length xs / 2) && leb (passed_over start) (ring_slots sps)) (windowed sps (2 * first_reached start) (2 * passed_over start) zs xs) xs) (sym e)
-      ∙ ap (λ (b : Bool). cond (b && leb (passed_over start) (ring_slots sps)) (windowed sps (2 * first_reached start) (2 * passed_over start) zs xs) xs) (le-ltb first (length xs / 2) (omega arith)))
+      ∙ ap (λ (b : Bool). cond (b && leb (passed_over start) (ring_slots sps)) (windowed sps (2 * first_reached start) (2 * passed_over start) zs xs) xs) (le-ltb first (length xs / 2) h))
 
-  pub all_before : (first past slots : ℕ) → first ≡ first_reached start → past ≡ passed_over start → slots ≡ ring_slots sps → first + 1 ≤ length xs / 2 → slots < past → xs ≡ added_window sps start zs xs
+  pub all_before : (first past slots : ℕ) → first ≡ first_reached start → past ≡ passed_over start → slots ≡ ring_slots sps → first < length xs / 2 → slots < past → xs ≡ added_window sps start zs xs
   unfolding added_window
   all_before first past slots e f w h k =
       sym ((λ i. cond (ltb (sym e i) (length xs / 2) && leb (sym f i) (ring_slots sps)) (windowed sps (2 * first_reached start) (2 * passed_over start) zs xs) xs)
-      ∙ (λ i. cond (lt-ltb first (length xs / 2) (omega arith) i && lt-leb past (ring_slots sps) (subst (λ (n : ℕ). n < past) w k) i) (windowed sps (2 * first_reached start) (2 * passed_over start) zs xs) xs))
+      ∙ (λ i. cond (lt-ltb first (length xs / 2) h i && lt-leb past (ring_slots sps) (subst (λ (n : ℕ). n < past) w k) i) (windowed sps (2 * first_reached start) (2 * passed_over start) zs xs) xs))
 
-  pub in_window : (first past slots : ℕ) (out : List Float) → first ≡ first_reached start → past ≡ passed_over start → slots ≡ ring_slots sps → first + 1 ≤ length xs / 2 → past ≤ slots → out ≡ windowed sps (2 * first) (2 * past) zs xs → out ≡ added_window sps start zs xs
+  pub in_window : (first past slots : ℕ) (out : List Float) → first ≡ first_reached start → past ≡ passed_over start → slots ≡ ring_slots sps → first < length xs / 2 → past ≤ slots → out ≡ windowed sps (2 * first) (2 * past) zs xs → out ≡ added_window sps start zs xs
   unfolding added_window
   in_window first past slots out e f w h k g =
       g ∙ sym ((λ i. cond (ltb (sym e i) (length xs / 2) && leb (sym f i) (ring_slots sps)) (windowed sps (2 * sym e i) (2 * sym f i) zs xs) xs)
-      ∙ (λ i. cond (lt-ltb first (length xs / 2) (omega arith) i && le-leb past (ring_slots sps) (subst (λ (n : ℕ). past ≤ n) w k) i) (windowed sps (2 * first) (2 * past) zs xs) xs))
-
-module _ (sps : ℕ) (start : ℤ) (zs : List Sample) (noise output : List Float) where
-  pub other_length : length noise ≢ length output → output ≡ stretch_of sps start zs noise output
-  unfolding stretch_of
-  other_length h = sym (ap (λ (b : Bool). cond b (added_window sps start zs (laid noise)) output) (ne_eqb (length noise) (length output) h))
-
-  pub laid_and_added : (l out : List Float) → length noise ≡ length output → l ≡ laid noise → out ≡ added_window sps start zs l → out ≡ stretch_of sps start zs noise output
-  unfolding stretch_of
-  laid_and_added l out h e f = f ∙ ap (added_window sps start zs) e ∙ sym (ap (λ (b : Bool). cond b (added_window sps start zs (laid noise)) output) (eq-eqb (length noise) (length output) h))
+      ∙ (λ i. cond (lt-ltb first (length xs / 2) h i && le-leb past (ring_slots sps) (subst (λ (n : ℕ). past ≤ n) w k) i) (windowed sps (2 * first) (2 * past) zs xs) xs))

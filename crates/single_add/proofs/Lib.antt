@@ -1,4 +1,3 @@
 pub mod Loops
-pub mod Signed
 pub mod Window
 pub mod Joined

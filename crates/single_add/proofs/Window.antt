@@ -1,4 +1,4 @@
--- A reply of at most as many samples as working memory has slots, added by way of memory, is the reply added from its start on (`window-is`); and so is one whose start is past the end, of any number of samples (`window-past`).
+-- A reply of at most as many samples as working memory has slots, added by way of memory, is the reply added from its start on (`window_is`); and so is one whose start is past the end, of any number of samples (`window_past`).
 use Prim.Native.Nat.{ℕ, zero, suc, ◌+◌, ◌-◌, ◌*◌, ◌/◌, ◌≤◌, ◌<◌, min}
 use mathlib.Core.Path.{◌≡◌, refl, sym, ap, ◌∙◌}
 use mathlib.Core.Bool.{Bool, cond, ◌&&◌}

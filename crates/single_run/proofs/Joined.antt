@@ -1,4 +1,5 @@
 -- What the functions answer and leave, from what their calls give.
+use Rattle.std.specs.Prelude.{Result, Ok, Err}
 use Prim.Native.Nat.{ℕ}
 use mathlib.Core.Path.{◌≡◌, sym, ap, ◌∙◌}
 use mathlib.Core.List.{List}
@@ -21,14 +22,11 @@ use Rattle.reply_samples.specs.Samples.{reply_samples}
 use Rattle.run_theory.specs.FloatGenerator.{nought}
 use Rattle.run_call_model.proofs.FloatLaws.{nought_bits}
 use Rattle.run_call.specs.declared.State.{State}
-use Rattle.run_open_checks.specs.declared.Opened.{Opened}
-use Rattle.run_open_checks.specs.declared.Opened.TheVariants.{Run, Refused}
 use Rattle.run_open_checks.specs.declared.Prepared.{Prepared}
 use Rattle.run_open_checks.specs.Opening.{prepared_of}
 use Rattle.single_add.specs.StretchModel.{stretch_of}
 use Rattle.single_theory.specs.Single.{checked_of, single_run, left_in, single_output}
 use Rattle.single_theory.proofs.Count.{accepted_is}
-use Rattle.single_run.specs.declared.Outcome as Outcome
 use Rattle.single_run.specs.Answer.{answer_of}
 
 -- ---- the reply of a draw
@@ -52,18 +50,18 @@ unfolding prepared_of
 mode_ac_length_lem settings taps_s taps_ac p e = sym (ap (λ (q : Prepared). length q.mode_ac) e ∙ length_prototype four _ taps_ac)
 
 module _ (settings : List ℕ) (taps_s taps_ac : List Float) (draw : List ℕ) (noise output : List Float)
-    (p : Prepared) (e : p ≡ prepared_of four taps_s taps_ac settings 1792 1792 2252) (v : Opened) (f : v ≡ checked_of four settings (length output) draw noise p.opened) where
+    (p : Prepared) (e : p ≡ prepared_of four taps_s taps_ac settings 1792 1792 2252) (v : Result State Refusal) (f : v ≡ checked_of four settings (length output) draw noise p.opened) where
   run_is : v ≡ single_run settings taps_s taps_ac draw noise (length output)
   unfolding single_run prepared_of
   run_is = f ∙ ap (λ (q : Prepared). checked_of four settings (length output) draw noise q.opened) e
 
-  pub refused : (q : Refusal) → v ≡ Refused q → (Outcome.TheVariants.Refused q ≡ answer_of (single_run settings taps_s taps_ac draw noise (length output))) × (output ≡ single_output settings taps_s taps_ac draw noise output)
+  pub refused : (q : Refusal) (out : Result (Unit {0}) Refusal) → v ≡ Err q → out ≡ Err q → (out ≡ answer_of (single_run settings taps_s taps_ac draw noise (length output))) × (output ≡ single_output settings taps_s taps_ac draw noise output)
   unfolding answer_of single_output left_in
-  refused q g = (sym (ap answer_of (sym run_is ∙ g)), sym (ap (left_in settings taps_s taps_ac draw noise output) (sym run_is ∙ g)))
+  refused q out g o = (o ∙ sym (ap answer_of (sym run_is ∙ g)), sym (ap (left_in settings taps_s taps_ac draw noise output) (sym run_is ∙ g)))
 
-  pub accepted : (state : State) (out : List Float) → v ≡ Run state
+  pub accepted : (state : State) (out : List Float) → v ≡ Ok state
       → out ≡ stretch_of four (config_start state.delays (config_of state.distributions (time_after nought (draw_at draw)) (draw_at draw))) (reply_samples four p.mode_s p.mode_ac state.delays (draw_at draw).amplitude (config_of state.distributions (time_after nought (draw_at draw)) (draw_at draw))) noise output
-      → (Outcome.TheVariants.Made ≡ answer_of (single_run settings taps_s taps_ac draw noise (length output))) × (out ≡ single_output settings taps_s taps_ac draw noise output)
+      → (Ok tt ≡ answer_of (single_run settings taps_s taps_ac draw noise (length output))) × (out ≡ single_output settings taps_s taps_ac draw noise output)
   unfolding answer_of single_output prepared_of
   accepted state out g o =
       let c = config_of state.distributions (time_after nought (draw_at draw)) (draw_at draw) in (

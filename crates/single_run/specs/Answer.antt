@@ -1,7 +1,8 @@
 -- What one reply alone answers: that its samples are made, or a refusal, whose number and values `refusals` gives.
-use Rattle.run_open_checks.specs.declared.Opened as Opened
-use Rattle.single_run.specs.declared.Outcome as Outcome
+use Rattle.std.specs.Prelude.{Result, Ok, Err}
+use Rattle.refusals.specs.declared.Refusal.{Refusal}
+use Rattle.run_call.specs.declared.State.{State}
 
-unfoldable pub answer_of : Opened.Opened → Outcome.Outcome
-answer_of (Opened.TheVariants.Run state) = Outcome.TheVariants.Made
-answer_of (Opened.TheVariants.Refused refusal) = Outcome.TheVariants.Refused refusal
+unfoldable pub answer_of : Result State Refusal → Result (Unit {0}) Refusal
+answer_of (Ok state) = Ok tt
+answer_of (Err refusal) = Err refusal

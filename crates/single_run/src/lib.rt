@@ -15,15 +15,7 @@ ghost use Rattle.single_run.specs.Answer.{answer_of};
 use constants::{MEMORY_LEN, PROTOTYPE_LEN, SamplesPerPulse};
 use message_config::Delays;
 use refusals::Refusal;
-use run_open_checks::Opened;
 use settings::Distributions;
-
-// That the samples are made, or why not.
-#[derive(Clone, Copy)]
-pub enum Outcome {
-    Made,
-    Refused(Refusal),
-}
 
 // Writes the samples of the reply of the draw at the start of the bytes, its gap being its time.
 fn make(
@@ -55,7 +47,7 @@ pub fn single(
     draw: &[u8],
     noise: &[f32],
     output: &mut [f32],
-) -> Outcome
+) -> Result<(), Refusal>
     ensures { (result ≡ answer_of (single_run settings.now taps_s.now taps_ac.now draw.now noise.now (length output.old))) × (output.new ≡ single_output settings.now taps_s.now taps_ac.now draw.now noise.now output.old) }
 {
     let p = run_open_checks::prepare(
@@ -66,17 +58,17 @@ pub fn single(
         PROTOTYPE_LEN,
         MEMORY_LEN,
     );
-    let mode_s = p.mode_s;
-    let mode_ac = p.mode_ac;
-    let opened = p.opened;
     let setting = SamplesPerPulse::Four;
-    match single_checks::check(setting, settings, output.len(), draw, noise, opened) {
-        Opened::Run(state) => {
-            let all = state.distributions;
-            let delays = state.delays;
-            make(setting, all, delays, &mode_s, &mode_ac, draw, noise, output);
-            Outcome::Made
-        }
-        Opened::Refused(refusal) => Outcome::Refused(refusal),
-    }
+    let state = single_checks::check(setting, settings, output.len(), draw, noise, p.opened)?;
+    make(
+        setting,
+        state.distributions,
+        state.delays,
+        &p.mode_s,
+        &p.mode_ac,
+        draw,
+        noise,
+        output,
+    );
+    Ok(())
 }

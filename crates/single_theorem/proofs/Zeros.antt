@@ -1,4 +1,4 @@
--- Sums with zeros, of floats that their format holds: 0.0 and a number that is not -0.0 are that number (`zero-plus`); any number and -0.0 are that number (`plus-minus-zero`). So a number added to 0.0, and then another that is not -0.0, are the second and the first (`either_way`).
+-- Sums with zeros, of floats that their format holds: 0.0 and a number that is not -0.0 are that number (`zero_plus`); any number and -0.0 are that number (`plus_minus_zero`). So a number added to 0.0, and then another that is not -0.0, are the second and the first (`either_way`).
 use Prim.Native.Nat.{ℕ, zero, suc, ◌+◌, ◌-◌, ◌*◌, ◌^◌, ◌≤◌, ◌<◌, zero-le}
 use native.Mathlib.Nat.{mul-one, one-mul, zero-mul, zero-add, add-zero, sub-zero, mul_assoc, mul-pos, lt_of_lt_of_le, zero-lt-suc}
 use native.Mathlib.Omega.{arith}

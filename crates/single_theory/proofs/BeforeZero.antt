@@ -1,4 +1,4 @@
--- A reply that starts before sample 0: as of one that starts at it or later (`first-clock-of` of `message_config`), the clock's phase at its first sample is from 0 to 1.1 samples and the filter's clock error within 0.1 (`before-zero`).
+-- A reply that starts before sample 0: as of one that starts at it or later (`first_clock_of` of `message_config`), the clock's phase at its first sample is from 0 to 1.1 samples and the filter's clock error within 0.1 (`before_zero`).
 use mathlib.Core.Path.{◌≡◌, refl, sym, ap, ◌∙◌, subst}
 use mathlib.Core.Logic.{inl, inr}
 use Prim.Native.Nat.{ℕ, zero, suc, ◌+◌, ◌-◌, ◌*◌, ◌/◌, ◌^◌, ◌≤◌, ◌<◌, min}

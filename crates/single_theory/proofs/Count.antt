@@ -1,4 +1,5 @@
--- A reply of a draw in range, by filters in range, has at most as many samples as the limit says where it starts before sample 2^52 (`few-or-late`); so the samples made by way of working memory are those of the definition (`single-is`), for every stretch that is accepted (`accepted-is`).
+-- A reply of a draw in range, by filters in range, has at most as many samples as the limit says where it starts before sample 2^52 (`few_or_late`); so the samples made by way of working memory are those of the definition (`single_is`), for every stretch that is accepted (`accepted_is`).
+use Rattle.std.specs.Prelude.{Option, Some, None, Result, Ok, Err}
 use Prim.Native.Nat.{ℕ, ◌+◌, ◌*◌, ◌/◌, ◌%◌, ◌^◌, ◌≤◌, ◌<◌}
 use native.Mathlib.Nat.{le_trans, le_of_eq}
 use native.Mathlib.Omega.{arith}
@@ -6,7 +7,6 @@ use mathlib.Core.Path.{◌≡◌, refl, sym, ap, ◌∙◌, subst}
 use mathlib.Core.Bool.{Bool, true, false, cond, not, ◌||◌, ◌&&◌, true≢false}
 use mathlib.Core.List.{List}
 use mathlib.Core.Logic.{◌⊎◌, inl, inr, ◌≢◌}
-use mathlib.Core.Option.{Option, none, some}
 use borrow.Author.Tests.{eqb-true, ltb-false}
 use lib.Dec.{T, eqb, ltb, leb, lit<}
 use lib.IntN.{ℤ, pos, negsuc}
@@ -18,9 +18,8 @@ use Rattle.constants.specs.Setting.{per_pulse}
 use Rattle.constants.specs.Rate.{four, prototype_length, reply_limit, hold_back, working_memory}
 use Rattle.float_rounding.proofs.Size.{le_or_lt}
 use Rattle.pulse_shape.specs.Prototype.{mode_s_prototype, mode_ac_prototype}
-use Rattle.refusals.specs.declared.Refusal as Refusal
-use Rattle.message.specs.declared.FieldFault.{FieldFault}
-use Rattle.message.specs.declared.FieldFault.TheVariants.{NoFault, Field}
+use Rattle.refusals.specs.declared.Refusal.{Refusal}
+use Rattle.refusals.specs.declared.Refusal.TheVariants as Refused
 use Rattle.message_config.specs.declared.MessageConfig.{MessageConfig}
 use Rattle.message_config.specs.Config.{config_start}
 use Rattle.message_config.proofs.InRange.{TimeInRange, ErrorInRange}
@@ -28,8 +27,7 @@ use Rattle.message_config.proofs.FirstClock.{first_clock_of}
 use Rattle.settings.specs.declared.Distributions.{Distributions}
 use Rattle.settings.specs.declared.MessagesPerSecond.{MessagesPerSecond}
 use Rattle.settings.specs.Settings.{settings_of}
-use Rattle.settings_duration.specs.Duration.{Answer, samples, refusal, samples_of, pick, duration_of}
-use Rattle.draw.specs.declared.DrawFault as DrawFault
+use Rattle.settings_duration.specs.Duration.{samples_of, pick, duration_of}
 use Rattle.draw.specs.Draw.{draw_at}
 use Rattle.draw.specs.Fault.{draw_fault, fault_at, fault_from, first_fault}
 use Rattle.draw.specs.Config.{time_after, config_with, config_of}
@@ -50,8 +48,6 @@ use Rattle.run_generator.proofs.InstanceDrawLaws.{time_in_range}
 use Rattle.run_call_checks.specs.NoiseModel.{out_of_range_from}
 use Rattle.run_call.specs.declared.State.{State}
 use Rattle.run_call.specs.StateGenerator.{filters_of}
-use Rattle.run_open_checks.specs.declared.Opened.{Opened}
-use Rattle.run_open_checks.specs.declared.Opened.TheVariants.{Run, Refused}
 use Rattle.run_open_checks.specs.Opening.{OpenBuffers, opened_for, opened_of}
 use Rattle.run_open_checks.proofs.WhatIsOpened.{opened_run_in_range}
 use Rattle.single_add.specs.Stretch.{first_reached}
@@ -76,19 +72,19 @@ limit_in_slots sps = more (reply_limit sps) (hold_back sps)
     more a b = omega arith
 
 -- ---- a reply of a draw in range
-module _ (f : Filters) (R : FiltersInRange f) (d : RepresentableDraw) (e : draw_fault f.rates f.distributions d.draw ≡ NoFault) where
+module _ (f : Filters) (R : FiltersInRange f) (d : RepresentableDraw) (e : draw_fault f.rates f.distributions d.draw ≡ None) where
   abbrev c : MessageConfig
   c = config_of f.distributions (time_after nought d.draw) d.draw
 
   abbrev zs : List Sample
   zs = reply_samples (pulse_samples f) f.mode_s f.mode_ac f.delays d.draw.amplitude c
 
-  no_field : fault_of (draw_fault f.rates f.distributions d.draw) ≢ some 0
+  no_field : fault_of (draw_fault f.rates f.distributions d.draw) ≢ Some 0
   unfolding fault_of
   no_field h = let n : ◌≡◌ {A = ℕ} 0 1 = none_some (sym (ap fault_of e) ∙ h) in absurd (omega arith)
     where
-      none_some : ◌≡◌ {A = Option ℕ} none (some 0) → ◌≡◌ {A = ℕ} 0 1
-      none_some q = ap (λ (o : Option ℕ). elim o [ none ↦ 0 | some k ↦ 1 ]) q
+      none_some : ◌≡◌ {A = Option ℕ} None (Some 0) → ◌≡◌ {A = ℕ} 0 1
+      none_some q = ap (λ (o : Option ℕ). elim o [ None ↦ 0 | Some k ↦ 1 ]) q
 
   in_time : TimeInRange c.time
   unfolding config_of config_with time_after
@@ -141,33 +137,33 @@ not_false : (a : Bool) → not a ≡ false → a ≡ true
 not_false true e = refl
 not_false false e = absurd (true≢false e)
 
-pub record Accepts (output : ℕ) (draw : List ℕ) (noise : List Float) (opened : Opened) (state : State) : Type 0 where
+pub record Accepts (output : ℕ) (draw : List ℕ) (noise : List Float) (opened : Result State Refusal) (state : State) : Type 0 where
   pub draw_length_lem : length draw ≡ 65
   pub n : ℕ
   pub most : n ≤ 2 ^ 52
   pub output_is : output ≡ 2 * n
   pub noise_is : length noise ≡ 2 * n
-  pub opens : opened ≡ Run state
-  pub in_range : first_fault state.rates state.distributions draw ≡ DrawFault.TheVariants.None
+  pub opens : opened ≡ Ok state
+  pub in_range : first_fault state.rates state.distributions draw ≡ None
 
 -- a duration that is accepted has at most 2^52 samples
-abbrev Short : Answer → Type 0
-Short (samples n) = n ≤ 2 ^ 52
-Short (refusal k) = Unit {0}
+abbrev Short : Result ℕ Refusal → Type 0
+Short (Ok n) = n ≤ 2 ^ 52
+Short (Err q) = Unit {0}
 
 short : (sps seconds nanoseconds : ℕ) → Short (duration_of sps seconds nanoseconds)
 unfolding duration_of
 short sps seconds nanoseconds = go (leb 1000000000 nanoseconds) (ltb (2 ^ 52) (samples_of sps seconds nanoseconds)) refl
   where
-    go : (a b : Bool) → ltb (2 ^ 52) (samples_of sps seconds nanoseconds) ≡ b → Short (pick a (refusal 1) (pick b (refusal 1) (samples (samples_of sps seconds nanoseconds))))
+    go : (a b : Bool) → ltb (2 ^ 52) (samples_of sps seconds nanoseconds) ≡ b → Short (pick a (Err Refused.Duration) (pick b (Err Refused.Duration) (Ok (samples_of sps seconds nanoseconds))))
     go true b q = tt
     go false true q = tt
     go false false q = ltb-false (2 ^ 52) (samples_of sps seconds nanoseconds) q
 
-module _ (sps : ℕ) (settings : List ℕ) (output : ℕ) (draw : List ℕ) (noise : List Float) (opened : Opened) where
-  abbrev Told : Opened → Type 0
-  Told (Run state) = Accepts output draw noise opened state
-  Told (Refused q) = Unit {0}
+module _ (sps : ℕ) (settings : List ℕ) (output : ℕ) (draw : List ℕ) (noise : List Float) (opened : Result State Refusal) where
+  abbrev Told : Result State Refusal → Type 0
+  Told (Ok state) = Accepts output draw noise opened state
+  Told (Err q) = Unit {0}
 
   draw_is : wrong_lengths sps settings (length draw) output ≡ false → length draw ≡ 65
   unfolding wrong_lengths
@@ -188,41 +184,41 @@ module _ (sps : ℕ) (settings : List ℕ) (output : ℕ) (draw : List ℕ) (noi
   unfolding checked_of duration_then opened_then draw_then noise_then
   told = go1 (wrong_lengths sps settings (length draw) output) refl
     where
-      duration : Answer
+      duration : Result ℕ Refusal
       duration = duration_of sps (settings_of settings).seconds (settings_of settings).nanoseconds
 
-      go5 : (n : ℕ) (state : State) → length draw ≡ 65 → n ≤ 2 ^ 52 → (output ≡ 2 * n) × (length noise ≡ 2 * n) → opened ≡ Run state → (o : Option Bench.Refusal) → first_fault state.rates state.distributions draw ≡ DrawFault.TheVariants.None → Told (noise_then state o)
-      go5 n state l m s p none q = record { draw_length_lem = l; n = n; most = m; output_is = s.0; noise_is = s.1; opens = p; in_range = q }
-      go5 n state l m s p (some r) q = tt
+      go5 : (n : ℕ) (state : State) → length draw ≡ 65 → n ≤ 2 ^ 52 → (output ≡ 2 * n) × (length noise ≡ 2 * n) → opened ≡ Ok state → (o : Option Bench.Refusal) → first_fault state.rates state.distributions draw ≡ None → Told (noise_then state o)
+      go5 n state l m s p None q = record { draw_length_lem = l; n = n; most = m; output_is = s.0; noise_is = s.1; opens = p; in_range = q }
+      go5 n state l m s p (Some r) q = tt
 
-      go4 : (n : ℕ) (state : State) → length draw ≡ 65 → n ≤ 2 ^ 52 → (output ≡ 2 * n) × (length noise ≡ 2 * n) → opened ≡ Run state → (x : DrawFault.DrawFault) → first_fault state.rates state.distributions draw ≡ x → Told (draw_then state noise x)
-      go4 n state l m s p DrawFault.TheVariants.None q = go5 n state l m s p (out_of_range_from 0 noise) q
-      go4 n state l m s p (DrawFault.TheVariants.At k field) q = tt
+      go4 : (n : ℕ) (state : State) → length draw ≡ 65 → n ≤ 2 ^ 52 → (output ≡ 2 * n) × (length noise ≡ 2 * n) → opened ≡ Ok state → (x : (Option (ℕ × ℕ))) → first_fault state.rates state.distributions draw ≡ x → Told (draw_then state noise x)
+      go4 n state l m s p None q = go5 n state l m s p (out_of_range_from 0 noise) q
+      go4 n state l m s p (Some (k, field)) q = tt
 
-      go3 : (n : ℕ) → length draw ≡ 65 → n ≤ 2 ^ 52 → (b : Bool) → wrong_stretch n output (length noise) ≡ b → (o : Opened) → opened ≡ o → Told (cond b (Refused Refusal.TheVariants.StretchLength) (opened_then draw noise o))
+      go3 : (n : ℕ) → length draw ≡ 65 → n ≤ 2 ^ 52 → (b : Bool) → wrong_stretch n output (length noise) ≡ b → (o : Result State Refusal) → opened ≡ o → Told (cond b (Err Refused.StretchLength) (opened_then draw noise o))
       go3 n l m true w o p = tt
-      go3 n l m false w (Refused r) p = tt
-      go3 n l m false w (Run state) p = go4 n state l m (stretch_is_n n w) p (first_fault state.rates state.distributions draw) refl
+      go3 n l m false w (Err r) p = tt
+      go3 n l m false w (Ok state) p = go4 n state l m (stretch_is_n n w) p (first_fault state.rates state.distributions draw) refl
 
-      go2 : length draw ≡ 65 → (a : Answer) → Short a → Told (duration_then output draw noise opened a)
-      go2 l (refusal k) m = tt
-      go2 l (samples n) m = go3 n l m (wrong_stretch n output (length noise)) refl opened refl
+      go2 : length draw ≡ 65 → (a : Result ℕ Refusal) → Short a → Told (duration_then output draw noise opened a)
+      go2 l (Err q) m = tt
+      go2 l (Ok n) m = go3 n l m (wrong_stretch n output (length noise)) refl opened refl
 
-      go1 : (b : Bool) → wrong_lengths sps settings (length draw) output ≡ b → Told (cond b (Refused Refusal.TheVariants.Length) (duration_then output draw noise opened duration))
+      go1 : (b : Bool) → wrong_lengths sps settings (length draw) output ≡ b → Told (cond b (Err Refused.Length) (duration_then output draw noise opened duration))
       go1 true w = tt
       go1 false w = go2 (draw_is w) duration (short sps (settings_of settings).seconds (settings_of settings).nanoseconds)
 
-  pub accepted_says : (state : State) → checked_of sps settings output draw noise opened ≡ Run state → Accepts output draw noise opened state
+  pub accepted_says : (state : State) → checked_of sps settings output draw noise opened ≡ Ok state → Accepts output draw noise opened state
   accepted_says state e = subst Told e told
 
 -- one draw without a fault
-one_fine : (rates : MessagesPerSecond) (all : Distributions) (s : List ℕ) → length s ≡ 65 → first_fault rates all s ≡ DrawFault.TheVariants.None → draw_fault rates all (draw_at s) ≡ NoFault
+one_fine : (rates : MessagesPerSecond) (all : Distributions) (s : List ℕ) → length s ≡ 65 → first_fault rates all s ≡ None → draw_fault rates all (draw_at s) ≡ None
 unfolding first_fault fault_from fault_at
 one_fine rates all s l e = go (draw_fault rates all (draw_at s)) (sym (ap (λ (n : ℕ). fault_from rates all (n / 65) 0 s) l) ∙ e)
   where
-    go : (x : FieldFault) → fault_at 0 x DrawFault.TheVariants.None ≡ DrawFault.TheVariants.None → x ≡ NoFault
-    go NoFault q = refl
-    go (Field k) q = let z : ◌≡◌ {A = ℕ} 0 1 = ap (λ (y : DrawFault.DrawFault). elim y [ DrawFault.TheVariants.None ↦ 1 | DrawFault.TheVariants.At i j ↦ 0 ]) q in absurd (omega arith)
+    go : (x : (Option ℕ)) → fault_at 0 x None ≡ None → x ≡ None
+    go None q = refl
+    go (Some k) q = let z : ◌≡◌ {A = ℕ} 0 1 = ap (λ (y : (Option (ℕ × ℕ))). elim y [ None ↦ 1 | Some (i, j) ↦ 0 ]) q in absurd (omega arith)
 
 -- opening with buffers of their lengths
 buffers : OpenBuffers
@@ -233,9 +229,9 @@ unfolding opened_of buffers
 opened_same taps_s taps_ac settings = (λ i. opened_for four taps_s taps_ac settings (length-replicate 1792 nought i) (length-replicate 1792 nought i) (length-replicate 2252 nought i))
 
 -- what the code makes, of a stretch that is accepted, is what is to be left
-pub accepted_is : (settings : List ℕ) (taps_s taps_ac : List Float) (draw : List ℕ) (noise output out : List Float) (state : State) → single_run settings taps_s taps_ac draw noise (length output) ≡ Run state
+pub accepted_is : (settings : List ℕ) (taps_s taps_ac : List Float) (draw : List ℕ) (noise output out : List Float) (state : State) → single_run settings taps_s taps_ac draw noise (length output) ≡ Ok state
     → out ≡ stretch_of four (config_start state.delays (config_of state.distributions (time_after nought (draw_at draw)) (draw_at draw))) (reply_samples four (mode_s_prototype four taps_s) (mode_ac_prototype four taps_ac) state.delays (draw_at draw).amplitude (config_of state.distributions (time_after nought (draw_at draw)) (draw_at draw))) noise output
-    → out ≡ left_in settings taps_s taps_ac draw noise output (Run state)
+    → out ≡ left_in settings taps_s taps_ac draw noise output (Ok state)
 unfolding single_run left_in
 accepted_is settings taps_s taps_ac draw noise output out state e p =
     let A = accepted_says four settings (length output) draw noise (opened_for four taps_s taps_ac settings (prototype_length four) (prototype_length four) (working_memory four)) state e in

@@ -2,6 +2,7 @@
 // What it prints is worked out by tape_run and tape_text; here it is written, and a write that fails is reported on standard error.
 #![tactic(auto)]
 
+use refusals::Refusal;
 use tape_run::Output;
 use tape_sections::MAX_RECORDS_LEN;
 use tape_text::TEXT_LEN;
@@ -15,9 +16,9 @@ fn print(rt: &(impl Print + Eprint + Alloc), text: &[u8]) {
     }
 }
 
-fn print_refused(rt: &(impl Print + Eprint + Alloc), number: u64) {
+fn print_refused(rt: &(impl Print + Eprint + Alloc), q: Refusal) {
     let mut text = [0u8; TEXT_LEN];
-    let n = tape_text::refused_text(number, &mut text);
+    let n = tape_text::refused_text(q.number(), &mut text);
     print(rt, &text[..n]);
 }
 
@@ -40,7 +41,7 @@ fn main(rt: HostRuntime) {
     };
     match tape_run::run_tape(false, &mut records, &mut output) {
         Outcome::Done(count, samples) => print_run(&rt, records, count, samples),
-        Outcome::Refused(number, _) => print_refused(&rt, number),
+        Outcome::Refused(q, _) => print_refused(&rt, q),
         Outcome::Untaken => {
             if let Some(e) = output.failure {
                 tape_run::fail(&rt, NOT_TAKEN, &e);

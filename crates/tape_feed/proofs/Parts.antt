@@ -1,25 +1,16 @@
 -- The parts that a call is given are the rest of the draws and of the room, and what it leaves joins the records (`called`).
-use Rattle.std.proofs.Common.{◌≡◌, ℕ, ◌+◌, ◌-◌, ◌*◌, ◌/◌, ◌%◌, ◌^◌, ◌<◌, ◌≤◌, min, Bool, true, false, leb, List, [], ◌++◌, length, take, drop, sym, refl, ap, ◌∙◌, append-nil, mul_comm, div-lt_iff_lt-mul, le-div_iff_mul-le, arith, length-append, length-drop, length-take, take_all, drop-drop, leb-false, leb-true}
+use Rattle.std.specs.Prelude.{Ok, Err}
+use Rattle.std.proofs.Common.{◌≡◌, ℕ, ◌+◌, ◌-◌, ◌*◌, ◌≤◌, min, Bool, true, false, leb, List, [], ◌++◌, length, take, drop, sym, refl, ap, ◌∙◌, append-nil, arith, length-append, length-drop, length-take, take_all, drop-drop, leb-false, leb-true}
 use lib.Seq.{drop-nil, drop-length}
 use lib.Ieee.{Float}
 use Rattle.refusals.specs.declared.Refusal as Refusal
 use Rattle.run_call.specs.declared.Ran.{Ran}
 use Rattle.run_steps.specs.declared.Stop as Stop
-use Rattle.run_call.specs.declared.Answer as Answer
 use Rattle.run_call.specs.CallModel.{run_left}
 use Rattle.tape_verdict.specs.declared.Feed.{Feed}
 use Rattle.tape_feed.specs.FeedModel.{Fed, feed_after, fed_after, called_of, fed_then, fed_of}
 
 -- ---- offsets
-pub inside_place : (k size len : ℕ) → 0 < size → k ≤ len / size → size * k ≤ len
-inside_place k size len h g = let p : k * size ≤ len = (le-div_iff_mul-le h).0 g in omega (arith, mul_comm k size)
-
-pub past_place : (k size len : ℕ) → 0 < size → len / size < k → len ≤ size * k
-past_place k size len h g = let p : len < k * size = (div-lt_iff_lt-mul h).0 g in omega (arith, mul_comm k size)
-
-pub within : (n m : ℕ) {a : ℕ} → a ≡ min n m → a ≤ m
-within n m e = omega (arith, e)
-
 module _ {A : Type 0} where
   drop_past : (n : ℕ) (l : List A) → length l ≤ n → drop n l ≡ []
   drop_past n l h =
@@ -56,11 +47,6 @@ module _ {A : Type 0} where
       simp (length-append, length-take, length-drop, e) (omega arith)
 
 -- ---- a call
-pub next_feed : (f : Feed) (r : Ran) {x y : ℕ} → x ≡ (f.taken + r.counts.taken) % 2 ^ 64 → y ≡ (f.records + r.counts.records) % 2 ^ 64
-    → record { state = r.state; taken = x; records = y; answer = r.answer } ≡ feed_after f r
-unfolding feed_after
-next_feed f r p q = λ i. record { state = r.state; taken = p i; records = q i; answer = r.answer }
-
 pub called : (f : Feed) (mode_s mode_ac memory : List Float) (draws : List ℕ) (noise output : List Float) (records : List ℕ) {a b : ℕ} {r : Ran} {m o : List Float} {ys : List ℕ} {q : Feed}
     → a ≡ min (65 * f.taken) (length draws) → b ≡ min (66 * f.records) (length records)
     → record { ran = r; memory = m; output = o; records = ys } ≡ run_left f.state mode_s mode_ac memory (take (length draws - a) (drop a draws)) noise output (take (length records - b) (drop b records)) → q ≡ feed_after f r
@@ -74,10 +60,10 @@ called f mode_s mode_ac memory draws noise output records {a} {b} {r} {m} {o} {y
 
 -- ---- a chunk
 module _ (mode_s mode_ac : List Float) (draws : List ℕ) (noise : List Float) (d : Fed) where
-  pub stays : (q : Refusal.Refusal) → d.feed.answer ≡ Answer.TheVariants.Refused q → d ≡ fed_of mode_s mode_ac draws noise d
+  pub stays : (q : Refusal.Refusal) → d.feed.answer ≡ Err q → d ≡ fed_of mode_s mode_ac draws noise d
   unfolding fed_of fed_then
   stays q e = sym (ap (fed_then mode_s mode_ac draws noise d) e)
 
-  pub goes_on : (w : Stop.Stop) {x : Fed} → d.feed.answer ≡ Answer.TheVariants.Stopped w → x ≡ called_of mode_s mode_ac draws noise d → x ≡ fed_of mode_s mode_ac draws noise d
+  pub goes_on : (w : Stop.Stop) {x : Fed} → d.feed.answer ≡ Ok w → x ≡ called_of mode_s mode_ac draws noise d → x ≡ fed_of mode_s mode_ac draws noise d
   unfolding fed_of fed_then
   goes_on w e p = p ∙ sym (ap (fed_then mode_s mode_ac draws noise d) e)

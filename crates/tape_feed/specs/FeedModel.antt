@@ -1,6 +1,8 @@
 -- A run that is fed its noise chunk by chunk, as the code does it: each chunk is a run call, given the draws that are not taken and the room behind the records written.
+use Rattle.std.specs.Prelude.{Result, Ok, Err}
+use Rattle.refusals.specs.declared.Refusal.{Refusal}
+use Rattle.run_steps.specs.declared.Stop.{Stop}
 use Rattle.std.specs.Prelude.{ℕ, ◌+◌, ◌*◌, ◌%◌, ◌^◌, List, ◌++◌, take, drop, Float}
-use Rattle.run_call.specs.declared.Answer as Answer
 use Rattle.run_call.specs.declared.Ran.{Ran}
 use Rattle.run_call.specs.Buffers.{Left}
 use Rattle.run_call.specs.CallModel.{run_left}
@@ -32,9 +34,9 @@ module _ (mode_s mode_ac : List Float) (draws : List ℕ) (noise : List Float) w
       fed_after d.feed d.records (run_left d.feed.state mode_s mode_ac d.memory (drop (65 * d.feed.taken) draws) noise d.output (drop (66 * d.feed.records) d.records))
 
   -- once refused, a run stays as it is
-  unfoldable pub fed_then : Fed → Answer.Answer → Fed
-  fed_then d (Answer.TheVariants.Stopped w) = called_of d
-  fed_then d (Answer.TheVariants.Refused q) = d
+  unfoldable pub fed_then : Fed → (Result Stop Refusal) → Fed
+  fed_then d (Ok w) = called_of d
+  fed_then d (Err q) = d
 
   -- the run after a chunk of noise
   unfoldable pub fed_of : Fed → Fed

@@ -1,36 +1,30 @@
 // A run that is fed a chunk of its noise. The public function is equal to a definition of specs/ on every input.
 #![tactic(auto)]
 
-ghost use Rattle.std.specs.Prelude.{◌≡◌, ◌*◌, ◌<◌, ◌≤◌, min};
+ghost use Rattle.std.specs.Prelude.{◌≡◌, ◌*◌, min};
 ghost use Rattle.tape_feed.specs.FeedModel.{feed_after, called_of, fed_of};
 
 use constants::{DRAW_LEN, RECORD_LEN};
-use run_call::{Answer, Ran};
+use run_call::Ran;
 use tape_verdict::Feed;
 
-// Where k entries of a size end, within a length; no product, so that no count can overflow.
+// Where k entries of a size end, within a length.
 fn place(k: usize, size: usize, length: usize) -> usize
-    requires { 0 < size }
     ensures { result ≡ min (size * k) length }
 {
-    if k <= length / size {
-        return size * k;
-    }
-    length
+    size.saturating_mul(k).min(length)
 }
 
 // The run after a call.
+#[tactic(auto, unfolding(crate::specs::FeedModel::feed_after))]
 fn after(f: Feed, r: Ran) -> Feed
     ensures { result ≡ feed_after f r }
 {
-    let state = r.state;
-    let answer = r.answer;
-    let counts = r.counts;
     Feed {
-        state: state,
-        taken: std::num::wrapping_add_usize(f.taken, counts.taken),
-        records: std::num::wrapping_add_usize(f.records, counts.records),
-        answer: answer,
+        state: r.state,
+        taken: f.taken.wrapping_add(r.counts.taken),
+        records: f.records.wrapping_add(r.counts.records),
+        answer: r.answer,
     }
 }
 
@@ -49,9 +43,8 @@ fn call(
 {
     let a = place(f.taken, DRAW_LEN, draws.len());
     let b = place(f.records, RECORD_LEN, records.len());
-    let s = f.state;
     let r = run_call::run(
-        s,
+        f.state,
         mode_s,
         mode_ac,
         memory,
@@ -76,9 +69,8 @@ pub fn feed_noise(
 ) -> Feed
     ensures { record { feed = result; memory = memory.new; output = output.new; records = records.new } ≡ fed_of mode_s.now mode_ac.now draws.now noise.now (record { feed = f; memory = memory.old; output = output.old; records = records.old }) }
 {
-    let answer = f.answer;
-    match answer {
-        Answer::Refused(_) => f,
-        Answer::Stopped(_) => call(f, mode_s, mode_ac, memory, draws, noise, output, records),
+    match f.answer {
+        Err(_) => f,
+        Ok(_) => call(f, mode_s, mode_ac, memory, draws, noise, output, records),
     }
 }

@@ -5,17 +5,13 @@ ghost use Rattle.std.specs.Prelude.{◌≡◌, ◌++◌, ◌/◌, min, length, t
 ghost use Rattle.le_read.specs.LeBytes.{overwritten};
 ghost use Rattle.tape_floats.specs.Floats.{floats_of, float_bytes};
 
-use constants::least;
-
 // As many values as the bytes hold and there is room for; their number.
 pub fn floats(bytes: &[u8], out: &mut [f32]) -> usize
     ensures { (result ≡ min (length bytes.now / 4) (length out.old)) × (out.new ≡ floats_of result bytes.now ++ drop result out.old) }
 {
-    let n = least(bytes.len() / 4, out.len());
-    let mut k: usize = 0;
-    while k < n {
+    let n = (bytes.len() / 4).min(out.len());
+    for k in 0..n {
         out[k] = le_read_floats::f32_at(bytes, 4 * k);
-        k = k + 1;
     }
     n
 }
@@ -24,11 +20,9 @@ pub fn floats(bytes: &[u8], out: &mut [f32]) -> usize
 pub fn float_bytes(values: &[f32], out: &mut [u8]) -> usize
     ensures { (result ≡ min (length values.now) (length out.old / 4)) × (out.new ≡ overwritten out.old 0 (float_bytes (take result values.now))) }
 {
-    let n = least(values.len(), out.len() / 4);
-    let mut k: usize = 0;
-    while k < n {
+    let n = values.len().min(out.len() / 4);
+    for k in 0..n {
         le_write::put_f32(out, 4 * k, values[k]);
-        k = k + 1;
     }
     n
 }

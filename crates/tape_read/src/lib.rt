@@ -6,32 +6,22 @@ ghost use Rattle.io.specs.Counts.{IsPrefixLen};
 
 use tape_sections::{CHUNK_BYTES, CHUNK_LEN, DRAWS_OFFSET, LONGEST_HEAD_LEN, STDIN_FILENO};
 
-// All that was asked for, or nothing.
-fn all_or_none(size: usize, got: usize) -> usize
-    ensures { (result ≤ size) × (result < size → result ≡ 0) }
-{
-    if got < size { 0 } else { size }
-}
-
 // A part of known length; no byte is counted where there were fewer, or where there is no room for them.
 fn read_whole(size: usize, bytes: &mut [u8]) -> usize
     ensures { (result ≤ length bytes.new) × (result ≤ size) × (result < size → result ≡ 0) }
 {
-    if size <= bytes.len() {
-        let got = io::read_full(STDIN_FILENO, &mut bytes[..size]);
-        return all_or_none(size, got);
+    if bytes.len() < size {
+        return 0;
     }
-    0
+    let got = io::read_full(STDIN_FILENO, &mut bytes[..size]);
+    if got < size { 0 } else { size }
 }
 
-// Noise values, all that are wanted or none: none where there were fewer, where there is no room for them, and where more than 16,384 are wanted at once.
+// Noise values, all that are wanted or none, by their count, which is where a slice of them ends: none where there were fewer, where there is no room for them, and where more than 16,384 are wanted at once.
 pub fn read_values(want: usize, row: &mut [f32]) -> usize
     ensures { (result ≤ length row.new) × (result ≤ want) × (result < want → result ≡ 0) }
 {
-    if row.len() < want {
-        return 0;
-    }
-    if CHUNK_LEN < want {
+    if row.len() < want || CHUNK_LEN < want {
         return 0;
     }
     let mut bytes = [0u8; CHUNK_BYTES];

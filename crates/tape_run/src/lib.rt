@@ -7,7 +7,6 @@ ghost use Rattle.tape_theory.specs.Reported.{Reported, records_lent};
 
 use constants::{DRAW_LEN, MEMORY_LEN, PROTOTYPE_LEN};
 use std::io::Error;
-use tape_head::Beginning;
 use tape_sections::{DRAWS_OFFSET, LONGEST_HEAD_LEN, MAX_RECORDS_LEN};
 pub use tape_stream::Output;
 use tape_verdict::Outcome;
@@ -38,14 +37,14 @@ pub fn run_tape(samples: bool, records: &mut [u8; MAX_RECORDS_LEN], to: &mut Out
     let mut mode_ac = [0.0f32; PROTOTYPE_LEN];
     let mut memory = [0.0f32; MEMORY_LEN];
     match tape_head::head(&bytes[..got], &mut mode_s, &mut mode_ac, &mut memory) {
-        Beginning::Refused(number) => Outcome::Refused(number, 0),
-        Beginning::Run(state, n, count) => {
-            let end = DRAWS_OFFSET + DRAW_LEN * n as usize;
-            let f = tape_verdict::start(state);
+        Err(q) => Outcome::Refused(q, 0),
+        Ok(b) => {
+            let end = DRAWS_OFFSET + DRAW_LEN * b.draws as usize;
+            let f = tape_verdict::start(b.state);
             let mut own = copied(*records);
             let s = tape_stream::feed_section(
                 f,
-                count,
+                b.noise,
                 samples,
                 &bytes[DRAWS_OFFSET..end],
                 &mode_s,
@@ -54,8 +53,7 @@ pub fn run_tape(samples: bool, records: &mut [u8; MAX_RECORDS_LEN], to: &mut Out
                 &mut own,
                 to,
             );
-            let feed = s.feed;
-            let outcome = tape_verdict::reported(s.untaken, s.short, s.over, feed);
+            let outcome = tape_verdict::reported(s.untaken, s.short, s.over, s.feed);
             keep(tape_verdict::is_done(outcome), own, records);
             outcome
         }

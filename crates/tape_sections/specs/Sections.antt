@@ -1,9 +1,9 @@
 -- The four sections of a tape (SPECIFICATION 4.6): where the counts stand, when a section is right, and what stands before the noise.
+use Rattle.std.specs.Prelude.{Option, Some, None}
 use Rattle.std.specs.Prelude.{ℕ, ◌+◌, ◌*◌, cond, ◌&&◌, List, leb, length}
 use Rattle.constants.specs.Rate.{mode_s_taps, mode_ac_taps}
 use Rattle.le_read.specs.LeBytes.{read_at}
 use Rattle.settings.specs.Settings.{settings_length}
-use Rattle.tape_sections.specs.declared.Counted as Counted
 
 -- the most draws of a tape (SPECIFICATION 4.6)
 abbrev pub most_draws : ℕ
@@ -23,17 +23,17 @@ abbrev pub noise_offset : ℕ → ℕ → ℕ
 noise_offset sps n = draws_offset sps + 4 + 65 * n
 
 -- a count n at an offset, and n values of a size behind it
-unfoldable pub count_then : List ℕ → ℕ → ℕ → ℕ → ℕ → ℕ → Counted.Counted
-count_then tape at least most size n = cond (leb least n && leb n most && leb (at + 4 + size * n) (length tape)) (Counted.TheVariants.Of n) Counted.TheVariants.Wrong
+unfoldable pub count_then : List ℕ → ℕ → ℕ → ℕ → ℕ → ℕ → (Option ℕ)
+count_then tape at least most size n = cond (leb least n && leb n most && leb (at + 4 + size * n) (length tape)) (Some n) None
 
 -- the section whose count is at an offset: its count is from least to most, and its values lie on the tape
-unfoldable pub section_at : List ℕ → ℕ → ℕ → ℕ → ℕ → Counted.Counted
-section_at tape at least most size = read_at 4 (count_then tape at least most size) Counted.TheVariants.Wrong tape at
+unfoldable pub section_at : List ℕ → ℕ → ℕ → ℕ → ℕ → (Option ℕ)
+section_at tape at least most size = read_at 4 (count_then tape at least most size) None tape at
 
 -- how many bytes of a tape stand before its noise, as the first 12,139 say
-unfoldable pub length_then : ℕ → Counted.Counted → ℕ
-length_then sps (Counted.TheVariants.Of n) = draws_offset sps + 8 + 65 * n
-length_then sps Counted.TheVariants.Wrong = draws_offset sps + 4
+unfoldable pub length_then : ℕ → (Option ℕ) → ℕ
+length_then sps (Some n) = draws_offset sps + 8 + 65 * n
+length_then sps None = draws_offset sps + 4
 
 unfoldable pub head_length : ℕ → List ℕ → ℕ
 head_length sps tape = length_then sps (section_at tape (draws_offset sps) 0 most_draws 0)

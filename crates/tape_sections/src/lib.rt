@@ -54,43 +54,25 @@ pub const CHUNK_BYTES: usize = 65536;
 
 pub const CHUNK_OUTPUT_LEN: usize = 16386;
 
-// The count of a section, or that its count or its length is wrong.
-#[derive(Clone, Copy)]
-pub enum Counted {
-    Of(u64),
-    Wrong,
-}
-
 // Whether a count is from least to most, and n values of a size lie in the room behind it.
 fn fits(n: u64, least: u64, most: u64, size: u64, room: u64) -> bool
     requires { (size < 0x1_0000_0000) × (n < 0x1_0000_0000) }
     ensures { result ≡ (leb least n && leb n most && leb (size * n) room) }
 {
-    if n < least {
-        return false;
-    }
-    if most < n {
-        return false;
-    }
-    size * n <= room
+    least <= n && n <= most && size * n <= room
 }
 
 // The count at an offset, where it is from least to most and n values of a size lie behind it.
-pub fn section(tape: &[u8], at: usize, least: u64, most: u64, size: u32) -> Counted
+pub fn section(tape: &[u8], at: usize, least: u64, most: u64, size: u32) -> Option<u64>
     ensures { result ≡ section_at tape.now at least most size }
 {
-    if tape.len() < 4 {
-        return Counted::Wrong;
-    }
-    if tape.len() - 4 < at {
-        return Counted::Wrong;
-    }
-    let n = le_read_or_zero::u32_at(tape, at) as u64;
+    let n = u64::from(le_read::le_u32(tape, at)?);
     let room = (tape.len() - (at + 4)) as u64;
-    if fits(n, least, most, size as u64, room) {
-        return Counted::Of(n);
+    if fits(n, least, most, u64::from(size), room) {
+        Some(n)
+    } else {
+        None
     }
-    Counted::Wrong
 }
 
 // How many bytes of a tape stand before its noise, as its first 12,139 say.
@@ -99,7 +81,7 @@ pub fn head_length(tape: &[u8]) -> usize
     ensures lower_bound { (12139 ≤ result) × (result ≤ 38143) }
 {
     match section(tape, DRAWS_COUNT_OFFSET, 0, MAX_DRAWS, 0) {
-        Counted::Of(n) => SHORTEST_HEAD_LEN + DRAW_LEN * n as usize,
-        Counted::Wrong => DRAWS_OFFSET,
+        Some(n) => SHORTEST_HEAD_LEN + DRAW_LEN * n as usize,
+        None => DRAWS_OFFSET,
     }
 }

@@ -2,7 +2,6 @@
 // What is read and written is not stated, since it is not known; that the noise is cut as tape_theory/specs/PlainTape asks, is.
 #![tactic(auto)]
 
-ghost use Rattle.std.specs.Prelude.{◌≡◌, true, cond, ◌-◌, ◌≤◌, min};
 ghost use Rattle.tape_theory.specs.PlainTape.{FedCut};
 
 use constants::SAMPLE_RATE;
@@ -15,21 +14,6 @@ use tape_verdict::Feed;
 pub struct Output {
     pub stdout: Stdout,
     pub failure: Option<Error>,
-}
-
-fn least(a: u64, b: u64) -> u64
-    ensures { result ≡ min a b }
-{
-    if a < b { a } else { b }
-}
-
-fn difference(a: u64, b: u64) -> u64
-    ensures { result ≡ a - b }
-{
-    if a < b {
-        return 0;
-    }
-    a - b
 }
 
 // A line on standard error for each second of signal.
@@ -55,13 +39,11 @@ fn left_over(short: bool) -> bool {
 
 // The samples that a call wrote, from one number of samples to the next; true where standard output does not take them.
 fn write_samples(before: u64, after: u64, output: &[f32], to: &mut Output) -> bool {
-    let k = least(difference(after, before), 8193);
-    let n = least(2 * k, output.len() as u64) as usize;
+    let k = after.saturating_sub(before).min(8193) as usize;
+    let n = output.len().min(2 * k);
     let mut out = [0u8; 65544];
     tape_floats::float_bytes(&output[..n], &mut out);
-    let size = 4 * n;
-    let all: &[u8] = &out;
-    if let Err(e) = to.stdout.write_all(&all[..size]) {
+    if let Err(e) = to.stdout.write_all(&out[..4 * n]) {
         to.failure = Some(e);
         return true;
     }
@@ -71,29 +53,7 @@ fn write_samples(before: u64, after: u64, output: &[f32], to: &mut Output) -> bo
 
 // Where samples are asked for, they are written; true where standard output does not take them.
 fn put_samples(asked: bool, before: u64, after: u64, output: &[f32], to: &mut Output) -> bool {
-    if asked {
-        return write_samples(before, after, output, to);
-    }
-    false
-}
-
-fn either(a: bool, b: bool) -> bool
-    ensures { result ≡ cond a true b }
-{
-    if a {
-        return true;
-    }
-    b
-}
-
-// The values left after those wanted; none once the section is cut short.
-fn left_after(left: u64, want: u64, short: bool) -> u64
-    ensures { result ≡ cond short 0 (left - want) }
-{
-    if short {
-        return 0;
-    }
-    difference(left, want)
+    asked && write_samples(before, after, output, to)
 }
 
 // A run after its noise section; whether standard output does not take its samples; whether the section was cut short, by that or since there were fewer values; and whether bytes are left over behind it.
@@ -121,12 +81,9 @@ pub fn feed_section(
     ensures { FedCut mode_s.now mode_ac.now draws.now count (record { feed = first; memory = memory.old; records = records.old }) result.short (record { feed = result.feed; memory = memory.new; records = records.new }) }
 {
     let mut f = first;
-    let mut untaken = false;
-    let mut short = false;
     let mut left = count;
     let mut want: u64 = 0;
-    let mut turns: u64 = 1;
-    while 0 < turns {
+    loop {
         let mut row = [0.0f32; CHUNK_LEN];
         let mut output = [0.0f32; CHUNK_OUTPUT_LEN];
         let n = tape_read::read_values(want as usize, &mut row);
@@ -141,16 +98,17 @@ pub fn feed_section(
             &mut output,
             records,
         );
-        untaken = put_samples(samples, before, f.state.written, &output, to);
-        short = either((n as u64) < want, untaken);
-        left = left_after(left, want, short);
-        want = least(left, CHUNK_VALUES);
-        turns = least(want, 1);
-    }
-    Section {
-        feed: f,
-        untaken: untaken,
-        short: short,
-        over: left_over(short),
+        let untaken = put_samples(samples, before, f.state.written, &output, to);
+        let short = (n as u64) < want || untaken;
+        left = if short { 0 } else { left.saturating_sub(want) };
+        want = left.min(CHUNK_VALUES);
+        if want == 0 {
+            return Section {
+                feed: f,
+                untaken,
+                short,
+                over: left_over(short),
+            };
+        }
     }
 }

@@ -32,10 +32,10 @@ number_put n after k ds {s} {d} {e} {at} {a} {b} h f q r p t z =
     let l : length (decimal n) ≤ 20 = omega (arith, ap length (decimal_fewest k n f), length_digits k n, few_digits n k h f) in
     (byte_put after (omega arith) p' t z, omega (arith, p'.ends))
 
-pub hex_line_put : (b : List ℕ) (n : ℕ) {s d e : List ℕ} {at r : ℕ} → n ≤ length b → at + 2 * n < length s → d ≡ overwritten s at (hex (take n b)) → e ≡ overwritten d (at + 2 * n) (10 ∷ []) → r ≡ at + 2 * n + 1 → Put (hex_line (take n b)) s at e r
+pub hex_line_put : (b : List ℕ) {s d e : List ℕ} {at r : ℕ} → at + 2 * length b < length s → d ≡ overwritten s at (hex b) → e ≡ overwritten d (at + 2 * length b) (10 ∷ []) → r ≡ at + 2 * length b + 1 → Put (hex_line b) s at e r
 unfolding hex_line
-hex_line_put b n {s} {d} {e} {at} {r} h g p q z =
-    let l : length (hex (take n b)) ≡ 2 * n = length_hex (take n b) ∙ ap (λ (k : ℕ). 2 * k) (length-take-le n b h) in
+hex_line_put b {s} {d} {e} {at} {r} g p q z =
+    let l : length (hex b) ≡ 2 * length b = length_hex b in
     byte_put 10 (omega arith) (record { held = p; ends = omega arith }) q z
 
 length_hex_line : (b : List ℕ) → length (hex_line b) ≡ 2 * length b + 1
@@ -59,17 +59,17 @@ take_min w k l = go (leb w k) refl
         ap (λ (n : ℕ). take n l) {x = min w k} {y = k} (omega (arith, leb-false w k t))
         ∙ sym (take_all w (take k l) (omega (arith, leb-false w k t, length-take k l)))
 
-pub mode_s_put : (r : List ℕ) {s d : List ℕ} {at e n w : ℕ} → 66 ≤ length r → (get_or r 48 0 ≡ 6 → ⊥) → w ≡ get_or r 51 0 → n ≡ min w 14 → Put (hex_line (take n (take (length r - 52) (drop 52 r)))) s at d e
+pub mode_s_put : (r : List ℕ) {s d : List ℕ} {at e n w : ℕ} → 66 ≤ length r → (get_or r 48 0 ≡ 6 → ⊥) → w ≡ get_or r 51 0 → n ≡ min w 14 → Put (hex_line (take (52 + n - 52) (drop 52 r))) s at d e
     → Put (hex_line (message_of r)) s at d e × (e ≤ at + 29)
 unfolding message_of
 mode_s_put r {n = n} {w = w} l h v m p =
-    let q : take (length r - 52) (drop 52 r) ≡ drop 52 r = take_all (length r - 52) (drop 52 r) (simp length-drop (omega arith)) in
+    let q : 52 + n - 52 ≡ n = omega arith in
     let z : n ≤ 14 = omega arith in
     message_put
-    (ap (take n) q ∙ ap (λ (k : ℕ). take k (drop 52 r)) (m ∙ ap (λ (x : ℕ). min x 14) v)
+    (ap (λ (k : ℕ). take k (drop 52 r)) (q ∙ m ∙ ap (λ (x : ℕ). min x 14) v)
     ∙ take_min (get_or r 51 0) 14 (drop 52 r)
     ∙ sym (ap (λ (b : Bool). cond b (get_or r 53 0 ∷ get_or r 52 0 ∷ []) (take (get_or r 51 0) (take 14 (drop 52 r)))) (ne_eqb (get_or r 48 0) 6 h)))
-    (omega (arith, length-take-le n (take (length r - 52) (drop 52 r)) (omega (arith, ap length q, length-drop 52 r))))
+    (omega (arith, length-take (52 + n - 52) (drop 52 r)))
     p
 
 pub line_put : (r : List ℕ) {s d₁ d₂ d₃ d₄ : List ℕ} {at a b c e x y z : ℕ} → 66 ≤ length r → at + 92 ≤ length s → x ≡ number_at 8 r 40 → y ≡ get_or r 48 0 → z ≡ number_at 2 r 49
@@ -93,46 +93,36 @@ lines_more (suc k) r =
     ∙ sym (append_assoc (line_of r) (lines_of k (drop 66 r)) (line_of (drop (66 * k) (drop 66 r))))
     ∙ ap (λ (l : List ℕ). line_of r ++ lines_of k (drop 66 r) ++ line_of l) (drop-drop (66 * k) 66 r ∙ ap (λ (n : ℕ). drop n r) {x = 66 + 66 * k} {y = 66 * suc k} (omega arith))
 
--- after k steps: the lines of k records are put, and the rest of the records is at hand
-pub record Going (records : List ℕ) (n : ℕ) (s : List ℕ) (at : ℕ) (out rest : List ℕ) (end k : ℕ) : Type 0 where
-  pub count : k ≤ n
+-- after k steps: the lines of k records are put
+pub record Going (records s : List ℕ) (at : ℕ) (out : List ℕ) (end k : ℕ) : Type 0 where
   pub same : length out ≡ length s
-  pub left : rest ≡ drop (66 * k) records
-  pub room : 66 * (n - k) ≤ length rest
   pub text : Put (lines_of k records) s at out end
   pub bound : end ≤ at + 92 * k
 
-module _ (records : List ℕ) (n : ℕ) (s : List ℕ) (at : ℕ) where
-  pub first : 66 * n ≤ length records → Going records n s at s records at 0
+module _ (records s : List ℕ) (at : ℕ) where
+  pub first : Going records s at s at 0
   unfolding lines_of
-  first h = record { count = omega arith; same = refl; left = refl; room = omega arith; text = record { held = none_overwritten s at; ends = omega arith }; bound = omega arith }
+  first = record { same = refl; text = record { held = none_overwritten s at; ends = omega arith }; bound = omega arith }
 
-  pub next_line : (out rest : List ℕ) (end k : ℕ) {out' : List ℕ} {end' : ℕ} → k < n → at + 92 * n ≤ length s → Going records n s at out rest end k → Put (line_of rest) out end out' end' × (end' ≤ end + 92)
-      → Going records n s at out' (take (length rest - 66) (drop 66 rest)) end' (k + 1)
-  next_line out rest end k {out'} {end'} h r g p =
-      let g0 = g.count in
+  pub next_line : (n : ℕ) (out : List ℕ) (end k : ℕ) {out' : List ℕ} {end' : ℕ} → k < n → 66 * n ≤ length records → at + 92 * n ≤ length s → Going records s at out end k
+      → Put (line_of (take (length records - 66 * k) (drop (66 * k) records))) out end out' end' × (end' ≤ end + 92) → Going records s at out' end' (k + 1)
+  next_line n out end k {out'} {end'} h m r g p =
       let g1 = g.same in
-      let g2 = g.room in
       let g3 = g.bound in
       let p0 = p.0.ends in
       let p1 = p.1 in
-      let q : take (length rest - 66) (drop 66 rest) ≡ drop 66 rest = take_all (length rest - 66) (drop 66 rest) (simp length-drop (omega arith)) in
+      let q : take (length records - 66 * k) (drop (66 * k) records) ≡ drop (66 * k) records = take_all (length records - 66 * k) (drop (66 * k) records) (simp length-drop (omega arith)) in
       record {
-        count = omega arith;
         same = put_length (omega arith) p.0 ∙ g1;
-        left = q ∙ ap (drop 66) g.left ∙ drop-drop 66 (66 * k) records ∙ ap (λ (m : ℕ). drop m records) {x = 66 * k + 66} {y = 66 * (k + 1)} (omega arith);
-        room = omega (arith, ap length q, length-drop 66 rest);
         text =
             subst (λ (l : List ℕ). Put l s at out' end')
-            (ap (λ (l : List ℕ). lines_of k records ++ line_of l) g.left ∙ sym (lines_more k records) ∙ ap (λ (m : ℕ). lines_of m records) (sym (add-one k)))
+            (ap (λ (l : List ℕ). lines_of k records ++ line_of l) q ∙ sym (lines_more k records) ∙ ap (λ (m : ℕ). lines_of m records) (sym (add-one k)))
             (then_put (omega (arith, g.text.ends)) g.text p.0);
         bound = omega arith;
       }
 
-  pub last_line : (out rest : List ℕ) (end k : ℕ) → n ≤ k → Going records n s at out rest end k → Put (lines_of n records) s at out end × (end ≤ at + 92 * n)
-  last_line out rest end k h g =
-      let e : k ≡ n = omega (arith, g.count) in
-      subst (λ (m : ℕ). Put (lines_of m records) s at out end × (end ≤ at + 92 * m)) e (g.text, g.bound)
+  pub last_line : (n : ℕ) (out : List ℕ) (end k : ℕ) → k ≡ n → Going records s at out end k → Put (lines_of n records) s at out end × (end ≤ at + 92 * n)
+  last_line n out end k e g = subst (λ (m : ℕ). Put (lines_of m records) s at out end × (end ≤ at + 92 * m)) e (g.text, g.bound)
 
 -- text put at the start of a buffer
 abbrev pub Whole : List ℕ → List ℕ → List ℕ → ℕ → Type 0

@@ -4,10 +4,11 @@ use mathlib.Core.Path.{◌≡◌, refl, sym, ap, ◌∙◌}
 use mathlib.Core.List.{List, [], ◌∷◌, ◌++◌}
 use native.Mathlib.Omega.{arith}
 use native.Mathlib.Numerals.{add-one}
-use lib.ListN.{length, get_or, take, set, length-append}
-use lib.Seq.{take-suc, length-take-le}
+use lib.ListN.{length, get_or, take, drop, length-append}
+use lib.Seq.{take-suc, take_all, length-take-le}
+use borrow.Rule.Slice.PartMut.{put_mid}
+use Rattle.std.proofs.lemmas.Slice.{put_mid-paste}
 use Rattle.le_read.specs.LeBytes.{overwritten}
-use Rattle.le_read.proofs.Halves.{overwritten_one}
 use Rattle.le_read.proofs.RoundTrip.{length_overwritten}
 use Rattle.reply_record.proofs.Overwritten.{next}
 use Rattle.tape_text.specs.Text.{hex_digit, hex, Put}
@@ -41,13 +42,13 @@ hex_of_first s at b n k d e h m r p q =
     next s at (2 * k) (hex (take k b)) (hex (get_or b k 0 ∷ [])) d e l (omega arith) p q
     ∙ ap (overwritten s at) (sym (hex_append (take k b) (get_or b k 0 ∷ [])) ∙ ap hex (sym (ap (λ (n : ℕ). take n b) (add-one k) ∙ take-suc b k 0 (omega arith))))
 
--- one more byte, as it is
-pub next_of_first : (s : List ℕ) (at : ℕ) (b : List ℕ) (n k : ℕ) (d : List ℕ) → k < n → n ≤ length b → at + n ≤ length s → d ≡ overwritten s at (take k b) → set d (at + k) (get_or b k 0) ≡ overwritten s at (take (k + 1) b)
-next_of_first s at b n k d h m r p =
-    let l : length (take k b) ≡ k = length-take-le k b (omega arith) in
-    let z : length d ≡ length s = ap length p ∙ length_overwritten s at (take k b) (omega arith) in
-    next s at k (take k b) (get_or b k 0 ∷ []) d (set d (at + k) (get_or b k 0)) l (omega arith) p (overwritten_one d (at + k) (get_or b k 0) (omega arith))
-    ∙ ap (overwritten s at) (sym (ap (λ (n : ℕ). take n b) (add-one k) ∙ take-suc b k 0 (omega arith)))
+-- bytes copied over a part of as many
+pub mid_overwritten : (s : List ℕ) (at k : ℕ) (bs : List ℕ) → k ≡ length bs → put_mid at k s bs ≡ overwritten s at bs
+unfolding overwritten
+mid_overwritten s at k bs e =
+    put_mid-paste at k s bs bs k refl refl e
+    ∙ ap (λ (l : List ℕ). take at s ++ l ++ drop (at + k) s) (take_all k bs (omega arith))
+    ∙ ap (λ (n : ℕ). take at s ++ bs ++ drop (at + n) s) e
 
 -- a byte as two digits
 pub hex_byte : (s : List ℕ) (at b high low : ℕ) (d e : List ℕ) → at + 2 ≤ length s → high ≡ hex_digit (b / 16) → low ≡ hex_digit (b % 16) → d ≡ overwritten s at (high ∷ []) → e ≡ overwritten d (at + 1) (low ∷ []) → e ≡ overwritten s at (hex (b ∷ []))

@@ -1,13 +1,12 @@
 // The text that the tape program prints, put into a buffer. Each public function is equal to a definition of specs/ on every input.
 #![tactic(auto)]
 
-ghost use Rattle.std.specs.Prelude.{◌≡◌, ◌+◌, ◌*◌, ◌/◌, ◌≤◌, ◌<◌, length, get_or, take, ◌∷◌, []};
+ghost use Rattle.std.specs.Prelude.{◌≡◌, ◌+◌, ◌*◌, ◌/◌, ◌≤◌, ◌<◌, length, ◌∷◌, []};
 ghost use Rattle.io.specs.Counts.{IsPrefixLen};
 ghost use Rattle.le_read.specs.LeBytes.{overwritten};
 ghost use Rattle.tape_text.specs.Text.{number, hex_digit, hex, hex_line, message_of, line_of, lines_of, run_text, refused_text, Put, message_at, message_end};
 
-use constants::{RECORD_LEN, least};
-use le_read::wide;
+use constants::RECORD_LEN;
 
 // Room for the text of a tape.
 pub const TEXT_LEN: usize = 40960;
@@ -18,14 +17,12 @@ const MAX_LINES: usize = 400;
 // Bytes of the longest message in hexadecimal and its line's end.
 const MESSAGE_LEN: usize = 29;
 
+#[tactic(auto, unfolding(crate::specs::Text::hex_digit))]
 fn hex_digit(d: u8) -> u8
     requires { d < 16 }
     ensures { result ≡ hex_digit d }
 {
-    if d < 10 {
-        return 48 + d;
-    }
-    87 + d
+    if d < 10 { 48 + d } else { 87 + d }
 }
 
 // Bytes put at an offset; where they end.
@@ -33,12 +30,9 @@ fn put_bytes(from: &[u8], out: &mut [u8], at: usize) -> usize
     requires { at + length from.now ≤ length out.old }
     ensures { Put from.now out.old at out.new result }
 {
-    let mut k: usize = 0;
-    while k < from.len() {
-        out[at + k] = from[k];
-        k = k + 1;
-    }
-    at + k
+    let end = at + from.len();
+    out[at..end].copy_from_slice(from);
+    end
 }
 
 // A number in decimal and a byte after it, put at an offset; where they end.
@@ -58,32 +52,29 @@ fn put_hex_byte(b: u8, out: &mut [u8], at: usize)
     requires { at + 2 ≤ length out.old }
     ensures { out.new ≡ overwritten out.old at (hex (b ∷ [])) }
 {
-    let high = hex_digit(b / 16);
-    let low = hex_digit(b % 16);
-    out[at] = high;
-    out[at + 1] = low;
+    out[at] = hex_digit(b / 16);
+    out[at + 1] = hex_digit(b % 16);
 }
 
-// The first n bytes of a list in hexadecimal, put at an offset.
-fn put_hex(bytes: &[u8], n: usize, out: &mut [u8], at: usize)
-    requires { (n ≤ length bytes.now) × (at + 2 * n ≤ length out.old) }
-    ensures { out.new ≡ overwritten out.old at (hex (take n bytes.now)) }
+// Bytes in hexadecimal, put at an offset.
+fn put_hex(bytes: &[u8], out: &mut [u8], at: usize)
+    requires { at + 2 * length bytes.now ≤ length out.old }
+    ensures { out.new ≡ overwritten out.old at (hex bytes.now) }
 {
-    let mut k: usize = 0;
-    while k < n {
-        put_hex_byte(bytes[k], out, at + 2 * k);
-        k = k + 1;
+    for (k, b) in bytes.iter().enumerate() {
+        put_hex_byte(*b, out, at + 2 * k);
     }
 }
 
 // The same with the line's end; where it ends.
-fn put_hex_line(bytes: &[u8], n: usize, out: &mut [u8], at: usize) -> usize
-    requires { (n ≤ length bytes.now) × (at + 2 * n < length out.old) }
-    ensures { Put (hex_line (take n bytes.now)) out.old at out.new result }
+fn put_hex_line(bytes: &[u8], out: &mut [u8], at: usize) -> usize
+    requires { at + 2 * length bytes.now < length out.old }
+    ensures { Put (hex_line bytes.now) out.old at out.new result }
 {
-    put_hex(bytes, n, out, at);
-    out[at + 2 * n] = 10;
-    at + 2 * n + 1
+    put_hex(bytes, out, at);
+    let line_end = at + 2 * bytes.len();
+    out[line_end] = 10;
+    line_end + 1
 }
 
 // The message of a record and the line's end; Mode A/C as the four digits of its u16.
@@ -93,23 +84,21 @@ fn put_message(rec: &[u8], out: &mut [u8], at: usize) -> usize
 {
     if rec[48] == 6 {
         let data = [rec[53], rec[52]];
-        return put_hex_line(&data, 2, out, at);
+        return put_hex_line(&data, out, at);
     }
-    let n = least(wide(rec[51]) as usize, 14);
-    put_hex_line(&rec[52..], n, out, at)
+    let n = usize::from(rec[51]).min(14);
+    put_hex_line(&rec[52..52 + n], out, at)
 }
 
 // The same on any input: nothing is put where the record is not whole, or 29 bytes from the offset run past the end.
+#[tactic(auto, unfolding(crate::specs::Text::message_fits, crate::specs::Text::message_at, crate::specs::Text::message_end))]
 pub fn message_at(rec: &[u8], out: &mut [u8], at: usize) -> usize
     ensures { (result ≡ message_end rec.now out.old at) × (out.new ≡ message_at rec.now out.old at) }
 {
-    if rec.len() < RECORD_LEN {
+    if rec.len() < RECORD_LEN || !le_read::holds(out.len(), at, MESSAGE_LEN) {
         return at;
     }
-    if le_read::holds(out.len(), at, MESSAGE_LEN) {
-        return put_message(rec, out, at);
-    }
-    at
+    put_message(rec, out, at)
 }
 
 // The line of the record at the start of the bytes, put at an offset; where it ends.
@@ -118,8 +107,8 @@ fn put_line(rec: &[u8], out: &mut [u8], at: usize) -> usize
     ensures { Put (line_of rec.now) out.old at out.new result × (result ≤ at + 92) }
 {
     let a = put_number(le_read_or_zero::u64_at(rec, 40), 32, out, at);
-    let b = put_number(wide(rec[48]), 32, out, a);
-    let c = put_number(le_read_or_zero::u16_at(rec, 49) as u64, 32, out, b);
+    let b = put_number(u64::from(rec[48]), 32, out, a);
+    let c = put_number(u64::from(le_read_or_zero::u16_at(rec, 49)), 32, out, b);
     put_message(rec, out, c)
 }
 
@@ -128,13 +117,9 @@ fn put_lines(records: &[u8], n: usize, out: &mut [u8], at: usize) -> usize
     requires { (66 * n ≤ length records.now) × (at + 92 * n ≤ length out.old) }
     ensures { Put (lines_of n records.now) out.old at out.new result × (result ≤ at + 92 * n) }
 {
-    let mut rest = records;
     let mut end = at;
-    let mut k: usize = 0;
-    while k < n {
-        end = put_line(rest, out, end);
-        rest = &rest[RECORD_LEN..];
-        k = k + 1;
+    for k in 0..n {
+        end = put_line(&records[RECORD_LEN * k..], out, end);
     }
     end
 }
@@ -144,7 +129,7 @@ pub fn run_text(records: &[u8], count: usize, samples: u64, out: &mut [u8; TEXT_
     ensures value { (result ≡ length (run_text records.now count samples)) × (out.new ≡ overwritten out.old 0 (run_text records.now count samples)) }
     ensures prefix_len { IsPrefixLen result out.new }
 {
-    let n = least(count, least(records.len() / RECORD_LEN, MAX_LINES));
+    let n = count.min((records.len() / RECORD_LEN).min(MAX_LINES));
     let a = put_bytes(b"first type count message\n", out, 0);
     let b = put_lines(records, n, out, a);
     let c = put_bytes(b"samples ", out, b);

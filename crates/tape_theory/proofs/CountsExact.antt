@@ -1,9 +1,12 @@
 -- From a run that nothing has been fed, over any chunks, no more draws are taken than the tape has, and no more records written than draws taken (`in-tape`).
 -- So the counts of a run, which `feed_after` keeps modulo 2^64, are plain sums (`counts-exact`). The bytes of a tape's draws are taken to be fewer than 2^64, as those of any slice are.
+use Rattle.std.specs.Prelude.{Option, Some, None}
+use Rattle.std.specs.Prelude.{Result, Ok, Err}
+use Rattle.refusals.specs.declared.Refusal.{Refusal}
+use Rattle.run_steps.specs.declared.Stop.{Stop}
 use Prim.Native.Nat.{ℕ, zero, suc, ◌+◌, ◌-◌, ◌*◌, ◌/◌, ◌^◌, ◌≤◌, ◌<◌}
 use mathlib.Core.Path.{◌≡◌, ap}
 use mathlib.Core.List.{List, [], ◌∷◌}
-use mathlib.Core.Option.{Option, none, some}
 use native.Mathlib.Omega.{arith}
 use native.Mathlib.Nat.{mod-eq_of_lt}
 use lib.ListN.{length, drop, length-drop}
@@ -17,8 +20,6 @@ use Rattle.run_call_model.specs.Progress as Theory
 use Rattle.run_theory.proofs.StepFacts.{Says, step_says}
 use Rattle.run_call_model.proofs.FlatLists.{length_draws}
 use Rattle.run_call.specs.declared.State.{State}
-use Rattle.run_call.specs.declared.Ran.{Ran}
-use Rattle.run_call.specs.declared.Answer as Answer
 use Rattle.run_call.specs.Buffers.{Left}
 use Rattle.run_call.specs.CallModel.{left_by, call_left, refused_by, run_by, call_refusal, run_left}
 use Rattle.run_call.specs.StateGenerator.{gen_of}
@@ -87,8 +88,8 @@ module _ (s : State) (mode_s mode_ac memory : List Float) (draws : List ℕ) (no
   run_within = go (call_refusal s mode_s mode_ac memory draws noise output records)
     where
       go : (x : Option Bench.Refusal) → CallWithin draws (run_by s memory output records (call_left s mode_s mode_ac memory draws noise output records) x)
-      go none = call_within
-      go (some q) = (omega arith, omega arith)
+      go None = call_within
+      go (Some q) = (omega arith, omega arith)
 
 -- ---- any chunks
 module _ (mode_s mode_ac : List Float) (draws : List ℕ) (few : length draws < 2 ^ 64) where
@@ -115,10 +116,10 @@ module _ (mode_s mode_ac : List Float) (draws : List ℕ) (few : length draws < 
       let e = length-drop (65 * d.feed.taken) draws in
       record { draws_in_lem = omega (arith, x.0, w.0, e, h.draws_in_lem); records_in_lem = omega (arith, x.0, x.1, w.1, h.records_in_lem) }
 
-  fed_in : (d : Held) (c : Chunk) → InTape d → (a : Answer.Answer) → InTape (keep (fed_then mode_s mode_ac draws c.noise (lend c d) a))
+  fed_in : (d : Held) (c : Chunk) → InTape d → (a : (Result Stop Refusal)) → InTape (keep (fed_then mode_s mode_ac draws c.noise (lend c d) a))
   unfolding fed_then lend keep
-  fed_in d c h (Answer.TheVariants.Stopped w) = called_in d c h
-  fed_in d c h (Answer.TheVariants.Refused q) = h
+  fed_in d c h (Ok w) = called_in d c h
+  fed_in d c h (Err q) = h
 
   all_in : (cs : List Chunk) (d : Held) → InTape d → InTape (fed_all mode_s mode_ac draws d cs)
   unfolding fed_all fed_of lend

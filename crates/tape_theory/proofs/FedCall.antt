@@ -1,9 +1,10 @@
 -- One chunk of a tape's noise, fed to a run that stands where the machine and the plain bench do: it is refused for its noise alone (`out_of_range`), and else the run stands where they do after the call (`quiet`).
 -- So what holds at the end, over a chunk and at a refusal holds of any chunks from what opening leaves (`all-fed`).
+use Rattle.std.specs.Prelude.{Option, Some, None}
+use Rattle.std.specs.Prelude.{Ok, Err}
 use Prim.Native.Nat.{ℕ, zero, suc, ◌+◌, ◌-◌, ◌*◌, ◌/◌, ◌%◌, ◌^◌, ◌≤◌, ◌<◌}
 use mathlib.Core.Bool.{Bool, true, false, cond, ◌||◌}
 use mathlib.Core.List.{List, [], ◌∷◌, ◌++◌, map, append-nil, append_assoc}
-use mathlib.Core.Option.{Option, none, some}
 use mathlib.Core.Path.{◌≡◌, refl, sym, ap, ◌∙◌, subst}
 use native.Mathlib.Omega.{arith}
 use native.Mathlib.Nat.{mod-eq_of_lt}
@@ -26,7 +27,6 @@ use Rattle.run_theory.proofs.Reached.{reached_first}
 use Rattle.run_theory.proofs.Refusals.{accepted_draws, accepted_if}
 use Rattle.run_call_model.proofs.Counted.{Moved, moved, Counted, counted}
 use Rattle.run_call.specs.declared.State.{State}
-use Rattle.run_call.specs.declared.Answer as Answer
 use Rattle.run_call.specs.StateGenerator.{gen_of}
 use Rattle.run_call.specs.Given.{stop_given, refusal_given}
 use Rattle.run_call.specs.MachineModel.{state_of, ran_given, left_given}
@@ -54,17 +54,17 @@ module _ (G : Generator) where
   open G use {Value, out_of_range}
 
   abbrev pub Reads : Option Bench.Refusal → Bool → Type 0
-  Reads none b = b ≡ false
-  Reads (some Bench.wrong_length) b = ⊥
-  Reads (some (Bench.wrong_draw d f)) b = ⊥
-  Reads (some (Bench.wrong_noise p)) b = b ≡ true
+  Reads None b = b ≡ false
+  Reads (Some Bench.wrong_length) b = ⊥
+  Reads (Some (Bench.wrong_draw d f)) b = ⊥
+  Reads (Some (Bench.wrong_noise p)) b = b ≡ true
 
   pub out_of_range_read : (j : ℕ) (vs : List Value) → Reads (first_out_of_range G j vs) (out_of_range_in G vs)
   unfolding out_of_range_in
   out_of_range_read j [] = refl
   out_of_range_read j (v ∷ vs) = go (out_of_range v) (out_of_range_read (suc j) vs)
     where
-      go : (b : Bool) → Reads (first_out_of_range G (suc j) vs) (out_of_range_in G vs) → Reads (cond b (some (Bench.wrong_noise j)) (first_out_of_range G (suc j) vs)) (b || out_of_range_in G vs)
+      go : (b : Bool) → Reads (first_out_of_range G (suc j) vs) (out_of_range_in G vs) → Reads (cond b (Some (Bench.wrong_noise j)) (first_out_of_range G (suc j) vs)) (b || out_of_range_in G vs)
       go true h = refl
       go false h = h
 
@@ -147,7 +147,7 @@ module _ (T : Tape) where
   -- a run that was fed, where the machine and the bench stand at z and b and the last call stopped with w
   abbrev pub standing : Machine.State G nan → Bench G → Bench.Stop → Held
   standing z b w = record {
-    feed = record { state = state_of state mode_s mode_ac z; taken = length b.taken; records = length (plain_records G b.taken); answer = Answer.TheVariants.Stopped (stop_given w) };
+    feed = record { state = state_of state mode_s mode_ac z; taken = length b.taken; records = length (plain_records G b.taken); answer = Ok (stop_given w) };
     memory = z.memory;
     records = over (plain_lines G b.taken) room;
   }
@@ -191,11 +191,11 @@ module _ (T : Tape) where
         whole_draws : eqb (length (drop (65 * k) draws) % 65) 0 ≡ true
         whole_draws = eq-eqb (length (drop (65 * k) draws) % 65) 0 (omega (arith, length-drop (65 * k) draws, whole))
 
-    refused_for : Bench.refusal_of G z.time (some z.mark) call ≡ first_out_of_range G 0 c.noise
+    refused_for : Bench.refusal_of G z.time (Some z.mark) call ≡ first_out_of_range G 0 c.noise
     refused_for =
-        ap (λ (t : G.Time). Bench.refusal_of G t (some z.mark) call) h.time
+        ap (λ (t : G.Time). Bench.refusal_of G t (Some z.mark) call) h.time
         ∙ refusal_alike G laws (time_of G G.t0 b.taken) b.mark z.mark call at.reached.good h.mark
-        ∙ (λ i. cond (lengths_right i) (some Bench.wrong_length) (Bench.or_else G (accepted_if G (time_of G G.t0 b.taken) b.mark (from k) at.accepted i) (first_out_of_range G 0 c.noise)))
+        ∙ (λ i. cond (lengths_right i) (Some Bench.wrong_length) (Bench.or_else G (accepted_if G (time_of G G.t0 b.taken) b.mark (from k) at.accepted i) (first_out_of_range G 0 c.noise)))
 
     -- a chunk is a call of the machine
     fed_once : (x : Option Bench.Refusal) → first_out_of_range G 0 c.noise ≡ x
@@ -210,19 +210,19 @@ module _ (T : Tape) where
     -- a refused one leaves the run as it is, but for its answer
     abbrev pub refused_at : ℕ → Held
     refused_at p = record {
-      feed = record { state = state_of state mode_s mode_ac z; taken = k; records = r; answer = Answer.TheVariants.Refused (refusal_given (Bench.wrong_noise p)) };
+      feed = record { state = state_of state mode_s mode_ac z; taken = k; records = r; answer = Err (refusal_given (Bench.wrong_noise p)) };
       memory = z.memory;
       records = over (plain_lines G b.taken) room;
     }
 
-    pub out_of_range : (p : ℕ) → first_out_of_range G 0 c.noise ≡ some (Bench.wrong_noise p)
+    pub out_of_range : (p : ℕ) → first_out_of_range G 0 c.noise ≡ Some (Bench.wrong_noise p)
         → fed_of mode_s mode_ac draws c.noise (lend c (standing z b w))
         ≡ lend c (refused_at p)
     unfolding lend fed_after feed_after left_given ran_given
     out_of_range p e =
-        fed_once (some (Bench.wrong_noise p)) e
+        fed_once (Some (Bench.wrong_noise p)) e
         ∙ (λ i. record {
-          feed = record { state = state_of state mode_s mode_ac z; taken = same k (omega (arith, in_tape, few)) i; records = same r (omega (arith, in_tape, few, few_records G b.taken)) i; answer = Answer.TheVariants.Refused (refusal_given (Bench.wrong_noise p)) };
+          feed = record { state = state_of state mode_s mode_ac z; taken = same k (omega (arith, in_tape, few)) i; records = same r (omega (arith, in_tape, few, few_records G b.taken)) i; answer = Err (refusal_given (Bench.wrong_noise p)) };
           memory = z.memory;
           output = c.output;
           records = take-append-drop (66 * r) (over (plain_lines G b.taken) room) i;
@@ -266,21 +266,21 @@ module _ (T : Tape) where
         ∙ ap (λ (ls : List ℕ). over ls room) (sym (join_append (plain_records G b.taken) rz.records) ∙ ap join kept.records)
 
     -- a chunk that is not refused
-    pub quiet : first_out_of_range G 0 c.noise ≡ none → keep (fed_of mode_s mode_ac draws c.noise (lend c (standing z b w))) ≡ standing rz.state rb.bench rb.stop
+    pub quiet : first_out_of_range G 0 c.noise ≡ None → keep (fed_of mode_s mode_ac draws c.noise (lend c (standing z b w))) ≡ standing rz.state rb.bench rb.stop
     unfolding keep fed_after feed_after left_given ran_given
     quiet e =
-        ap keep (fed_once none e)
+        ap keep (fed_once None e)
         ∙ (λ i. record {
-          feed = record { state = state_of state mode_s mode_ac rz.state; taken = taken_is i; records = records_is i; answer = Answer.TheVariants.Stopped (stop_given (kept.stop i)) };
+          feed = record { state = state_of state mode_s mode_ac rz.state; taken = taken_is i; records = records_is i; answer = Ok (stop_given (kept.stop i)) };
           memory = rz.state.memory;
           records = buffer_is i;
         })
 
     -- the samples that it brings
-    pub sampled : first_out_of_range G 0 c.noise ≡ none → (let f = fed_of mode_s mode_ac draws c.noise (lend c (standing z b w)) in take (2 * (f.feed.state.written - z.written)) f.output) ≡ flatten rz.samples
+    pub sampled : first_out_of_range G 0 c.noise ≡ None → (let f = fed_of mode_s mode_ac draws c.noise (lend c (standing z b w)) in take (2 * (f.feed.state.written - z.written)) f.output) ≡ flatten rz.samples
     unfolding fed_after feed_after left_given ran_given
     sampled e =
-        ap (λ (f : Fed). take (2 * (f.feed.state.written - z.written)) f.output) (fed_once none e)
+        ap (λ (f : Fed). take (2 * (f.feed.state.written - z.written)) f.output) (fed_once None e)
         ∙ take_over (2 * (rz.state.written - z.written)) (flatten rz.samples) c.output
         (length_flatten rz.samples
         ∙ omega (arith, kept.matches.written, h.written, ap length m.used, length-append b.used m.us, ap length m.noise, length-append m.us rb.rest.noise, n.noise, ap (λ (x : Remaining G). length x.noise) kept.rest))
@@ -318,10 +318,10 @@ module _ (T : Tape) where
   module _ (P : Machine.State G nan → Bench G → Bench.Stop → List (NoisePair G) → List Chunk → Type 0)
       (at_end : (z : Machine.State G nan) (b : Bench G) (w : Bench.Stop) (vs : List (NoisePair G)) → Matches G laws nan b z → Stream.Fed G laws tape w b (from (length b.taken)) vs → P z b w vs [])
       (on_in_range : (z : Machine.State G nan) (b : Bench G) (w : Bench.Stop) (c : Chunk) (cs : List Chunk) (vs : List (NoisePair G)) (h : Matches G laws nan b z) (roomy : Roomy c) (at : Stream.At G laws tape b (from (length b.taken)) vs)
-      → pairs (noise_in (c ∷ cs)) ≡ pairs c.noise ++ pairs (noise_in cs) → first_out_of_range G 0 c.noise ≡ none
+      → pairs (noise_in (c ∷ cs)) ≡ pairs c.noise ++ pairs (noise_in cs) → first_out_of_range G 0 c.noise ≡ None
       → P (rz z b w c vs h roomy at).state (rb z b w c vs h roomy at).bench (rb z b w c vs h roomy at).stop (vs ++ pairs c.noise) cs → P z b w vs (c ∷ cs))
       (on_out_of_range : (z : Machine.State G nan) (b : Bench G) (w : Bench.Stop) (c : Chunk) (cs : List Chunk) (vs : List (NoisePair G)) (h : Matches G laws nan b z) (roomy : Roomy c) (at : Stream.At G laws tape b (from (length b.taken)) vs)
-      → (p : ℕ) → first_out_of_range G 0 c.noise ≡ some (Bench.wrong_noise p) → P z b w vs (c ∷ cs)) where
+      → (p : ℕ) → first_out_of_range G 0 c.noise ≡ Some (Bench.wrong_noise p) → P z b w vs (c ∷ cs)) where
     abbrev Goes : List Chunk → Type 0
     Goes cs = (z : Machine.State G nan) (b : Bench G) (w : Bench.Stop) (vs : List (NoisePair G)) → Matches G laws nan b z → Stream.Fed G laws tape w b (from (length b.taken)) vs → P z b w vs cs
 
@@ -330,12 +330,12 @@ module _ (T : Tape) where
     one_chunk c cs later cut z b w vs h roomy at after = go (first_out_of_range G 0 c.noise) refl (out_of_range_read G 0 c.noise)
       where
         go : (x : Option Bench.Refusal) → first_out_of_range G 0 c.noise ≡ x → Reads G x (out_of_range_in G c.noise) → P z b w vs (c ∷ cs)
-        go none e q =
+        go None e q =
             on_in_range z b w c cs vs h roomy at (cut_on c cs cut).2 e
             (later (rz z b w c vs h roomy at).state (rb z b w c vs h roomy at).bench (rb z b w c vs h roomy at).stop (vs ++ pairs c.noise) (kept z b w c vs h roomy at).matches (after_from z b w c vs h roomy at after))
-        go (some Bench.wrong_length) e q = absurd q
-        go (some (Bench.wrong_draw d f)) e q = absurd q
-        go (some (Bench.wrong_noise p)) e q = on_out_of_range z b w c cs vs h roomy at p e
+        go (Some Bench.wrong_length) e q = absurd q
+        go (Some (Bench.wrong_draw d f)) e q = absurd q
+        go (Some (Bench.wrong_noise p)) e q = on_out_of_range z b w c cs vs h roomy at p e
 
     rest_fed : (cs : List Chunk) → Cut cs → Goes cs
     rest_fed [] cut z b w vs h f = at_end z b w vs h f
@@ -344,15 +344,15 @@ module _ (T : Tape) where
         one_chunk c cs (rest_fed cs (cut_on c cs cut).1) cut z b w vs h roomy f.at (after_on z b w c vs h roomy f.at f)
 
     -- from what opening leaves, over one chunk and any others
-    pub all_fed : Bench.first_fault G 0 tape ≡ none → (c : Chunk) (cs : List Chunk) → Cut (c ∷ cs) → P (Machine.opened G nan) (bench0 G) Bench.wants_noise [] (c ∷ cs)
+    pub all_fed : Bench.first_fault G 0 tape ≡ None → (c : Chunk) (cs : List Chunk) → Cut (c ∷ cs) → P (Machine.opened G nan) (bench0 G) Bench.wants_noise [] (c ∷ cs)
     all_fed clean c cs cut =
         let roomy = (cut_on c cs cut).0 in
         one_chunk c cs (rest_fed cs (cut_on c cs cut).1) cut (Machine.opened G nan) (bench0 G) Bench.wants_noise [] (matches_first G laws nan) roomy at
         (after_first (Machine.opened G nan) (bench0 G) Bench.wants_noise c [] (matches_first G laws nan) roomy at refl)
       where
-        not_refused : (ds : List G.Draw) → Bench.first_fault G 0 ds ≡ none → Bench.draw_refusal G G.t0 none ds ≡ none
+        not_refused : (ds : List G.Draw) → Bench.first_fault G 0 ds ≡ None → Bench.draw_refusal G G.t0 None ds ≡ None
         not_refused [] e = refl
         not_refused (d ∷ ds) e = e
 
         at : Stream.At G laws tape (bench0 G) (from 0) []
-        at = record { reached = reached_first G laws; accepted = accepted_draws G G.t0 none tape (not_refused tape clean); draws = refl; unused = []; noise = refl }
+        at = record { reached = reached_first G laws; accepted = accepted_draws G G.t0 None tape (not_refused tape clean); draws = refl; unused = []; noise = refl }

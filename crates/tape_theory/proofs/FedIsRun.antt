@@ -1,11 +1,12 @@
 -- Feeding a run its noise in any chunks makes a list of run calls from where it stands, each given state, prototypes and memory as the last left them (`fed-runs`), and the run yields what those calls leave (`fed-all`).
 -- So an opened run, fed in any chunks, is a list of calls of which `run_theorem/specs/OpenedRuns` speaks (`fed-opened`).
+use Rattle.std.specs.Prelude.{Result, Ok, Err}
+use Rattle.run_steps.specs.declared.Stop.{Stop}
 use Prim.Native.Nat.{ℕ}
 use mathlib.Core.Path.{◌≡◌, refl, sym, ap, ◌∙◌}
 use mathlib.Core.List.{List, [], ◌∷◌, map}
 use lib.Ieee.{Float}
 use Rattle.refusals.specs.declared.Refusal as Refusal
-use Rattle.run_call.specs.declared.Answer as Answer
 use Rattle.run_call.specs.Buffers.{Left}
 use Rattle.run_call.specs.Calls.{runs_left}
 use Rattle.run_open_checks.specs.Opening as Opening
@@ -18,25 +19,25 @@ use Rattle.tape_theory.specs.Fed.{Held, begun, Chunk, lend, keep, fed_all, lent_
 
 module _ (mode_s mode_ac : List Float) (draws : List ℕ) where
   -- the calls of a feed are run calls, call after call
-  pub fed_runs : (cs : List Chunk) (a : Answer.Answer) (d : Held) → runs_left d.feed.state mode_s mode_ac d.memory (lents mode_s mode_ac draws cs a d) ≡ lefts mode_s mode_ac draws cs a d
+  pub fed_runs : (cs : List Chunk) (a : (Result Stop Refusal.Refusal)) (d : Held) → runs_left d.feed.state mode_s mode_ac d.memory (lents mode_s mode_ac draws cs a d) ≡ lefts mode_s mode_ac draws cs a d
   unfolding runs_left lents lefts lent_for left_for held_after keep fed_after feed_after
   fed_runs [] a d = refl
-  fed_runs (c ∷ cs) (Answer.TheVariants.Refused q) d = refl
-  fed_runs (c ∷ cs) (Answer.TheVariants.Stopped w) d =
+  fed_runs (c ∷ cs) (Err q) d = refl
+  fed_runs (c ∷ cs) (Ok w) d =
       ap (λ (ls : List Left). left_for mode_s mode_ac draws d c ∷ ls) (fed_runs cs (left_for mode_s mode_ac draws d c).ran.answer (held_after mode_s mode_ac draws d (left_for mode_s mode_ac draws d c)))
 
   -- once refused, nothing changes
-  pub refused_stays : (cs : List Chunk) (q : Refusal.Refusal) (d : Held) → d.feed.answer ≡ Answer.TheVariants.Refused q → fed_all mode_s mode_ac draws d cs ≡ d
+  pub refused_stays : (cs : List Chunk) (q : Refusal.Refusal) (d : Held) → d.feed.answer ≡ Err q → fed_all mode_s mode_ac draws d cs ≡ d
   unfolding fed_all fed_of fed_then lend keep
   refused_stays [] q d e = refl
   refused_stays (c ∷ cs) q d e = ap (λ (x : Fed). fed_all mode_s mode_ac draws (keep x) cs) (ap (fed_then mode_s mode_ac draws c.noise (lend c d)) e) ∙ refused_stays cs q d e
 
   -- the run yields what the calls leave
-  pub fed_all_lem : (cs : List Chunk) (a : Answer.Answer) (d : Held) → d.feed.answer ≡ a → fed_all mode_s mode_ac draws d cs ≡ feed_lefts mode_s mode_ac draws d (lefts mode_s mode_ac draws cs a d)
+  pub fed_all_lem : (cs : List Chunk) (a : (Result Stop Refusal.Refusal)) (d : Held) → d.feed.answer ≡ a → fed_all mode_s mode_ac draws d cs ≡ feed_lefts mode_s mode_ac draws d (lefts mode_s mode_ac draws cs a d)
   unfolding fed_all lefts feed_lefts left_for held_after keep lend fed_of fed_then called_of fed_after feed_after
   fed_all_lem [] a d e = refl
-  fed_all_lem (c ∷ cs) (Answer.TheVariants.Refused q) d e = refused_stays (c ∷ cs) q d e
-  fed_all_lem (c ∷ cs) (Answer.TheVariants.Stopped w) d e =
+  fed_all_lem (c ∷ cs) (Err q) d e = refused_stays (c ∷ cs) q d e
+  fed_all_lem (c ∷ cs) (Ok w) d e =
       ap (λ (x : Fed). fed_all mode_s mode_ac draws (keep x) cs) (ap (fed_then mode_s mode_ac draws c.noise (lend c d)) e)
       ∙ fed_all_lem cs (left_for mode_s mode_ac draws d c).ran.answer (held_after mode_s mode_ac draws d (left_for mode_s mode_ac draws d c)) refl
 

@@ -1,9 +1,11 @@
 -- `plain-tape`: what is claimed of a tape holds of each tape whose head begins a run: fed its noise in any cut, it ends, prints and gives what the plain run on all its draws and noise does (`PlainTape` of specs/).
 -- `text-alike`, `samples-alike`: so two ways of cutting print and give the same. `section-ends`: so what `tape_stream::feed_section` leaves ends as the plain run does.
+use Rattle.std.specs.Prelude.{Option, Some, None, Result, Ok, Err}
+use Rattle.refusals.specs.declared.Refusal.{Refusal}
+use Rattle.refusals.specs.declared.Refusal.TheVariants.{Tape as TapeRefusal}
 use Prim.Native.Nat.{ℕ, ◌+◌, ◌*◌, ◌/◌, ◌≤◌}
 use mathlib.Core.Bool.{Bool, true, false, cond}
 use mathlib.Core.List.{List, ◌∷◌}
-use mathlib.Core.Option.{none}
 use mathlib.Core.Path.{◌≡◌, refl, sym, ap, ◌∙◌, subst}
 use native.Mathlib.Omega.{arith}
 use lib.ListN.{length, take, drop, length-drop}
@@ -14,7 +16,6 @@ use Rattle.le_read.specs.LeBytes.{le_at, read_at, inside}
 use Rattle.pulse_shape.specs.Prototype.{mode_s_prototype, mode_ac_prototype}
 use Rattle.pulse_shape.proofs.Whole.{length_prototype}
 use Rattle.draw.specs.Fault.{first_fault}
-use Rattle.draw.specs.declared.DrawFault as DrawFault
 use Rattle.run_theory.specs.Generator.{Generator}
 use Rattle.run_theory.specs.PlainBench as Bench
 use Rattle.run_theory.specs.Laws.{Laws}
@@ -25,17 +26,13 @@ use Rattle.run_call_checks.specs.ChecksModel.{fault_read}
 use Rattle.run_call_checks.proofs.Draws.{fault_same}
 use Rattle.run_steps.specs.declared.Stop as Stop
 use Rattle.run_call.specs.declared.State.{State}
-use Rattle.run_call.specs.declared.Answer as Answer
 use Rattle.run_call.specs.StateGenerator.{filters_of, gen_of}
 use Rattle.run_call.specs.Given.{stop_given}
-use Rattle.run_open_checks.specs.declared.Opened as Opened
 use Rattle.run_open_checks.specs.Opening as Opening
 use Rattle.run_open_checks.proofs.WhatIsOpened.{opened_run_in_range, opened_first}
-use Rattle.tape_sections.specs.declared.Counted as Counted
 use Rattle.tape_sections.specs.Sections.{section_at}
-use Rattle.tape_head.specs.declared.Early as Early
-use Rattle.tape_head.specs.declared.Beginning as Beginning
-use Rattle.tape_head.specs.Head.{tape_fault, noise_then, fault_then, draws_then, opened_then, taps_s, taps_ac, settings_bytes, opened_from, early_of, early_then, left_then, beginning_of, head_of}
+use Rattle.tape_head.specs.declared.Beginning.{Beginning}
+use Rattle.tape_head.specs.Head.{run_of, noise_then, fault_then, draws_then, opened_then, taps_s, taps_ac, settings_bytes, opened_from, early_of, early_then, left_then, beginning_of, head_of}
 use Rattle.tape_head.proofs.Within.{head_within}
 use Rattle.tape_verdict.specs.Verdict.{start_of}
 use Rattle.tape_theory.specs.Fed.{Held, Chunk, begun, fed_all, samples_fed}
@@ -50,36 +47,36 @@ module _ (tape : List ℕ) (lent : Opening.OpenBuffers) where
   draw_bytes n = take (65 * n) (drop 12139 tape)
 
   -- ---- what a head that begins a run has shown: opening answers that run, and no draw is at fault
-  Begins : Beginning.Beginning → Type 0
-  Begins (Beginning.TheVariants.Run s n count) = (opened_from four tape lent ≡ Opened.TheVariants.Run s) × (first_fault s.rates s.distributions (draw_bytes n) ≡ DrawFault.TheVariants.None)
-  Begins (Beginning.TheVariants.Refused k) = Unit {0}
+  Begins : (Result Beginning Refusal) → Type 0
+  Begins (Ok b) = (opened_from four tape lent ≡ Ok b.state) × (first_fault b.state.rates b.state.distributions (draw_bytes b.draws) ≡ None)
+  Begins (Err q) = Unit {0}
 
-  module _ (s : State) (opens : opened_from four tape lent ≡ Opened.TheVariants.Run s) where
-    fault_begins : (n : ℕ) (f : DrawFault.DrawFault) → first_fault s.rates s.distributions (draw_bytes n) ≡ f → Begins (fault_then four tape s n f)
+  module _ (s : State) (opens : opened_from four tape lent ≡ Ok s) where
+    fault_begins : (n : ℕ) (f : (Option (ℕ × ℕ))) → first_fault s.rates s.distributions (draw_bytes n) ≡ f → Begins (fault_then four tape s n f)
     unfolding fault_then noise_then read_at Begins
-    fault_begins n DrawFault.TheVariants.None e = go (inside 4 tape (12139 + 65 * n))
+    fault_begins n None e = go (inside 4 tape (12139 + 65 * n))
       where
-        go : (b : Bool) → Begins (cond b (Beginning.TheVariants.Run s n (le_at 4 tape (12139 + 65 * n))) tape_fault)
+        go : (b : Bool) → Begins (cond b (run_of s n (le_at 4 tape (12139 + 65 * n))) (Err TapeRefusal))
         go true = (opens, e)
         go false = tt
-    fault_begins n (DrawFault.TheVariants.At k field) e = tt
+    fault_begins n (Some (k, field)) e = tt
 
-    draws_begins : (q : Counted.Counted) → Begins (draws_then four tape s q)
+    draws_begins : (q : (Option ℕ)) → Begins (draws_then four tape s q)
     unfolding draws_then Begins
-    draws_begins (Counted.TheVariants.Of n) = fault_begins n (first_fault s.rates s.distributions (draw_bytes n)) refl
-    draws_begins Counted.TheVariants.Wrong = tt
+    draws_begins (Some n) = fault_begins n (first_fault s.rates s.distributions (draw_bytes n)) refl
+    draws_begins None = tt
 
-  opened_begins : (o : Opened.Opened) → opened_from four tape lent ≡ o → Begins (opened_then four tape o)
+  opened_begins : (o : (Result State Refusal)) → opened_from four tape lent ≡ o → Begins (opened_then four tape o)
   unfolding opened_then Begins
-  opened_begins (Opened.TheVariants.Run s) e = draws_begins s e (section_at tape 12135 0 400 65)
-  opened_begins (Opened.TheVariants.Refused refusal) e = tt
+  opened_begins (Ok s) e = draws_begins s e (section_at tape 12135 0 400 65)
+  opened_begins (Err refusal) e = tt
 
-  early_begins : (e : Early.Early) → Begins (early_then four tape lent e)
+  early_begins : (e : (Result (Unit {0}) Refusal)) → Begins (early_then four tape lent e)
   unfolding early_then Begins
-  early_begins Early.TheVariants.Accepted = opened_begins (opened_from four tape lent) refl
-  early_begins (Early.TheVariants.Refused number) = tt
+  early_begins (Ok u) = opened_begins (opened_from four tape lent) refl
+  early_begins (Err q) = tt
 
-  module _ (s : State) (n count : ℕ) (run : (head_of four tape lent).head ≡ Beginning.TheVariants.Run s n count) where
+  module _ (s : State) (n count : ℕ) (run : (head_of four tape lent).head ≡ run_of s n count) where
     abbrev mode_s : List Float
     mode_s = mode_s_prototype four (taps_s four tape)
 
@@ -89,15 +86,15 @@ module _ (tape : List ℕ) (lent : Opening.OpenBuffers) where
     abbrev G : Generator
     G = gen_of s mode_s mode_ac
 
-    shown : (opened_from four tape lent ≡ Opened.TheVariants.Run s) × (first_fault s.rates s.distributions (draw_bytes n) ≡ DrawFault.TheVariants.None)
+    shown : (opened_from four tape lent ≡ Ok s) × (first_fault s.rates s.distributions (draw_bytes n) ≡ None)
     unfolding head_of beginning_of Begins
     shown = subst Begins run (early_begins (early_of four tape))
 
-    opens : Opening.opened_of four (taps_s four tape) (taps_ac four tape) (settings_bytes four tape) lent ≡ Opened.TheVariants.Run s
+    opens : Opening.opened_of four (taps_s four tape) (taps_ac four tape) (settings_bytes four tape) lent ≡ Ok s
     unfolding opened_from
     opens = shown.0
 
-    clean : Bench.first_fault G 0 (Bench.draws_of G (draw_bytes n)) ≡ none
+    clean : Bench.first_fault G 0 (Bench.draws_of G (draw_bytes n)) ≡ None
     unfolding first_fault fault_read
     clean = sym (fault_same s.rates s.distributions (length (draw_bytes n) / 65) 0 (draw_bytes n)) ∙ ap fault_read shown.1
 
@@ -109,9 +106,9 @@ module _ (tape : List ℕ) (lent : Opening.OpenBuffers) where
         let r = opened_run_in_range (taps_s four tape) (taps_ac four tape) (settings_bytes four tape) lent s opens in
         instance_laws (filters_of s mode_s mode_ac) r.0 s.total r.1
 
-    memory_is : (head_of four tape lent).left.memory ≡ (Opening.left_by four (taps_s four tape) (taps_ac four tape) (Opened.TheVariants.Run s) lent).memory
+    memory_is : (head_of four tape lent).left.memory ≡ (Opening.left_by four (taps_s four tape) (taps_ac four tape) (Ok s) lent).memory
     unfolding head_of left_then
-    memory_is = ap (λ (b : Beginning.Beginning). (left_then four tape lent b).memory) run
+    memory_is = ap (λ (b : (Result Beginning Refusal)). (left_then four tape lent b).memory) run
 
     -- with these record bytes given for it
     abbrev lent_tape : (records : List ℕ) → 66 * (length (draw_bytes n) / 65) ≤ length records → Tape
@@ -167,7 +164,7 @@ module _ (s : State) (mode_s mode_ac memory : List Float) (draws : List ℕ) (pl
       ∙ ap (plain_text s mode_s mode_ac left (Bench.draws_of (gen_of s mode_s mode_ac) draws)) same
       ∙ sym (plain.text records' room' c' cs' cut' left)
 
-  pub samples_alike : after.feed.answer ≡ Answer.TheVariants.Stopped Stop.TheVariants.Done → after'.feed.answer ≡ Answer.TheVariants.Stopped Stop.TheVariants.Done
+  pub samples_alike : after.feed.answer ≡ Ok Stop.TheVariants.Done → after'.feed.answer ≡ Ok Stop.TheVariants.Done
       → samples_fed mode_s mode_ac draws (begun s memory records) (c ∷ cs) ≡ samples_fed mode_s mode_ac draws (begun s memory records') (c' ∷ cs')
   samples_alike done done' =
       plain.all_samples_lem records room c cs cut done

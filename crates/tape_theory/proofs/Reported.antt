@@ -1,5 +1,9 @@
 -- What a head and the section that is fed behind it give is right to report (`reported-refused`, `reported-run`); what a report says in the plain run's terms (`reported-plainly`); that only a run that is done writes records (`others-leave`), 400 at most (`few-reported`);
 -- and that what the program passes to opening, with settings of their length, has the lengths that opening asks for (`lent_fits`).
+use Rattle.std.specs.Prelude.{Result, Ok, Err}
+use Rattle.refusals.specs.Number.{number_of}
+use Rattle.refusals.specs.declared.Refusal.{Refusal}
+use Rattle.refusals.specs.declared.Refusal.TheVariants.{Duration, Rate, Total, Distribution, Taps, Prototype, Draw, Noise, Length, Reply, Tape, StretchLength, Level, TriggerLevel, SamplesPerPulse, Log, Feeds, Record}
 use Prim.Native.Nat.{ℕ, zero, suc, ◌+◌, ◌*◌, ◌/◌, ◌≤◌}
 use mathlib.Core.Bool.{Bool, true, false, cond}
 use mathlib.Core.List.{List}
@@ -8,7 +12,6 @@ use native.Mathlib.Omega.{arith}
 use lib.ListN.{length, take, drop, length-drop, length-take, replicate, length-replicate, take-append-drop}
 use lib.Seq.{take-append-le, drop-append-le}
 use lib.Ieee.{Float, binary32, of_bits}
-use borrow.Author.Tests.{ne_eqb}
 use Rattle.constants.specs.Rate.{four}
 use Rattle.run_theory.specs.Zeros.{zeros}
 use Rattle.run_theory.specs.PlainRun.{plain_records}
@@ -16,18 +19,17 @@ use Rattle.run_theory.specs.PlainBench.{draws_of}
 use Rattle.run_call_model.proofs.FlatLists.{length_draws}
 use Rattle.run_call.specs.declared.State.{State}
 use Rattle.run_call.specs.StateGenerator.{gen_of}
-use Rattle.run_open_checks.specs.declared.Opened as Opened
 use Rattle.run_open_checks.specs.Opening.{left_by}
 use Rattle.run_open_checks.specs.FirstCause.{BuffersFit}
 use Rattle.settings.specs.Settings.{settings_length}
-use Rattle.tape_head.specs.declared.Beginning as Beginning
-use Rattle.tape_head.specs.Head.{taps_s, taps_ac, Begun, left_then, head_of}
+use Rattle.tape_head.specs.declared.Beginning.{Beginning}
+use Rattle.tape_head.specs.Head.{run_of, taps_s, taps_ac, Begun, left_then, head_of}
 use Rattle.tape_head.proofs.Within.{head_within}
 use Rattle.tape_verdict.specs.declared.Feed.{Feed}
 use Rattle.tape_verdict.specs.declared.Outcome as Outcome
-use Rattle.tape_verdict.specs.Verdict.{start_of, verdict_of, judged_of, outcome_of, outcome_done}
+use Rattle.tape_verdict.specs.Verdict.{start_of, verdict_of, verdict_number, judged_of, outcome_of, outcome_done}
 use Rattle.tape_theory.specs.Fed.{Held, begun}
-use Rattle.tape_theory.specs.PlainTape.{Ending, ending_by, ending_text, plain_ending, fed_ending, fed_text, FedCut}
+use Rattle.tape_theory.specs.PlainTape.{Ending, refused, ending_by, ending_text, plain_ending, fed_ending, fed_text, FedCut}
 use Rattle.tape_theory.specs.TapeText.{lent_by_program, draws_section}
 use Rattle.tape_theory.specs.Reported.{mode_s_of, mode_ac_of, head_read, memory_left, records_lent, records_left, Reported, head_refused, run, Says, outcome_text, PlainlyReported, number_refused, not_taken, cut_short, plain}
 use Rattle.tape_theory.proofs.FedCall.{few_records}
@@ -55,8 +57,8 @@ unfolding lent_by_program
 opened_with b tape mode_s mode_ac memory e p q r = e ∙ (λ i. head_of four tape (record { mode_s = (p ∙ row_is 1792) i; mode_ac = (q ∙ row_is 1792) i; memory = (r ∙ row_is 2252) i }))
 
 -- ---- what is right to report
-pub reported_refused : (tape : List ℕ) (b : Begun) → b ≡ head_of four tape lent_by_program → (number : ℕ) → b.head ≡ Beginning.TheVariants.Refused number → (before : List ℕ) → Reported (Outcome.TheVariants.Refused number 0) before before
-reported_refused tape b e number h before = head_refused tape number (sym (ap (λ (x : Begun). x.head) e) ∙ h) refl refl
+pub reported_refused : (tape : List ℕ) (b : Begun) → b ≡ head_of four tape lent_by_program → (q : Refusal) → b.head ≡ Err q → (before : List ℕ) → Reported (Outcome.TheVariants.Refused q 0) before before
+reported_refused tape b e q h before = head_refused tape q (sym (ap (λ (x : Begun). x.head) e) ∙ h) refl refl
 
 -- the draws of a head that stands at the start of more bytes
 same_draws : (n got : ℕ) (bytes : List ℕ) → 12139 + 65 * n ≤ length (take got bytes) → take (65 * n) (drop 12139 (take got bytes)) ≡ take (65 * n) (drop 12139 bytes)
@@ -65,13 +67,13 @@ same_draws n got bytes h =
     ∙ ap (take (65 * n)) (sym (drop-append-le 12139 (take got bytes) (drop got bytes) (omega arith)) ∙ ap (drop 12139) (take-append-drop got bytes))
 
 -- a head is the first got of some bytes
-module _ (tape : List ℕ) (s : State) (n count : ℕ) (mode_s mode_ac memory : List Float) (head : Beginning.Beginning)
-    (e : record { head = head; left = record { mode_s = mode_s; mode_ac = mode_ac; memory = memory } } ≡ head_of four tape lent_by_program) (h : head ≡ Beginning.TheVariants.Run s n count)
+module _ (tape : List ℕ) (s : State) (n count : ℕ) (mode_s mode_ac memory : List Float) (head : (Result Beginning Refusal))
+    (e : record { head = head; left = record { mode_s = mode_s; mode_ac = mode_ac; memory = memory } } ≡ head_of four tape lent_by_program) (h : head ≡ run_of s n count)
     (got : ℕ) (bytes : List ℕ) (first_part : tape ≡ take got bytes) where
-  head_begins : head_read tape ≡ Beginning.TheVariants.Run s n count
+  head_begins : head_read tape ≡ run_of s n count
   head_begins = sym (ap (λ (x : Begun). x.head) e) ∙ h
 
-  left_is : record { mode_s = mode_s; mode_ac = mode_ac; memory = memory } ≡ left_by four (taps_s four tape) (taps_ac four tape) (Opened.TheVariants.Run s) lent_by_program
+  left_is : record { mode_s = mode_s; mode_ac = mode_ac; memory = memory } ≡ left_by four (taps_s four tape) (taps_ac four tape) (Ok s) lent_by_program
   unfolding head_of left_then
   left_is = ap (λ (x : Begun). x.left) e ∙ ap (left_then four tape lent_by_program) head_begins
 
@@ -93,37 +95,58 @@ module _ (tape : List ℕ) (s : State) (n count : ℕ) (mode_s mode_ac memory : 
 -- ---- only a run that is done writes records
 pub others_leave : (r : Outcome.Outcome) (before after : List ℕ) → outcome_done r ≡ false → Reported r before after → after ≡ before
 unfolding records_left
-others_leave r before after not_done (head_refused tape number h er ea) = ea
+others_leave r before after not_done (head_refused tape q h er ea) = ea
 others_leave r before after not_done (run tape s n count h room f untaken short left fed er ea) = ea ∙ ap (λ (b : Bool). cond b f.records before) not_done
 
 -- ---- in the plain run's terms: an outcome by a verdict says the ending by it
-refused_by_lem : (v : ℕ) (f : Feed) → judged_of (suc v) f ≡ Outcome.TheVariants.Refused (suc v) f.state.written
-unfolding judged_of
-refused_by_lem v f = ap (λ (b : Bool). cond b (Outcome.TheVariants.Done f.records f.state.written) (Outcome.TheVariants.Refused (suc v) f.state.written)) (ne_eqb (suc v) 0 (λ h. omega (arith, h)))
+-- a refusal's number is not 0
+refused_by_lem : (q : Refusal) (bytes : List ℕ) (records samples : ℕ) → ending_by (number_of q) bytes records samples ≡ refused (number_of q)
+unfolding ending_by number_of
+refused_by_lem Duration bytes records samples = refl
+refused_by_lem (Rate k) bytes records samples = refl
+refused_by_lem Total bytes records samples = refl
+refused_by_lem (Distribution k) bytes records samples = refl
+refused_by_lem Taps bytes records samples = refl
+refused_by_lem Prototype bytes records samples = refl
+refused_by_lem (Draw k field) bytes records samples = refl
+refused_by_lem (Noise k) bytes records samples = refl
+refused_by_lem Length bytes records samples = refl
+refused_by_lem Reply bytes records samples = refl
+refused_by_lem Tape bytes records samples = refl
+refused_by_lem StretchLength bytes records samples = refl
+refused_by_lem Level bytes records samples = refl
+refused_by_lem TriggerLevel bytes records samples = refl
+refused_by_lem SamplesPerPulse bytes records samples = refl
+refused_by_lem Log bytes records samples = refl
+refused_by_lem Feeds bytes records samples = refl
+refused_by_lem (Record k) bytes records samples = refl
 
 module _ (r : Outcome.Outcome) (f : Held) (before after : List ℕ) (ea : after ≡ records_left r f.records before) where
-  says_by : (v : ℕ) → r ≡ judged_of v f.feed → Says (ending_by v f.records f.feed.records f.feed.state.written) r before after × (outcome_text r after ≡ ending_text (ending_by v f.records f.feed.records f.feed.state.written))
-  unfolding judged_of ending_by ending_text outcome_text outcome_done records_left
-  says_by zero e =
+  says_by : (v : (Result (Unit {0}) Refusal)) → r ≡ judged_of v f.feed
+      → Says (ending_by (verdict_number v) f.records f.feed.records f.feed.state.written) r before after × (outcome_text r after ≡ ending_text (ending_by (verdict_number v) f.records f.feed.records f.feed.state.written))
+  unfolding judged_of verdict_number ending_by ending_text outcome_text outcome_done records_left
+  says_by (Ok u) e =
       let kept : after ≡ f.records = ea ∙ ap (λ (o : Outcome.Outcome). records_left o f.records before) e in
       ((e, kept), (λ i. outcome_text (e i) (kept i)))
-  says_by (suc v) e =
-      let number : r ≡ Outcome.TheVariants.Refused (suc v) f.feed.state.written = e ∙ refused_by_lem v f.feed in
-      ((f.feed.state.written, number, ea ∙ ap (λ (o : Outcome.Outcome). records_left o f.records before) number), ap (λ (o : Outcome.Outcome). outcome_text o after) number)
+  says_by (Err q) e =
+      let by = sym (refused_by_lem q f.records f.feed.records f.feed.state.written) in (
+        subst (λ (x : Ending). Says x r before after) by (q, f.feed.state.written, e, refl, ea ∙ ap (λ (o : Outcome.Outcome). records_left o f.records before) e),
+        ap (λ (o : Outcome.Outcome). outcome_text o after) e ∙ ap ending_text by,
+      )
 
 -- room for a record of each draw
-rooms : (tape : List ℕ) (s : State) (n count : ℕ) → head_read tape ≡ Beginning.TheVariants.Run s n count → (before : List ℕ) → length before ≡ records_lent → 66 * (length (draws_section tape n) / 65) ≤ length before
+rooms : (tape : List ℕ) (s : State) (n count : ℕ) → head_read tape ≡ run_of s n count → (before : List ℕ) → length before ≡ records_lent → 66 * (length (draws_section tape n) / 65) ≤ length before
 unfolding draws_section
 rooms tape s n count begins before room = omega (arith, room, length-take (65 * n) (drop 12139 tape), (head_within tape lent_by_program s n count begins).0)
 
 pub reported_plainly : (r : Outcome.Outcome) (before after : List ℕ) → Reported r before after → PlainlyReported r before after
-unfolding outcome_of verdict_of fed_ending fed_text outcome_done records_left ending_by draws_section
-reported_plainly r before after (head_refused tape number h er ea) = number_refused tape number h (0, er, ea)
+unfolding outcome_of verdict_of verdict_number fed_ending fed_text outcome_done records_left ending_by number_of draws_section
+reported_plainly r before after (head_refused tape q h er ea) = number_refused tape q h (q, 0, er, refl, ea)
 reported_plainly r before after (run tape s n count begins room f untaken short left fed er ea) = go untaken short refl refl
   where
     go : (u x : Bool) → untaken ≡ u → short ≡ x → PlainlyReported r before after
     go true x d y = let e : r ≡ Outcome.TheVariants.Untaken = er ∙ ap (λ (b : Bool). outcome_of b short left f.feed) d in not_taken e (ea ∙ ap (λ (o : Outcome.Outcome). records_left o f.records before) e)
-    go false true d y = cut_short tape s n count begins (says_by r f before after ea 11 (er ∙ λ i. outcome_of (d i) (y i) left f.feed)).0
+    go false true d y = cut_short tape s n count begins (says_by r f before after ea (Err Tape) (er ∙ λ i. outcome_of (d i) (y i) left f.feed)).0
     go false false d y =
         let t = section_ends s (mode_s_of tape) (mode_ac_of tape) (memory_left tape) (draws_section tape n) (plain_tape tape lent_by_program s n count begins) before (rooms tape s n count begins before room) count f (subst (λ (b : Bool). FedCut (mode_s_of tape) (mode_ac_of tape) (draws_section tape n) count (begun s (memory_left tape) before) b f) y fed) in
         let v = verdict_of false f.feed.answer left in
@@ -133,22 +156,22 @@ reported_plainly r before after (run tape s n count begins room f untaken short 
 -- ---- a tape has 400 draws at most, so that 26,400 bytes hold the records reported
 abbrev pub records_in : Outcome.Outcome → ℕ
 records_in (Outcome.TheVariants.Done records samples) = records
-records_in (Outcome.TheVariants.Refused number samples) = 0
+records_in (Outcome.TheVariants.Refused q samples) = 0
 records_in Outcome.TheVariants.Untaken = 0
 
 few_said : (v : ℕ) (bytes : List ℕ) (records samples : ℕ) (r : Outcome.Outcome) (before after : List ℕ) → records ≤ 400 → Says (ending_by v bytes records samples) r before after → records_in r ≤ 400
 unfolding ending_by
 few_said zero bytes records samples r before after few q = omega (arith, ap records_in q.0)
-few_said (suc v) bytes records samples r before after few q = omega (arith, ap records_in q.1)
+few_said (suc v) bytes records samples r before after few q = omega (arith, ap records_in q.2)
 
 pub few_reported : (r : Outcome.Outcome) (before after : List ℕ) → Reported r before after → records_in r ≤ 400
 unfolding plain_ending draws_section
 few_reported r before after h = go (reported_plainly r before after h)
   where
     go : PlainlyReported r before after → records_in r ≤ 400
-    go (number_refused tape number e q) = omega (arith, ap records_in q.1)
+    go (number_refused tape w e q) = omega (arith, ap records_in q.2)
     go (not_taken e q) = omega (arith, ap records_in e)
-    go (cut_short tape s n count e q) = omega (arith, ap records_in q.1)
+    go (cut_short tape s n count e q) = omega (arith, ap records_in q.2)
     go (plain tape s n count e noise all left q text) =
         let G = gen_of s (mode_s_of tape) (mode_ac_of tape) in
         few_said _ _ (length (plain_records G (draws_of G (draws_section tape n)))) s.total r before after

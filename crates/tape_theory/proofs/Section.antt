@@ -3,7 +3,7 @@ use Prim.Native.Nat.{ℕ, ◌+◌, ◌-◌, ◌*◌, ◌%◌, ◌≤◌, ◌<◌
 use mathlib.Core.Bool.{Bool, true, false, cond, true≢false}
 use mathlib.Core.Logic.{◌⊎◌, inl, inr}
 use mathlib.Core.List.{List, [], ◌∷◌, ◌++◌}
-use mathlib.Core.Path.{◌≡◌, refl, sym, ap, ◌∙◌}
+use mathlib.Core.Path.{◌≡◌, refl, sym, ap, ◌∙◌, subst}
 use native.Mathlib.Omega.{arith}
 use lib.Dec.{ltb}
 use lib.ListN.{length, take, length-append}
@@ -65,6 +65,10 @@ module _ (mode_s mode_ac : List Float) (draws : List ℕ) (d : Held) where
     ended = λ h. cut_last g.chunks c (g.evens more) roomy;
     counted = λ h. omega (arith, length_more g.chunks c, g.counted (count_on h).0, (count_on h).1);
   }
+
+  -- a section that is not cut short, by what is known of it
+  pub going_whole : (count turns left : ℕ) (short : Bool) (f : Held) → short ≡ false → Going count turns left short f → Going count turns left false f
+  going_whole count turns left short f e g = subst (λ (b : Bool). Going count turns left b f) e g
 
   pub going_end : (count turns left : ℕ) (short : Bool) (f : Held) → Going count turns left short f → turns ≡ 0 → left ≡ 0 → FedCut mode_s mode_ac draws count d short f
   unfolding FedCut

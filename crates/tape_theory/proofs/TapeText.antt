@@ -1,4 +1,5 @@
 -- `tape-text`: a tape prints its text (SPECIFICATION 11.1): a refused head its number (`refused-text`); a short noise section 11 (`short-text`); and a head that begins a run, fed the bytes of its noise section in parts, however they are cut, the plain run's text.
+use Rattle.std.specs.Prelude.{Err}
 use Prim.Native.Nat.{ℕ, ◌*◌, ◌/◌, ◌≤◌, ◌<◌}
 use mathlib.Core.Bool.{Bool, true, false, cond}
 use mathlib.Core.List.{List, ◌∷◌}
@@ -8,12 +9,13 @@ use lib.Dec.{ltb}
 use lib.ListN.{length, take, drop, length-take}
 use borrow.Author.Tests.{lt-ltb, le-ltb}
 use Rattle.constants.specs.Rate.{four}
+use Rattle.refusals.specs.Number.{number_of}
+use Rattle.refusals.specs.declared.Refusal.{Refusal}
 use Rattle.pulse_shape.specs.Prototype.{mode_s_prototype, mode_ac_prototype}
 use Rattle.run_theory.specs.PlainBench.{join}
 use Rattle.run_call.specs.declared.State.{State}
 use Rattle.tape_text.specs.Text.{refused_text}
-use Rattle.tape_head.specs.declared.Beginning as Beginning
-use Rattle.tape_head.specs.Head.{taps_s, taps_ac, head_of}
+use Rattle.tape_head.specs.Head.{run_of, taps_s, taps_ac, head_of}
 use Rattle.tape_head.proofs.Within.{head_within}
 use Rattle.tape_theory.specs.Fed.{Chunk, begun, fed_all}
 use Rattle.tape_theory.specs.PlainTape.{plain_text, fed_text, Cut}
@@ -28,11 +30,11 @@ second_of : (b : Bool) (x y : List ℕ) → b ≡ false → cond b x y ≡ y
 second_of b x y e = ap (λ (a : Bool). cond a x y) e
 
 module _ (tape : List ℕ) where
-  pub refused_text_lem : (number : ℕ) → (head_of four tape lent_by_program).head ≡ Beginning.TheVariants.Refused number → refused_text number ≡ tape_text tape
+  pub refused_text_lem : (q : Refusal) → (head_of four tape lent_by_program).head ≡ Err q → refused_text (number_of q) ≡ tape_text tape
   unfolding tape_text head_text
-  refused_text_lem number head = sym (ap (head_text tape) head)
+  refused_text_lem q head = sym (ap (head_text tape) head)
 
-  module _ (s : State) (n count : ℕ) (head : (head_of four tape lent_by_program).head ≡ Beginning.TheVariants.Run s n count) where
+  module _ (s : State) (n count : ℕ) (head : (head_of four tape lent_by_program).head ≡ run_of s n count) where
     -- a noise section that is short
     pub short_text : length (behind_count tape n) < 4 * count → refused_text 11 ≡ tape_text tape
     unfolding tape_text head_text section_text

@@ -1,7 +1,9 @@
 -- A run fed chunk by chunk: the run after all of them, the run calls that it makes, what each of them leaves, and the samples that they give.
+use Rattle.std.specs.Prelude.{Result, Ok, Err}
+use Rattle.refusals.specs.declared.Refusal.{Refusal}
+use Rattle.run_steps.specs.declared.Stop.{Stop}
 use Rattle.std.specs.Prelude.{ℕ, ◌-◌, ◌*◌, List, [], ◌∷◌, ◌++◌, take, drop, Float}
 use Rattle.run_call.specs.declared.State.{State}
-use Rattle.run_call.specs.declared.Answer as Answer
 use Rattle.run_call.specs.Buffers.{Left, CallBuffers}
 use Rattle.run_call.specs.CallModel.{run_left}
 use Rattle.tape_verdict.specs.declared.Feed.{Feed}
@@ -47,16 +49,16 @@ module _ (mode_s mode_ac : List Float) (draws : List ℕ) where
   held_after d l = keep (fed_after d.feed d.records l)
 
   -- the calls, none once one was refused
-  unfoldable pub lents : List Chunk → Answer.Answer → Held → List CallBuffers
+  unfoldable pub lents : List Chunk → (Result Stop Refusal) → Held → List CallBuffers
   lents [] a d = []
-  lents (c ∷ cs) (Answer.TheVariants.Refused q) d = []
-  lents (c ∷ cs) (Answer.TheVariants.Stopped w) d = lent_for d c ∷ lents cs (left_for d c).ran.answer (held_after d (left_for d c))
+  lents (c ∷ cs) (Err q) d = []
+  lents (c ∷ cs) (Ok w) d = lent_for d c ∷ lents cs (left_for d c).ran.answer (held_after d (left_for d c))
 
   -- what they leave
-  unfoldable pub lefts : List Chunk → Answer.Answer → Held → List Left
+  unfoldable pub lefts : List Chunk → (Result Stop Refusal) → Held → List Left
   lefts [] a d = []
-  lefts (c ∷ cs) (Answer.TheVariants.Refused q) d = []
-  lefts (c ∷ cs) (Answer.TheVariants.Stopped w) d = left_for d c ∷ lefts cs (left_for d c).ran.answer (held_after d (left_for d c))
+  lefts (c ∷ cs) (Err q) d = []
+  lefts (c ∷ cs) (Ok w) d = left_for d c ∷ lefts cs (left_for d c).ran.answer (held_after d (left_for d c))
 
   -- the run after what the calls left
   unfoldable pub feed_lefts : Held → List Left → Held

@@ -1,4 +1,5 @@
 -- How a tape ends whose head is accepted, and its text: by the plain run on the tape's draws and all its noise, which knows no chunks (`plain_ending`, `plain_text`); of a run that was fed its noise in chunks (`fed_ending`, `fed_text`); and the claim that they are the same (`PlainTape`).
+use Rattle.std.specs.Prelude.{Ok}
 use Rattle.std.specs.Prelude.{ℕ, zero, suc, ◌*◌, ◌/◌, ◌%◌, ◌≤◌, ◌<◌, Bool, false, cond, ◌&&◌, ◌||◌, ◌≡◌, List, [], ◌∷◌, ◌++◌, leb, length, Float}
 use Rattle.run_theory.specs.Generator.{Generator}
 use Rattle.run_theory.specs.PlainRun.{ended, plain_records}
@@ -6,10 +7,9 @@ use Rattle.run_theory.specs.PlainBench.{pairs, over, draws_of}
 use Rattle.run_theory.specs.Demand3.{Prefix, plain_output, plain_lines}
 use Rattle.run_steps.specs.declared.Stop as Stop
 use Rattle.run_call.specs.declared.State.{State}
-use Rattle.run_call.specs.declared.Answer as Answer
 use Rattle.run_call.specs.StateGenerator.{gen_of}
 use Rattle.tape_text.specs.Text.{run_text, refused_text}
-use Rattle.tape_verdict.specs.Verdict.{verdict_of}
+use Rattle.tape_verdict.specs.Verdict.{verdict_of, verdict_number}
 use Rattle.tape_theory.specs.Fed.{Held, Chunk, begun, fed_all, samples_fed}
 
 -- how a tape ends: with its run done, record bytes, and its numbers of records and samples; or refused by a number
@@ -55,7 +55,7 @@ module _ (s : State) (mode_s mode_ac : List Float) where
 
 -- of a run that was fed all its noise, by its verdict
 unfoldable pub fed_ending : Bool → Held → Ending
-fed_ending left f = ending_by (verdict_of false f.feed.answer left) f.records f.feed.records f.feed.state.written
+fed_ending left f = ending_by (verdict_number (verdict_of false f.feed.answer left)) f.records f.feed.records f.feed.state.written
 
 unfoldable pub fed_text : Bool → Held → List ℕ
 fed_text left f = ending_text (fed_ending left f)
@@ -89,5 +89,5 @@ pub record PlainTape (s : State) (mode_s mode_ac memory : List Float) (draws : L
   pub samples : (records : List ℕ) → 66 * (length draws / 65) ≤ length records → (c : Chunk) (cs : List Chunk) → Cut (c ∷ cs)
       → Prefix (samples_fed mode_s mode_ac draws (begun s memory records) (c ∷ cs)) (plain_output (gen_of s mode_s mode_ac) (draws_of (gen_of s mode_s mode_ac) draws) (pairs (noise_in (c ∷ cs))))
   pub all_samples_lem : (records : List ℕ) → 66 * (length draws / 65) ≤ length records → (c : Chunk) (cs : List Chunk) → Cut (c ∷ cs)
-      → (fed_all mode_s mode_ac draws (begun s memory records) (c ∷ cs)).feed.answer ≡ Answer.TheVariants.Stopped Stop.TheVariants.Done
+      → (fed_all mode_s mode_ac draws (begun s memory records) (c ∷ cs)).feed.answer ≡ Ok Stop.TheVariants.Done
       → samples_fed mode_s mode_ac draws (begun s memory records) (c ∷ cs) ≡ plain_output (gen_of s mode_s mode_ac) (draws_of (gen_of s mode_s mode_ac) draws) (pairs (noise_in (c ∷ cs)))

@@ -1,14 +1,16 @@
 -- What may be reported of a tape that is read from somewhere, with record bytes given before and left after (`Reported`, the contract of `tape_run::run_tape`); and the same in the plain run's terms (`PlainlyReported`).
-use Rattle.std.specs.Prelude.{ℕ, ◌*◌, Bool, cond, ◌≡◌, List, [], length, Float}
+use Rattle.std.specs.Prelude.{ℕ, ◌*◌, Bool, cond, ◌≡◌, Result, Err, List, [], length, Float}
 use Rattle.constants.specs.Rate.{four}
+use Rattle.refusals.specs.Number.{number_of}
+use Rattle.refusals.specs.declared.Refusal.{Refusal}
 use Rattle.pulse_shape.specs.Prototype.{mode_s_prototype, mode_ac_prototype}
 use Rattle.run_theory.specs.PlainBench.{draws_of}
 use Rattle.run_call.specs.declared.State.{State}
 use Rattle.run_call.specs.StateGenerator.{gen_of}
 use Rattle.tape_sections.specs.Sections.{most_draws}
 use Rattle.tape_text.specs.Text.{run_text, refused_text}
-use Rattle.tape_head.specs.declared.Beginning as Beginning
-use Rattle.tape_head.specs.Head.{taps_s, taps_ac, head_of}
+use Rattle.tape_head.specs.declared.Beginning.{Beginning}
+use Rattle.tape_head.specs.Head.{run_of, taps_s, taps_ac, head_of}
 use Rattle.tape_verdict.specs.declared.Outcome as Outcome
 use Rattle.tape_verdict.specs.Verdict.{outcome_of, outcome_done}
 use Rattle.tape_theory.specs.Fed.{Held, begun}
@@ -24,7 +26,7 @@ module _ (tape : List ℕ) where
   mode_ac_of = mode_ac_prototype four (taps_ac four tape)
 
   -- its head, opened with what the program lends
-  abbrev pub head_read : Beginning.Beginning
+  abbrev pub head_read : Result Beginning Refusal
   head_read = (head_of four tape lent_by_program).head
 
   -- working memory behind its head
@@ -41,34 +43,34 @@ records_left outcome written before = cond (outcome_done outcome) written before
 
 -- what is right to report of some tape
 pub data Reported (outcome : Outcome.Outcome) (before after : List ℕ) : Type 0 where
-  -- of one whose head is refused, its number, with no sample
-  head_refused : (tape : List ℕ) (number : ℕ) → head_read tape ≡ Beginning.TheVariants.Refused number → outcome ≡ Outcome.TheVariants.Refused number 0 → after ≡ before → Reported outcome before after
+  -- of one whose head is refused, its refusal, with no sample
+  head_refused : (tape : List ℕ) (q : Refusal) → head_read tape ≡ Err q → outcome ≡ Outcome.TheVariants.Refused q 0 → after ≡ before → Reported outcome before after
   -- of one whose head begins a run, the outcome of that run, fed noise that is cut as `FedCut` asks: as many values as the count says, unless the section is cut short; with or without bytes left over
-  run : (tape : List ℕ) (s : State) (n count : ℕ) → head_read tape ≡ Beginning.TheVariants.Run s n count → length before ≡ records_lent → (f : Held) (untaken short left : Bool)
+  run : (tape : List ℕ) (s : State) (n count : ℕ) → head_read tape ≡ run_of s n count → length before ≡ records_lent → (f : Held) (untaken short left : Bool)
       → FedCut (mode_s_of tape) (mode_ac_of tape) (draws_section tape n) count (begun s (memory_left tape) before) short f
       → outcome ≡ outcome_of untaken short left f.feed → after ≡ records_left outcome f.records before → Reported outcome before after
 
 -- ---- in the plain run's terms
--- an outcome and record bytes that say an ending: a run that is done by its records and samples, with its record bytes; a refusal by its number, with the bytes as they were
+-- an outcome and record bytes that say an ending: a run that is done by its records and samples, with its record bytes; a refusal of that number, with the bytes as they were
 abbrev pub Says : Ending → Outcome.Outcome → List ℕ → List ℕ → Type 0
 Says (done bytes records samples) outcome before after = (outcome ≡ Outcome.TheVariants.Done records samples) × (after ≡ bytes)
-Says (refused number) outcome before after = (samples : ℕ) × (outcome ≡ Outcome.TheVariants.Refused number samples) × (after ≡ before)
+Says (refused number) outcome before after = (q : Refusal) × (samples : ℕ) × (outcome ≡ Outcome.TheVariants.Refused q samples) × (number_of q ≡ number) × (after ≡ before)
 
 -- the text of an outcome and record bytes
 unfoldable pub outcome_text : Outcome.Outcome → List ℕ → List ℕ
 outcome_text (Outcome.TheVariants.Done records samples) bytes = run_text bytes records samples
-outcome_text (Outcome.TheVariants.Refused number samples) bytes = refused_text number
+outcome_text (Outcome.TheVariants.Refused q samples) bytes = refused_text (number_of q)
 outcome_text Outcome.TheVariants.Untaken bytes = []
 
 pub data PlainlyReported (outcome : Outcome.Outcome) (before after : List ℕ) : Type 0 where
   -- of a head that is refused, its number
-  number_refused : (tape : List ℕ) (number : ℕ) → head_read tape ≡ Beginning.TheVariants.Refused number → Says (refused number) outcome before after → PlainlyReported outcome before after
+  number_refused : (tape : List ℕ) (q : Refusal) → head_read tape ≡ Err q → Says (refused (number_of q)) outcome before after → PlainlyReported outcome before after
   -- that the samples are not taken
   not_taken : outcome ≡ Outcome.TheVariants.Untaken → after ≡ before → PlainlyReported outcome before after
   -- of a noise section that is cut short, 11
-  cut_short : (tape : List ℕ) (s : State) (n count : ℕ) → head_read tape ≡ Beginning.TheVariants.Run s n count → Says (refused 11) outcome before after → PlainlyReported outcome before after
+  cut_short : (tape : List ℕ) (s : State) (n count : ℕ) → head_read tape ≡ run_of s n count → Says (refused 11) outcome before after → PlainlyReported outcome before after
   -- else the plain run's ending and text, on the tape's draws, as many noise values as its count says, and bytes left over or not
-  plain : (tape : List ℕ) (s : State) (n count : ℕ) → head_read tape ≡ Beginning.TheVariants.Run s n count → (noise : List Float) → length noise ≡ count → (left : Bool)
+  plain : (tape : List ℕ) (s : State) (n count : ℕ) → head_read tape ≡ run_of s n count → (noise : List Float) → length noise ≡ count → (left : Bool)
       → Says (plain_ending s (mode_s_of tape) (mode_ac_of tape) left (draws_of (gen_of s (mode_s_of tape) (mode_ac_of tape)) (draws_section tape n)) noise before) outcome before after
       → outcome_text outcome after ≡ plain_text s (mode_s_of tape) (mode_ac_of tape) left (draws_of (gen_of s (mode_s_of tape) (mode_ac_of tape)) (draws_section tape n)) noise
       → PlainlyReported outcome before after

@@ -1,7 +1,9 @@
 -- The tape program (SPECIFICATION 11.1) as a function of the tape's bytes: the text that it prints.
-use Rattle.std.specs.Prelude.{ℕ, ◌+◌, ◌*◌, ◌/◌, ◌%◌, cond, ◌≡◌, List, [], ◌∷◌, ltb, length, take, drop}
+use Rattle.std.specs.Prelude.{ℕ, ◌+◌, ◌*◌, ◌/◌, ◌%◌, cond, ◌≡◌, Result, Ok, Err, List, [], ◌∷◌, ltb, length, take, drop}
 use Rattle.constants.specs.Rate.{four, prototype_length, working_memory}
 use Rattle.run_theory.specs.Zeros.{zeros}
+use Rattle.refusals.specs.Number.{number_of}
+use Rattle.refusals.specs.declared.Refusal.{Refusal}
 use Rattle.pulse_shape.specs.Prototype.{mode_s_prototype, mode_ac_prototype}
 use Rattle.run_theory.specs.PlainBench.{draws_of}
 use Rattle.run_call.specs.declared.State.{State}
@@ -10,7 +12,7 @@ use Rattle.run_open_checks.specs.Opening.{OpenBuffers}
 use Rattle.tape_floats.specs.Floats.{floats_of}
 use Rattle.tape_sections.specs.Sections.{draws_offset, noise_offset}
 use Rattle.tape_text.specs.Text.{refused_text}
-use Rattle.tape_head.specs.declared.Beginning as Beginning
+use Rattle.tape_head.specs.declared.Beginning.{Beginning}
 use Rattle.tape_head.specs.Head.{taps_s, taps_ac, head_of}
 use Rattle.tape_theory.specs.Fed.{Chunk}
 use Rattle.tape_theory.specs.PlainTape.{plain_text}
@@ -41,9 +43,9 @@ module _ (tape : List ℕ) where
       (plain_text s (mode_s_prototype four (taps_s four tape)) (mode_ac_prototype four (taps_ac four tape)) (ltb (4 * count) (length (behind_count n)))
       (draws_of (gen_of s (mode_s_prototype four (taps_s four tape)) (mode_ac_prototype four (taps_ac four tape))) (draws_section n)) (floats_of count (behind_count n)))
 
-  unfoldable pub head_text : Beginning.Beginning → List ℕ
-  head_text (Beginning.TheVariants.Run s n count) = section_text s n count
-  head_text (Beginning.TheVariants.Refused number) = refused_text number
+  unfoldable pub head_text : (Result Beginning Refusal) → List ℕ
+  head_text (Ok b) = section_text b.state b.draws b.noise
+  head_text (Err q) = refused_text (number_of q)
 
   unfoldable pub tape_text : List ℕ
   tape_text = head_text (head_of four tape lent_by_program).head

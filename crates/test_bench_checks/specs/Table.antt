@@ -1,16 +1,17 @@
 -- The bench checks marked P in SPECIFICATION 12: what the definitions give, beside what it says.
-use Rattle.std.specs.Prelude.{ℕ, ◌+◌, ◌*◌, ◌^◌, true, false, List, [], ◌∷◌, ◌++◌}
+use Rattle.std.specs.Prelude.{ℕ, ◌+◌, ◌*◌, ◌^◌, true, false, Option, Some, None, Result, Ok, Err, List, [], ◌∷◌, ◌++◌}
+use Rattle.refusals.specs.declared.Refusal.{Refusal}
+use Rattle.refusals.specs.Number.{number_of}
 use Rattle.constants.specs.Rate.{four, required_samples}
 use Rattle.settings_duration.specs.Duration.{duration_of}
-use Rattle.settings_duration.specs.Duration as duration
+use Rattle.mode_ac.specs.declared.ModeACReply.{ModeACReply}
 use Rattle.mode_ac.specs.Building.{from_data, from_digits}
-use Rattle.mode_ac.specs.Building as mode_ac_lem
 use Rattle.pulse_map.specs.ModeAC.{mode_ac_positions}
 use Rattle.mode_s.specs.Parity.{parity_of}
 use Rattle.message.specs.Types.{type_number}
 use Rattle.message.specs.declared.ReplyKind.TheVariants.{Short, Long}
 use Rattle.message_classify.specs.declared.Class.{Class}
-use Rattle.message_classify.specs.declared.Class.TheVariants.{OfType, TisB, NoClass}
+use Rattle.message_classify.specs.declared.Class.TheVariants.{OfType, TisB}
 use Rattle.message_classify.specs.Classing.{class_by}
 use Rattle.pulse_length.specs.Length.{mode_s_num_samples, mode_ac_num_samples}
 
@@ -30,18 +31,18 @@ pub record Line : Type 0 where
 abbrev pub line : Value → Value → Line
 line g s = record { gives = g; says = s }
 
-abbrev pub of_duration : duration.Answer → Value
-of_duration (duration.samples n) = number n
-of_duration (duration.refusal n) = refusal n
+abbrev pub of_duration : Result ℕ Refusal → Value
+of_duration (Ok n) = number n
+of_duration (Err q) = refusal (number_of q)
 
-abbrev pub of_reply : mode_ac_lem.Answer → Value
-of_reply (mode_ac_lem.reply n spi) = number n
-of_reply (mode_ac_lem.refusal n) = refusal n
+abbrev pub of_reply : Result ModeACReply Refusal → Value
+of_reply (Ok r) = number r.«data»
+of_reply (Err q) = refusal (number_of q)
 
-abbrev pub of_class : Class → Value
-of_class (OfType t) = class (type_number t)
-of_class TisB = class 7
-of_class NoClass = no_class
+abbrev pub of_class : Option Class → Value
+of_class (Some (OfType t)) = class (type_number t)
+of_class (Some TisB) = class 7
+of_class None = no_class
 
 abbrev pub durations : List Line
 durations =

@@ -36,11 +36,10 @@ pub extern "C" fn port_phase(p: f64, out: &mut [f64; 4])
     ensures { out.new ≡ phase_wrap p ∷ (phase_wrap_once p ∷ ((sin_cos p).sin ∷ ((sin_cos p).cos ∷ []))) }
 {
     let y = math::sin_cos(p);
-    let all = [
+    *out = [
         math::phase_wrap_f64(p),
         math::phase_wrap_once_f64(p),
         y.sin,
         y.cos,
     ];
-    *out = all;
 }

@@ -4,12 +4,13 @@ ghost use Rattle.constants.specs.Rate.{four, reply_limit};
 ghost use Rattle.pulse_map.specs.ModeS.{mode_s_pulses};
 ghost use Rattle.pulse_map.specs.ModeAC.{mode_ac_pulses};
 ghost use Rattle.pulse_length.specs.Length.{mode_s_num_samples, mode_ac_num_samples};
-ghost use Rattle.settings_duration.specs.Duration.{answer_of, duration_of};
+ghost use Rattle.settings_duration.specs.Duration.{duration_of};
 ghost use Rattle.test_exports.specs.Pulses.{samples_number};
 
 use constants::{MAX_POSITIONS, SamplesPerPulse};
-use settings_duration::InSamples;
+use refusals::Refusal;
 
+// An array field is read into a variable before it is stored: stored straight, the check does not cover the function.
 // How many positions there are; where pulses stand goes to `on`, and the length in samples to `samples`.
 #[unsafe(no_mangle)]
 pub extern "C" fn port_mode_s_pulses(
@@ -20,8 +21,7 @@ pub extern "C" fn port_mode_s_pulses(
 ) -> usize
     ensures { (result ≡ (mode_s_pulses message.now long).len) × ((on.new ≡ (mode_s_pulses message.now long).on) × (samples.new ≡ mode_s_num_samples four long)) }
 {
-    let bytes = *message;
-    let pulses = pulse_map::mode_s_pulses(bytes, long);
+    let pulses = pulse_map::mode_s_pulses(*message, long);
     let positions = pulses.on;
     *on = positions;
     *samples = pulse_length::mode_s_num_samples(SamplesPerPulse::Four, long);
@@ -51,13 +51,11 @@ pub extern "C" fn port_reply_limit() -> u64
     pulse_length::reply_limit(SamplesPerPulse::Four)
 }
 
-fn samples_number(answer: InSamples) -> u64
-    ensures { result ≡ samples_number (answer_of answer) }
+#[tactic(auto, unfolding(crate::specs::Pulses::samples_number))]
+fn samples_number(answer: Result<u64, Refusal>) -> u64
+    ensures { result ≡ samples_number answer }
 {
-    match answer {
-        InSamples::Samples(n) => n,
-        InSamples::Refused => 0xffff_ffff_ffff_ffff,
-    }
+    answer.unwrap_or(u64::MAX)
 }
 
 // The samples, or 2^64 - 1 for refusal 1.

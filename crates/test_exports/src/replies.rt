@@ -3,9 +3,9 @@ ghost use Rattle.std.specs.Prelude.{◌≡◌};
 ghost use Rattle.mode_s.specs.Parity.{parity_of};
 ghost use Rattle.message.specs.Types.{type_numbered};
 ghost use Rattle.message_classify.specs.Classing.{class_of, class_number};
-ghost use Rattle.test_exports.specs.Replies.{kind_number, kind_numbered, field_number, picks_of, made_for, MadeNumbers, reply_with};
+ghost use Rattle.test_exports.specs.Replies.{kind_number, kind_numbered, picks_of, made_for, MadeNumbers, reply_with};
 
-use message::{FieldFault, Made, Picks, Reply, ReplyKind, TypeFound};
+use message::{Picks, Reply, ReplyKind};
 
 #[unsafe(no_mangle)]
 pub extern "C" fn port_parity(bytes: &[u8]) -> u32
@@ -14,30 +14,15 @@ pub extern "C" fn port_parity(bytes: &[u8]) -> u32
     mode_s::parity(bytes)
 }
 
-fn make(n: u8, p: Picks) -> Made
+#[tactic(auto, unfolding(crate::specs::Replies::made_for))]
+fn make(n: u8, p: Picks) -> Result<Reply, u64>
     ensures { result ≡ made_for (type_numbered n) p }
 {
-    match message::message_type(n) {
-        TypeFound::Of(t) => message_make::make(t, p),
-        TypeFound::Unknown => Made {
-            fault: FieldFault::Field(1),
-            reply: Reply {
-                kind: ReplyKind::Short,
-                bytes: [0; 14],
-            },
-        },
-    }
+    let t = message::message_type(n).ok_or(1u64)?;
+    message_make::make(t, p)
 }
 
-fn field_number(f: FieldFault) -> u64
-    ensures { result ≡ field_number f }
-{
-    match f {
-        FieldFault::NoFault => 0,
-        FieldFault::Field(n) => n,
-    }
-}
-
+#[tactic(auto, unfolding(crate::specs::Replies::kind_number))]
 fn kind_number(k: ReplyKind) -> u8
     ensures { result ≡ kind_number k }
 {
@@ -49,6 +34,7 @@ fn kind_number(k: ReplyKind) -> u8
 }
 
 // The field at fault, 0 for none; the reply's kind and its bytes.
+#[tactic(auto, unfolding(crate::specs::Replies::picks_of, crate::specs::Replies::field_number, crate::specs::Replies::reply_made))]
 #[unsafe(no_mangle)]
 pub extern "C" fn port_make(
     n: u8,
@@ -63,28 +49,37 @@ pub extern "C" fn port_make(
 ) -> u64
     ensures { MadeNumbers (made_for (type_numbered n) (picks_of format capability overlay draw.now «data» spi)) result kind.new out.new }
 {
-    let bytes = *draw;
-    let m = make(
+    let made = make(
         n,
         Picks {
-            format: format,
-            capability: capability,
-            overlay: overlay,
-            bytes: bytes,
-            data: data,
-            spi: spi,
+            format,
+            capability,
+            overlay,
+            bytes: *draw,
+            data,
+            spi,
         },
     );
-    let reply = m.reply;
-    let made = reply.bytes;
-    *out = made;
-    let k = reply.kind;
-    *kind = kind_number(k);
-    let fault = m.fault;
-    field_number(fault)
+    let (fault, reply) = match made {
+        Ok(reply) => (0, reply),
+        Err(field) => (
+            field,
+            Reply {
+                kind: ReplyKind::Short,
+                bytes: [0; 14],
+            },
+        ),
+    };
+    // An array field is read into a variable first: stored straight, the check does not cover the function.
+    let bytes = reply.bytes;
+    *out = bytes;
+    *kind = kind_number(reply.kind);
+    fault
 }
 
-fn kind_numbered(n: u8) -> ReplyKind
+// Kind 0 short, 1 long, else Mode A/C.
+#[tactic(auto, unfolding(crate::specs::Replies::kind_numbered))]
+pub fn kind_numbered(n: u8) -> ReplyKind
     ensures { result ≡ kind_numbered n }
 {
     match n {
@@ -95,14 +90,13 @@ fn kind_numbered(n: u8) -> ReplyKind
 }
 
 // The number of the class, 255 for none.
+#[tactic(auto, unfolding(crate::specs::Replies::reply_with))]
 #[unsafe(no_mangle)]
 pub extern "C" fn port_from_message(kind: u8, message: &[u8; 14]) -> u8
     ensures { result ≡ class_number (class_of (reply_with kind message.now)) }
 {
-    let bytes = *message;
-    let k = kind_numbered(kind);
     message_numbers::class_number(message_classify::from_message(Reply {
-        kind: k,
-        bytes: bytes,
+        kind: kind_numbered(kind),
+        bytes: *message,
     }))
 }

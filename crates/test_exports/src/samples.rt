@@ -3,24 +3,15 @@ ghost use Rattle.std.specs.Prelude.{◌≡◌};
 ghost use Rattle.constants.specs.Rate.{four};
 ghost use Rattle.reply_samples.specs.Samples.{reply_samples, reply_count};
 ghost use Rattle.reply_samples.specs.RingModel.{added_reply, added_count};
-ghost use Rattle.test_exports.specs.Samples.{kind_numbered, config_at};
+ghost use Rattle.test_exports.specs.Replies.{kind_numbered};
+ghost use Rattle.test_exports.specs.Samples.{config_at};
 
+use crate::replies::kind_numbered;
 use constants::SamplesPerPulse;
 use message::{Reply, ReplyKind};
 use message_config::{Delays, MessageConfig};
 
-fn kind_numbered(n: u8) -> ReplyKind
-    ensures { result ≡ kind_numbered n }
-{
-    if n == 0 {
-        return ReplyKind::Short;
-    }
-    if n == 1 {
-        return ReplyKind::Long;
-    }
-    ReplyKind::ModeAc
-}
-
+#[tactic(auto, unfolding(crate::specs::Samples::config_at))]
 fn config_at(
     time: f64,
     cn0: f64,
@@ -33,15 +24,12 @@ fn config_at(
     ensures { result ≡ config_at time cn0 offset phase error kind bytes }
 {
     MessageConfig {
-        time: time,
-        cn0: cn0,
-        offset: offset,
-        phase: phase,
-        error: error,
-        reply: Reply {
-            kind: kind,
-            bytes: bytes,
-        },
+        time,
+        cn0,
+        offset,
+        phase,
+        error,
+        reply: Reply { kind, bytes },
     }
 }
 
@@ -64,8 +52,8 @@ pub extern "C" fn port_add_reply(
 ) -> u16
     ensures { (memory.new ≡ added_reply four memory.old slot (reply_samples four mode_s.entry.now mode_ac.now (record { mode_s = delay_s; mode_ac = delay_ac }) amplitude (config_at time time offset phase error (kind_numbered kind) bytes.now))) × (result ≡ added_count four memory.old slot (reply_count four (record { mode_s = delay_s; mode_ac = delay_ac }) (config_at time time offset phase error (kind_numbered kind) bytes.now))) }
 {
-    let b = *bytes;
-    let c = config_at(time, time, offset, phase, error, kind_numbered(kind), b);
+    let k = kind_numbered(kind);
+    let c = config_at(time, time, offset, phase, error, k, *bytes);
     let delays = Delays {
         mode_s: delay_s,
         mode_ac: delay_ac,

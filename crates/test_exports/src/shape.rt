@@ -6,7 +6,6 @@ ghost use Rattle.pulse_shape.specs.GroupDelay.{group_delay, mode_ac_group_delay}
 ghost use Rattle.test_exports.specs.Shape.{delay_number};
 
 use constants::PROTOTYPE_LEN;
-use pulse_shape::Crossing;
 
 #[unsafe(no_mangle)]
 pub extern "C" fn port_prototypes(
@@ -17,19 +16,15 @@ pub extern "C" fn port_prototypes(
 )
     ensures { (out_s.new ≡ mode_s_prototype four taps_s.now) × (out_ac.new ≡ mode_ac_prototype four taps_ac.now) }
 {
-    let mode_s = pulse_shape::mode_s_prototype(taps_s);
-    let mode_ac = pulse_shape::mode_ac_prototype(taps_ac);
-    *out_s = mode_s;
-    *out_ac = mode_ac;
+    *out_s = pulse_shape::mode_s_prototype(taps_s);
+    *out_ac = pulse_shape::mode_ac_prototype(taps_ac);
 }
 
-fn delay_number(crossing: Crossing) -> f64
+#[tactic(auto, unfolding(crate::specs::Shape::delay_number))]
+fn delay_number(crossing: Option<f64>) -> f64
     ensures { result ≡ delay_number crossing }
 {
-    match crossing {
-        Crossing::At(delay) => delay,
-        Crossing::None => -1.0,
-    }
+    crossing.unwrap_or(-1.0)
 }
 
 // The delays of a prototype as one of Mode S and as one of Mode A/C, or -1.0 where nothing crosses the level.
@@ -37,9 +32,8 @@ fn delay_number(crossing: Crossing) -> f64
 pub extern "C" fn port_group_delays(level: f32, prototype: &[f32], out: &mut [f64; 2])
     ensures { out.new ≡ delay_number (group_delay four level prototype.now) ∷ (delay_number (mode_ac_group_delay four level prototype.now) ∷ []) }
 {
-    let delays = [
+    *out = [
         delay_number(pulse_group_delay::group_delay(level, prototype)),
         delay_number(pulse_group_delay::mode_ac_group_delay(level, prototype)),
     ];
-    *out = delays;
 }

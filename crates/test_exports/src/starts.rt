@@ -7,30 +7,34 @@ ghost use Rattle.test_exports.specs.Drawn.{raw_distribution_of, offset_drawn, ph
 ghost use Rattle.test_exports.specs.Messages.{kind_of, message_at, delays_at};
 
 use constants::SamplesPerPulse;
-use distributions::{ClockAnswer, OffsetAnswer, PhaseAnswer, RawDistribution};
+use distributions::{CarrierOffset, CarrierPhase, ClockError, RawDistribution};
 use message::{Reply, ReplyKind};
 use message_config::{Delays, MessageConfig};
+use refusals::Refusal;
 
+#[tactic(auto, unfolding(crate::specs::Messages::kind_of))]
 fn kind_of(mode_ac: bool) -> ReplyKind
     ensures { result ≡ kind_of mode_ac }
 {
     if mode_ac {
-        return ReplyKind::ModeAc;
+        ReplyKind::ModeAc
+    } else {
+        ReplyKind::Long
     }
-    ReplyKind::Long
 }
 
+#[tactic(auto, unfolding(crate::specs::Messages::message_at))]
 fn message_at(time: f64, offset: f64, phase: f64, error: f64, kind: ReplyKind) -> MessageConfig
     ensures { result ≡ message_at time offset phase error kind }
 {
     MessageConfig {
-        time: time,
+        time,
         cn0: time,
-        offset: offset,
-        phase: phase,
-        error: error,
+        offset,
+        phase,
+        error,
         reply: Reply {
-            kind: kind,
+            kind,
             bytes: [0; 14],
         },
     }
@@ -56,44 +60,47 @@ pub extern "C" fn port_message(
         mode_ac: delay_ac,
     };
     let o = c.onset(SamplesPerPulse::Four, delays);
-    let all = [
+    *out = [
         o.clock_error,
         o.clock_phase,
         o.carrier_rate,
         o.carrier_phase,
     ];
-    *out = all;
     c.first_sample_index(delays)
 }
 
-fn offset_drawn(answer: OffsetAnswer, draw: f64) -> f64
+#[tactic(auto, unfolding(crate::specs::Drawn::offset_drawn, crate::specs::Drawn::no_number))]
+fn offset_drawn(answer: Result<CarrierOffset, Refusal>, draw: f64) -> f64
     ensures { result ≡ offset_drawn answer draw }
 {
     match answer {
-        OffsetAnswer::Accepted(d) => draw_parameters::offset_of(d, draw),
-        OffsetAnswer::Refused => 0.0 / 0.0,
+        Ok(d) => draw_parameters::offset_of(d, draw),
+        Err(_) => 0.0 / 0.0,
     }
 }
 
-fn phase_drawn(answer: PhaseAnswer, draw: f64) -> f64
+#[tactic(auto, unfolding(crate::specs::Drawn::phase_drawn, crate::specs::Drawn::no_number))]
+fn phase_drawn(answer: Result<CarrierPhase, Refusal>, draw: f64) -> f64
     ensures { result ≡ phase_drawn answer draw }
 {
     match answer {
-        PhaseAnswer::Accepted(d) => draw_parameters::phase_of(d, draw),
-        PhaseAnswer::Refused => 0.0 / 0.0,
+        Ok(d) => draw_parameters::phase_of(d, draw),
+        Err(_) => 0.0 / 0.0,
     }
 }
 
-fn error_drawn(answer: ClockAnswer, draw: f64) -> f64
+#[tactic(auto, unfolding(crate::specs::Drawn::error_drawn, crate::specs::Drawn::no_number))]
+fn error_drawn(answer: Result<ClockError, Refusal>, draw: f64) -> f64
     ensures { result ≡ error_drawn answer draw }
 {
     match answer {
-        ClockAnswer::Accepted(d) => draw_parameters::error_of(d, draw),
-        ClockAnswer::Refused => 0.0 / 0.0,
+        Ok(d) => draw_parameters::error_of(d, draw),
+        Err(_) => 0.0 / 0.0,
     }
 }
 
 // What three draws become by a distribution of each kind, a NaN where it is refused.
+#[tactic(auto, unfolding(crate::specs::Drawn::raw_distribution_of))]
 #[unsafe(no_mangle)]
 pub extern "C" fn port_drawn(
     kind: u8,
@@ -107,14 +114,13 @@ pub extern "C" fn port_drawn(
     ensures { out.new ≡ offset_drawn (carrier_offset four (raw_distribution_of kind first second)) carrier ∷ (phase_drawn (carrier_phase (raw_distribution_of kind first second)) phase ∷ (error_drawn (clock_error (raw_distribution_of kind first second)) clock ∷ [])) }
 {
     let asked = RawDistribution {
-        kind: kind,
-        first: first,
-        second: second,
+        kind,
+        first,
+        second,
     };
-    let all = [
+    *out = [
         offset_drawn(distributions::carrier_offset(asked), carrier),
         phase_drawn(distributions::carrier_phase(asked), phase),
         error_drawn(distributions::clock_error(asked), clock),
     ];
-    *out = all;
 }

@@ -12,8 +12,7 @@ use filterbank::Clock;
 pub extern "C" fn port_filter_taps(prototype: &[f32], phase: f64, out: &mut [f32; 7])
     ensures { out.new ≡ filter_taps four prototype.now phase }
 {
-    let taps = filterbank::filter_taps(SamplesPerPulse::Four, prototype, phase);
-    *out = taps;
+    *out = filterbank::filter_taps(SamplesPerPulse::Four, prototype, phase);
 }
 
 // The sum at a position, of the first `len` positions as `pad_pulses` pads them.
@@ -26,10 +25,8 @@ pub extern "C" fn port_pulse_sum(
 ) -> f32
     ensures { result ≡ padded_sum taps.now (pad_pulses (take len on.now)) index }
 {
-    let t = *taps;
-    let positions = *on;
-    let padded = filterbank_apply::pad_pulses(positions, len);
-    filterbank_apply::pulse_sum(t, &padded, index)
+    let padded = filterbank_apply::pad_pulses(*on, len);
+    filterbank_apply::pulse_sum(*taps, &padded, index)
 }
 
 // The clock before the first sample: its phase, and in `index` its index.
@@ -47,11 +44,10 @@ pub extern "C" fn port_start_clock(phase: f64, index: &mut usize) -> f64
 pub extern "C" fn port_next_clock(phase: f64, error: f64, index: &mut usize) -> f64
     ensures { (result ≡ (in64 (advance (step_of four error) (record { phase = phase; index = index.old }))).phase) × (index.new ≡ (in64 (advance (step_of four error) (record { phase = phase; index = index.old }))).index) }
 {
-    let at = *index;
     let next = filterbank_clock::advance(
         Clock {
-            phase: phase,
-            index: at,
+            phase,
+            index: *index,
         },
         filterbank_clock::clock_step(SamplesPerPulse::Four, error),
     );

@@ -3,7 +3,8 @@ ghost use Rattle.std.specs.Prelude.{◌≡◌};
 ghost use Rattle.constants.specs.Rate.{four};
 ghost use Rattle.reply_samples.specs.Samples.{reply_samples, reply_count};
 ghost use Rattle.reply_samples.specs.RingModel.{added_reply, added_count};
-ghost use Rattle.test_exports.specs.Samples.{kind_numbered, config_at};
+ghost use Rattle.test_exports.specs.Replies.{kind_numbered};
+ghost use Rattle.test_exports.specs.Samples.{config_at};
 
 // Adds a reply of kind 0 short, 1 long, else Mode A/C, and answers its count.
 #[unsafe(no_mangle)]

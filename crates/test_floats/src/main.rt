@@ -12,43 +12,33 @@ const STDOUT_FILENO: i32 = 1;
 fn digit(b: u8) -> u64
     ensures { result < 16 }
 {
-    if b >= 48 {
-        if b < 58 {
-            return (b - 48) as u64;
-        }
+    match b {
+        b'0'..=b'9' => u64::from(b - b'0'),
+        b'a'..=b'f' => u64::from(b - b'a' + 10),
+        _ => 0,
     }
-    if b >= 97 {
-        if b < 103 {
-            return (b - 87) as u64;
-        }
-    }
-    0
 }
 
 // The number that hexadecimal digits give, modulo 2^64.
 fn hexadecimal(digits: &[u8]) -> u64 {
     let mut n: u64 = 0;
-    let mut k: usize = 0;
-    while k < digits.len() {
-        n = n % 0x1000_0000_0000_0000 * 16 + digit(digits[k]);
-        k = k + 1;
+    for b in digits {
+        n = n % 0x1000_0000_0000_0000 * 16 + digit(*b);
     }
     n
 }
 
 // The stored answer is what the port answers: `x as f32` for n, `x.ceil() as i64` (as an `f64` again) for c, `x as u64` for u. Another letter is wrong.
 fn agrees(letter: u8, x: f64, stored: u64) -> bool {
-    if letter == 110 {
-        return float_encoding::bits_of_f32(float_narrow::narrow(x)) as u64 == stored;
+    match letter {
+        b'n' => u64::from(float_encoding::bits_of_f32(float_narrow::narrow(x))) == stored,
+        b'c' => {
+            let n = float_to_int::ceil_to_i64(x);
+            float_encoding::bits_of(std::num::nearest_i64_to_f64(n)) == stored
+        }
+        b'u' => float_to_int::to_u64(x) == stored,
+        _ => false,
     }
-    if letter == 99 {
-        let n = float_to_int::ceil_to_i64(x);
-        return float_encoding::bits_of(std::num::nearest_i64_to_f64(n)) == stored;
-    }
-    if letter == 117 {
-        return float_to_int::to_u64(x) == stored;
-    }
-    false
 }
 
 // The line's answer is the port's.
@@ -68,18 +58,15 @@ fn say(lines: u64, wrong: u64) {
 
 fn main() {
     let mut line = [0u8; 36];
-    let mut lines: u64 = 0;
     let mut wrong: u64 = 0;
-    while lines < 100000 {
-        let n = io::read_full(STDIN_FILENO, &mut line);
-        if n < 36 {
+    for lines in 0..100000 {
+        if io::read_full(STDIN_FILENO, &mut line) < 36 {
             say(lines, wrong);
             return;
         }
-        lines = lines + 1;
         if !right(&line) {
-            wrong = wrong + 1;
+            wrong += 1;
         }
     }
-    say(lines, wrong);
+    say(100000, wrong);
 }

@@ -4,15 +4,15 @@
 
 ghost use Rattle.std.specs.Prelude.{◌≤◌, length};
 
-use le_read::{ReadU16, ReadU32, ReadU64};
-use le_read_floats::{ReadF32, ReadF64};
+use le_read_floats::FloatFault;
+use le_write::LeWrite;
 
 // The numbers that the system gives standard input and standard output.
 const STDIN_FILENO: i32 = 0;
 
 const STDOUT_FILENO: i32 = 1;
 
-const LAST: usize = 0xffff_ffff_ffff_ffff;
+const LAST: usize = usize::MAX;
 
 fn text(b: &[u8]) {
     io::write_all(STDOUT_FILENO, b);
@@ -23,53 +23,25 @@ fn digits(n: u64, width: usize) {
     io::print_hex(STDOUT_FILENO, n, width);
 }
 
-// A float is shown by the bytes that it is written as.
-fn show_f32(x: f32) {
-    let mut b = [0u8; 4];
-    le_write::put_f32(&mut b, 0, x);
-    digits(le_read_or_zero::u32_at(&b, 0) as u64, 8);
-}
-
-fn show_f64(x: f64) {
+// The number in the bytes that a float is written as.
+fn pattern<T: LeWrite>(x: T) -> u64 {
     let mut b = [0u8; 8];
-    le_write::put_f64(&mut b, 0, x);
-    digits(le_read_or_zero::u64_at(&b, 0), 16);
+    le_write::put(&mut b, 0, x);
+    le_read_or_zero::u64_at(&b, 0)
 }
 
-fn read_u16(r: ReadU16) {
+fn show_number(r: Option<u64>, width: usize) {
     match r {
-        ReadU16::Value(n) => digits(n as u64, 4),
-        ReadU16::OutOfBounds => text(b" past"),
+        Some(n) => digits(n, width),
+        None => text(b" past"),
     }
 }
 
-fn read_u32(r: ReadU32) {
+fn show_float(r: Result<u64, FloatFault>, width: usize) {
     match r {
-        ReadU32::Value(n) => digits(n as u64, 8),
-        ReadU32::OutOfBounds => text(b" past"),
-    }
-}
-
-fn read_u64(r: ReadU64) {
-    match r {
-        ReadU64::Value(n) => digits(n, 16),
-        ReadU64::OutOfBounds => text(b" past"),
-    }
-}
-
-fn read_f32(r: ReadF32) {
-    match r {
-        ReadF32::Value(x) => show_f32(x),
-        ReadF32::Nan => text(b" nan"),
-        ReadF32::OutOfBounds => text(b" past"),
-    }
-}
-
-fn read_f64(r: ReadF64) {
-    match r {
-        ReadF64::Value(x) => show_f64(x),
-        ReadF64::Nan => text(b" nan"),
-        ReadF64::OutOfBounds => text(b" past"),
+        Ok(n) => digits(n, width),
+        Err(FloatFault::Nan) => text(b" nan"),
+        Err(FloatFault::OutOfBounds) => text(b" past"),
     }
 }
 
@@ -77,58 +49,27 @@ fn read_f64(r: ReadF64) {
 fn reads(s: &[u8], at: usize) {
     text(b"read");
     digits(at as u64, 16);
-    read_u16(le_read::le_u16(s, at));
-    read_u32(le_read::le_u32(s, at));
-    read_u64(le_read::le_u64(s, at));
-    read_f32(le_read_floats::le_f32(s, at));
-    read_f64(le_read_floats::le_f64(s, at));
-    digits(le_read_or_zero::u16_at(s, at) as u64, 4);
-    digits(le_read_or_zero::u32_at(s, at) as u64, 8);
+    show_number(le_read::le_u16(s, at).map(u64::from), 4);
+    show_number(le_read::le_u32(s, at).map(u64::from), 8);
+    show_number(le_read::le_u64(s, at), 16);
+    show_float(le_read_floats::le_f32(s, at).map(pattern::<f32>), 8);
+    show_float(le_read_floats::le_f64(s, at).map(pattern::<f64>), 16);
+    digits(u64::from(le_read_or_zero::u16_at(s, at)), 4);
+    digits(u64::from(le_read_or_zero::u32_at(s, at)), 8);
     digits(le_read_or_zero::u64_at(s, at), 16);
-    show_f32(le_read_floats::f32_at(s, at));
-    show_f64(le_read_floats::f64_at(s, at));
+    digits(pattern(le_read_floats::f32_at(s, at)), 8);
+    digits(pattern(le_read_floats::f64_at(s, at)), 16);
     text(b"\n");
 }
 
-// What a write answered, and the twelve bytes after it.
-fn wrote(fits: bool, d: &[u8; 12]) {
-    if fits {
-        text(b" fits");
-    } else {
-        text(b" past");
-    }
-    digits(le_read_or_zero::u64_at(d, 0), 16);
-    digits(le_read_or_zero::u32_at(d, 8) as u64, 8);
-}
-
-fn write_u16(at: usize, v: u16) {
+// What a write answers, and the twelve bytes after it.
+fn wrote<F: FnOnce(&mut [u8]) -> bool>(put: F)
+    requires { F.IsAlwaysCallable put }
+{
     let mut d = [0xa5u8; 12];
-    let fits = le_write::put_u16(&mut d, at, v);
-    wrote(fits, &d);
-}
-
-fn write_u32(at: usize, v: u32) {
-    let mut d = [0xa5u8; 12];
-    let fits = le_write::put_u32(&mut d, at, v);
-    wrote(fits, &d);
-}
-
-fn write_u64(at: usize, v: u64) {
-    let mut d = [0xa5u8; 12];
-    let fits = le_write::put_u64(&mut d, at, v);
-    wrote(fits, &d);
-}
-
-fn write_f32(at: usize, v: f32) {
-    let mut d = [0xa5u8; 12];
-    let fits = le_write::put_f32(&mut d, at, v);
-    wrote(fits, &d);
-}
-
-fn write_f64(at: usize, v: f64) {
-    let mut d = [0xa5u8; 12];
-    let fits = le_write::put_f64(&mut d, at, v);
-    wrote(fits, &d);
+    text(if put(&mut d) { b" fits" } else { b" past" });
+    digits(le_read_or_zero::u64_at(&d, 0), 16);
+    digits(u64::from(le_read_or_zero::u32_at(&d, 8)), 8);
 }
 
 // A line of the five writes at an offset, of the values read at another.
@@ -136,11 +77,11 @@ fn writes(s: &[u8], from: usize, at: usize) {
     text(b"write");
     digits(from as u64, 16);
     digits(at as u64, 16);
-    write_u16(at, le_read_or_zero::u16_at(s, from));
-    write_u32(at, le_read_or_zero::u32_at(s, from));
-    write_u64(at, le_read_or_zero::u64_at(s, from));
-    write_f32(at, le_read_floats::f32_at(s, from));
-    write_f64(at, le_read_floats::f64_at(s, from));
+    wrote(|d| le_write::put_u16(d, at, le_read_or_zero::u16_at(s, from)));
+    wrote(|d| le_write::put_u32(d, at, le_read_or_zero::u32_at(s, from)));
+    wrote(|d| le_write::put_u64(d, at, le_read_or_zero::u64_at(s, from)));
+    wrote(|d| le_write::put_f32(d, at, le_read_floats::f32_at(s, from)));
+    wrote(|d| le_write::put_f64(d, at, le_read_floats::f64_at(s, from)));
     text(b"\n");
 }
 
@@ -148,21 +89,17 @@ fn writes(s: &[u8], from: usize, at: usize) {
 fn forward(s: &[u8])
     requires { length s.now ≤ 256 }
 {
-    let mut at: usize = 0;
-    while at <= s.len() {
+    for at in 0..=s.len() {
         reads(s, at);
         writes(s, at, at % 13);
-        at = at + 1;
     }
 }
 
 // The last offsets that a usize can name.
 fn backward(s: &[u8]) {
-    let mut k: usize = 0;
-    while k < 9 {
+    for k in 0..9 {
         reads(s, LAST - k);
         writes(s, 8 * k, LAST - k);
-        k = k + 1;
     }
 }
 

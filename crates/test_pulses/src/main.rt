@@ -5,9 +5,9 @@
 ghost use Rattle.std.specs.Prelude.{◌<◌};
 
 use constants::SamplesPerPulse;
-use mode_ac::{Built, ModeACReply};
+use mode_ac::ModeACReply;
 use pulse_map::Pulses;
-use settings_duration::InSamples;
+use refusals::Refusal;
 
 // The number that the system gives standard output.
 const STDOUT_FILENO: i32 = 1;
@@ -19,75 +19,46 @@ fn say(n: u64) {
     io::write_all(STDOUT_FILENO, b"\n");
 }
 
-fn number(on: bool) -> u64
-    ensures { result < 2 }
-{
-    if on { 1 } else { 0 }
+fn say_refused(q: Refusal) {
+    io::write_all(STDOUT_FILENO, b"refused ");
+    say(q.number());
 }
 
-fn say_samples(r: InSamples) {
+fn say_samples(r: Result<u64, Refusal>) {
     match r {
-        InSamples::Samples(n) => say(n),
-        InSamples::Refused => {
-            io::write_all(STDOUT_FILENO, b"refused 1\n");
-        }
+        Ok(n) => say(n),
+        Err(q) => say_refused(q),
     }
 }
 
-fn say_built(b: Built) {
-    match b {
-        Built::Reply(r) => {
-            io::print_decimal(STDOUT_FILENO, r.data as u64);
+fn say_reply(r: Result<ModeACReply, Refusal>) {
+    match r {
+        Ok(reply) => {
+            io::print_decimal(STDOUT_FILENO, u64::from(reply.data));
             io::write_all(STDOUT_FILENO, b" ");
-            say(number(r.spi));
+            say(u64::from(reply.spi));
         }
-        Built::Refused => {
-            io::write_all(STDOUT_FILENO, b"refused 10\n");
-        }
-    }
-}
-
-fn say_position(k: usize, on: bool) {
-    if on {
-        io::print_decimal(STDOUT_FILENO, k as u64);
-        io::write_all(STDOUT_FILENO, b" ");
+        Err(q) => say_refused(q),
     }
 }
 
 // The positions where pulses stand.
 fn say_positions(p: Pulses) {
-    let on = p.on;
-    let mut k: usize = 0;
-    while k < 240 {
-        say_position(k, on[k]);
-        k += 1;
+    for (k, on) in p.on.iter().enumerate() {
+        if *on {
+            io::print_decimal(STDOUT_FILENO, k as u64);
+            io::write_all(STDOUT_FILENO, b" ");
+        }
     }
     io::write_all(STDOUT_FILENO, b"\n");
 }
 
 // The positions of a map that its reply takes, 1 for a pulse and 0 for none.
 fn say_map(p: Pulses) {
-    let on = p.on;
-    let len = p.len;
-    let mut k: usize = 0;
-    while k < 240 {
-        if k < len {
-            io::print_decimal(STDOUT_FILENO, number(on[k]));
-        }
-        k += 1;
+    for on in p.on.iter().take(p.len) {
+        io::print_decimal(STDOUT_FILENO, u64::from(*on));
     }
     io::write_all(STDOUT_FILENO, b"\n");
-}
-
-fn equal(a: [bool; 240], b: [bool; 240]) -> bool {
-    let mut k: usize = 0;
-    while k < 240 {
-        if number(a[k]) != number(b[k]) {
-            return false;
-        }
-        k += 1;
-    }
-    true
 }
 
 // A number that depends on every position of a map, and on those before it by h.
@@ -95,12 +66,9 @@ fn digest(h: u64, p: Pulses) -> u64
     requires { h < 4294967291 }
     ensures { result < 4294967291 }
 {
-    let on = p.on;
     let mut g = (h * 256 + p.len as u64 % 256) % PRIME;
-    let mut k: usize = 0;
-    while k < 240 {
-        g = (g * 2 + number(on[k])) % PRIME;
-        k += 1;
+    for on in &p.on {
+        g = (g * 2 + u64::from(*on)) % PRIME;
     }
     g
 }
@@ -136,29 +104,21 @@ fn second_map(data: u16, spi: bool) -> [bool; 240] {
     p
 }
 
-fn second_equal(data: u16, spi: bool) -> bool {
-    let first = pulse_map::mode_ac_pulses(data, spi);
-    let on = first.on;
-    equal(on, second_map(data, spi))
-}
-
 // How many of the 4,096 maps equal the second one.
 fn equal_maps(spi: bool) -> u64 {
     let mut n: u64 = 0;
-    let mut data: u16 = 0;
-    while data < 4096 {
-        n += number(second_equal(data, spi));
-        data += 1;
+    for data in 0..4096 {
+        if pulse_map::mode_ac_pulses(data, spi).on == second_map(data, spi) {
+            n += 1;
+        }
     }
     n
 }
 
 fn digest_mode_ac(spi: bool) -> u64 {
     let mut h: u64 = 0;
-    let mut data: u16 = 0;
-    while data < 4096 {
+    for data in 0..4096 {
         h = digest(h, pulse_map::mode_ac_pulses(data, spi));
-        data += 1;
     }
     h
 }
@@ -169,21 +129,17 @@ fn message(seed: u64) -> [u8; 14]
 {
     let mut bytes = [0u8; 14];
     let mut s = seed;
-    let mut i: usize = 0;
-    while i < 14 {
+    for b in bytes.iter_mut() {
         s = (s * 1_103_515_245 + 12_345) % 2_147_483_648;
-        bytes[i] = (s / 65_536 % 256) as u8;
-        i += 1;
+        *b = (s / 65_536 % 256) as u8;
     }
     bytes
 }
 
 fn digest_mode_s(long: bool) -> u64 {
     let mut h: u64 = 0;
-    let mut seed: u64 = 0;
-    while seed < 1000 {
+    for seed in 0..1000 {
         h = digest(h, pulse_map::mode_s_pulses(message(seed), long));
-        seed += 1;
     }
     h
 }
@@ -214,11 +170,11 @@ fn lengths() {
 }
 
 fn replies() {
-    say_built(ModeACReply::from_abcd(7, 0, 0, 0, false));
-    say_built(ModeACReply::from_abcd(7, 0, 0, 8, false));
-    say_built(ModeACReply::from_abcd(1, 2, 3, 4, true));
-    say_built(ModeACReply::new(4095, false));
-    say_built(ModeACReply::new(4096, false));
+    say_reply(ModeACReply::from_abcd(7, 0, 0, 0, false));
+    say_reply(ModeACReply::from_abcd(7, 0, 0, 8, false));
+    say_reply(ModeACReply::from_abcd(1, 2, 3, 4, true));
+    say_reply(ModeACReply::new(4095, false));
+    say_reply(ModeACReply::new(4096, false));
 }
 
 fn mode_ac_maps(spi: bool) {

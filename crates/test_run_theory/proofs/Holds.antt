@@ -1,7 +1,7 @@
 -- The small generator meets the laws, so demand 3 holds of it.
+use Rattle.std.specs.Prelude.{Option, Some, None}
 use mathlib.Core.Bool.{Bool, true, false, cond}
 use mathlib.Core.List.{[]}
-use mathlib.Core.Option.{Option, none, some}
 use mathlib.Core.Path.{◌≡◌, refl}
 use Prim.Native.Nat.{ℕ, ◌+◌, ◌-◌, ◌≤◌}
 use native.Mathlib.Omega.{arith}
@@ -28,10 +28,10 @@ start_is total t d s e = go (leb d t) e
     go false p = let z : ◌≡◌ {A = ℕ} 0 1 = cc in omega arith
 
 -- a draw in range has a delay of at most 2
-delay_le : (d : SmallDraw) → fault_of d ≡ none → d.delay ≤ 2
+delay_le : (d : SmallDraw) → fault_of d ≡ None → d.delay ≤ 2
 delay_le d e = go (ltb 50 d.gap) (ltb 2 d.delay) refl e
   where
-    go : (x y : Bool) → ltb 2 d.delay ≡ y → cond {A = Option ℕ} x (some 0) (cond y (some 1) none) ≡ none → d.delay ≤ 2
+    go : (x y : Bool) → ltb 2 d.delay ≡ y → cond {A = Option ℕ} x (Some 0) (cond y (Some 1) None) ≡ None → d.delay ≤ 2
     go true y p q = let z : ◌≡◌ {A = ℕ} 0 1 = cc in omega arith
     go false true p q = let z : ◌≡◌ {A = ℕ} 0 1 = cc in omega arith
     go false false p q = ltb-false 2 d.delay p

@@ -1,6 +1,5 @@
 -- A small generator: a number of a sample is a list, and to add is to append, so that the order of additions shows. Draws and records have three bytes.
-use Rattle.std.specs.Prelude.{cond, List, [], ◌∷◌, ◌++◌, ℕ, ◌+◌, ◌-◌, leb, ltb, length, get_or}
-use Rattle.std.proofs.Math.Option.{Option, none, some}
+use Rattle.std.specs.Prelude.{Option, Some, None, cond, List, [], ◌∷◌, ◌++◌, ℕ, ◌+◌, ◌-◌, leb, ltb, length, get_or}
 use Rattle.run_theory.specs.Generator.{Generator, Start, negative, from}
 
 -- a time is a sum of gaps, and a start lies delay samples before it
@@ -11,7 +10,7 @@ pub record SmallDraw : Type 0 where
 
 -- a gap of at most 50, field 0, and a delay of at most 2, field 1, are in range
 abbrev pub fault_of : SmallDraw → Option ℕ
-fault_of d = cond (ltb 50 d.gap) (some 0) (cond (ltb 2 d.delay) (some 1) none)
+fault_of d = cond (ltb 50 d.gap) (Some 0) (cond (ltb 2 d.delay) (Some 1) None)
 
 abbrev pub start_of : ℕ → ℕ → Start
 start_of t d = cond (leb d t) (from (t - d)) negative

@@ -5,7 +5,6 @@ ghost use Rattle.std.specs.Prelude.{◌<◌, ◌≤◌};
 
 use constants::SamplesPerPulse;
 use filterbank::Clock;
-use pulse_shape::Crossing;
 
 // The number that the system gives standard output.
 const STDOUT_FILENO: i32 = 1;
@@ -32,11 +31,9 @@ fn lowpass(seed: u64) -> [f32; 1515]
 {
     let mut out = [0.0f32; 1515];
     let mut x = seed;
-    let mut k: usize = 0;
-    while k < 1515 {
+    for value in out.iter_mut() {
         x = next(x);
-        out[k] = tap(x);
-        k = k + 1;
+        *value = tap(x);
     }
     out
 }
@@ -46,11 +43,9 @@ fn pulses(seed: u64) -> [bool; 240]
 {
     let mut out = [false; 240];
     let mut x = seed;
-    let mut k: usize = 0;
-    while k < 240 {
+    for on in out.iter_mut() {
         x = next(x);
-        out[k] = x / 65536 % 2 == 1;
-        k = k + 1;
+        *on = x / 65536 % 2 == 1;
     }
     out
 }
@@ -60,7 +55,7 @@ fn fold(digest: u64, bits: u32) -> u64
     requires { digest < 0x100_0000_0000_0000 }
     ensures { result < 0x100_0000_0000_0000 }
 {
-    (digest * 31 + bits as u64) % 0x100_0000_0000_0000
+    (digest * 31 + u64::from(bits)) % 0x100_0000_0000_0000
 }
 
 fn fold_f32(digest: u64, x: f32) -> u64
@@ -75,10 +70,8 @@ fn values_digest(values: &[f32], start: u64) -> u64
     ensures { result < 0x100_0000_0000_0000 }
 {
     let mut digest = start;
-    let mut k: usize = 0;
-    while k < values.len() {
-        digest = fold_f32(digest, values[k]);
-        k = k + 1;
+    for x in values {
+        digest = fold_f32(digest, *x);
     }
     digest
 }
@@ -86,11 +79,9 @@ fn values_digest(values: &[f32], start: u64) -> u64
 // The taps at 4,096 phases that no branch divides evenly.
 fn taps_digest(prototype: &[f32]) -> u64 {
     let mut digest: u64 = 0;
-    let mut k: u32 = 0;
-    while k < 4096 {
+    for k in 0..4096u32 {
         let taps = filterbank::filter_taps(SamplesPerPulse::Four, prototype, k as f64 / 4096.7);
         digest = values_digest(&taps, digest);
-        k = k + 1;
     }
     digest
 }
@@ -101,17 +92,15 @@ fn reply(prototype: &[f32], padded: &[bool; 252], limit: usize, first: f64, e: f
     let mut clock = filterbank_clock::start_clock(SamplesPerPulse::Four, first);
     let mut digest: u64 = 0;
     let mut n: u64 = 0;
-    while n < 1200 {
-        if clock.index >= limit {
-            break;
-        }
+    // A `while`, since the count is printed and no index.
+    while n < 1200 && clock.index < limit {
         let taps = filterbank::filter_taps(SamplesPerPulse::Four, prototype, clock.phase);
         digest = fold_f32(
             digest,
             filterbank_apply::pulse_sum(taps, padded, clock.index),
         );
         clock = filterbank_clock::advance(clock, step);
-        n = n + 1;
+        n += 1;
     }
     io::write_all(STDOUT_FILENO, b"reply ");
     io::print_decimal(STDOUT_FILENO, n);
@@ -126,10 +115,9 @@ fn line(n: u64) {
 
 fn delay(level: f32, prototype: &[f32]) {
     io::write_all(STDOUT_FILENO, b"delay");
-    let d = pulse_group_delay::group_delay(level, prototype);
-    match d {
-        Crossing::At(x) => line(float_encoding::bits_of(x)),
-        Crossing::None => line(0),
+    match pulse_group_delay::group_delay(level, prototype) {
+        Some(x) => line(float_encoding::bits_of(x)),
+        None => line(0),
     }
 }
 

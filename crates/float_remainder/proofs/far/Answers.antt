@@ -1,8 +1,7 @@
 -- `far` meets its contract: an infinity apart, what is left at the end is the remainder.
-use Prim.Native.Nat.{ℕ, suc, ◌-◌, ◌≤◌, ◌<◌}
+use Prim.Native.Nat.{ℕ, suc, ◌+◌, ◌-◌, ◌≤◌, ◌<◌}
 use native.Mathlib.Omega.{arith}
 use mathlib.Core.Path.{◌≡◌, refl, sym, subst}
-use mathlib.Core.Bool.{true}
 use lib.Dec.{T}
 use Rattle.float_remainder.proofs.Steps.{Going, no_number, finite_of, starts, step, ends}
 use Rattle.float_remainder.proofs.far.Goals as goal
@@ -16,9 +15,9 @@ loop-i-init c = starts c.args.x (subst T (sym c.well_formed.0.1) tt) (finite_of 
 pub loop-i-preserved : goal.loop-i-preserved
 loop-i-preserved c =
     let l = c.loop-i in
-    step c.args.x l.r l.t (l.i - 1) (subst (λ (i : ℕ). Going c.args.x l.r l.t i) (sym (again l.i c.loop-i-test.true)) l.invariant) _ _ c.taken_off-r.ensures refl
+    step c.args.x l.r l.t (1022 - (l.i + 1)) (subst (λ (i : ℕ). Going c.args.x l.r l.t i) (again l.i c.loop-i-test.true) l.invariant) _ _ c.taken_off-r.ensures refl
   where
-    again : (i : ℕ) → 0 < i → suc (i - 1) ≡ i
+    again : (i : ℕ) → i < 1022 → 1022 - i ≡ suc (1022 - (i + 1))
     again i h = omega arith
 
 pub returns : goal.returns
@@ -26,5 +25,5 @@ returns c =
     let l = c.loop-i in
     ends c.args.x l.r l.t (subst T (sym c.well_formed.0.1) tt) (subst (λ (i : ℕ). Going c.args.x l.r l.t i) (over l.i c.loop-i-test.false) l.invariant)
   where
-    over : (i : ℕ) → i ≤ 0 → i ≡ 0
+    over : (i : ℕ) → 1022 ≤ i → 1022 - i ≡ 0
     over i h = omega arith

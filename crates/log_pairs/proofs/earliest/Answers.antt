@@ -1,13 +1,12 @@
 -- `log_pairs::earliest` meets its contract.
+use Rattle.std.specs.Prelude.{Option, None}
 use mathlib.Core.Path.{sym, subst}
-use Prim.Native.Nat.{ℕ, ◌+◌, ◌-◌, ◌/◌}
+use Prim.Native.Nat.{ℕ, ◌+◌, ◌/◌}
 use lib.ListN.{length}
 use Rattle.log_entry.specs.Entries.{logs, first_of}
-use Rattle.log_theory.specs.declared.Partner.{Partner}
 use Rattle.log_theory.specs.PairingLaws.{Earliest}
 use Rattle.log_theory.specs.PairsModel.{free_in, Past}
 use Rattle.log_pairs.proofs.Marks.{stops}
-use Rattle.log_theory.specs.declared.Partner.TheVariants.{Alone as alone}
 use Rattle.log_theory.proofs.Window.{none_before, none_behind, skipped, one_more, finish}
 use borrow.Author.Rules.{rules}
 use native.Mathlib.Omega.{arith}
@@ -18,7 +17,7 @@ loop-j-init c =
     let a = c.args in
     let pre = c.requires in (
       c.next_free-j.ensures.0,
-      skipped (logs a.log.now a.records.now a.d) (free_in a.owners.now) a.i a.lo c.next_free-j.result alone c.next_free-j.ensures.1
+      skipped (logs a.log.now a.records.now a.d) (free_in a.owners.now) a.i a.lo c.next_free-j.result None c.next_free-j.ensures.1
           (none_before (logs a.log.now a.records.now a.d) (free_in a.owners.now) a.i a.lo (subst (λ (x : ℕ). Past (first_of a.records.now) a.d (free_in a.owners.now) x a.lo) pre.0 pre.3)),
     )
 
@@ -41,7 +40,7 @@ loop-j-preserved c =
     let l = c.loop-j in (
       c.next_free-j-in-loop-j.ensures.0,
       skipped (logs a.log.now a.records.now a.d) (free_in a.owners.now) a.i (l.j + 1) c.next_free-j-in-loop-j.result c.better-best.result c.next_free-j-in-loop-j.ensures.1
-          (subst (λ (b : Partner). Earliest (logs a.log.now a.records.now a.d) (free_in a.owners.now) a.i (l.j + 1) b) (sym c.better-best.ensures) (one_more (logs a.log.now a.records.now a.d) (free_in a.owners.now) a.i l.j l.best l.invariant.1)),
+          (subst (λ (b : (Option ℕ)). Earliest (logs a.log.now a.records.now a.d) (free_in a.owners.now) a.i (l.j + 1) b) (sym c.better-best.ensures) (one_more (logs a.log.now a.records.now a.d) (free_in a.owners.now) a.i l.j l.best l.invariant.1)),
     )
 
 pub returns : goal.returns

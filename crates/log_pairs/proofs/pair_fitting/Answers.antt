@@ -15,5 +15,5 @@ returns c =
     let f = c.fill in
     let g = c.fill-2 in
     c.pair_each.ensures
-    ∙ from_filled (logs a.log.now a.records.now a.d) (length a.log.now / 23) (length a.log.now / 23) (length a.records.now / 66) f.new.s g.new.s a.partners.now a.owners.now f.ensures g.ensures pre.0 pre.1
+    ∙ from_filled (logs a.log.now a.records.now a.d) (length a.log.now / 23) (length a.log.now / 23) (length a.records.now / 66) f.new.self g.new.self a.partners.now a.owners.now (f.ensures.after (λ y e. e)) (g.ensures.after (λ y e. e)) pre.0 pre.1
     ∙ reported (logs a.log.now a.records.now a.d) (omega arith)

@@ -1,22 +1,26 @@
--- `page_fill::put_lines` meets its contract: the invariant is `Filled`.
-use Rattle.page_fill.proofs.Filled.{none_filled, filled_length, one_filled, all_filled}
+-- `page_fill::put_lines` meets its contract: after k steps the lines of k records are put.
+use mathlib.Core.Path.{ap, ◌∙◌}
+use Prim.Native.Nat.{ℕ, ◌/◌}
+use lib.ListN.{length}
+use Rattle.le_read.specs.LeBytes.{overwritten}
+use Rattle.reply_record.proofs.Overwritten.{none_overwritten}
+use Rattle.page_fill.specs.Pages.{record_lines}
+use Rattle.page_fill.proofs.Filled.{one_filled}
 use native.Mathlib.Omega.{arith}
 use Rattle.page_fill.proofs.put_lines.Goals as goal
 
-pub loop-rest-init : goal.loop-rest-init
-loop-rest-init c = none_filled c.args.records.now c.requires.0 c.args.out.now c.requires.1
+pub loop-k-init : goal.loop-k-init
+unfolding record_lines
+loop-k-init c = none_overwritten c.args.out.now 0
 
-pub loop-rest-preserved : goal.loop-rest-preserved
-loop-rest-preserved c =
-    let l = c.loop-rest in
-    one_filled c.args.records.now c.requires.0 c.args.out.now c.requires.1 l.out l.rest.now l.at l.invariant (omega arith) c.put.ensures.1
-
-pub shape_of-out : goal.shape_of-out
-shape_of-out c =
-    let l = c.loop-rest in
-    filled_length c.args.records.now c.requires.0 c.args.out.now c.requires.1 l.out l.rest.now l.at l.invariant
+pub loop-k-preserved : goal.loop-k-preserved
+loop-k-preserved c =
+    let a = c.args in
+    let l = c.loop-k in
+    one_filled a.records.now c.requires.0 a.out.now c.requires.1 l.out l.k l.invariant (omega arith) c.put.ensures.1
 
 pub returns : goal.returns
 returns c =
-    let l = c.loop-rest in
-    all_filled c.args.records.now c.requires.0 c.args.out.now c.requires.1 l.out l.rest.now l.at l.invariant (omega arith)
+    let a = c.args in
+    let l = c.loop-k in
+    l.invariant ∙ ap (λ (k : ℕ). overwritten a.out.now 0 (record_lines k a.records.now)) {x = l.k} {y = length a.records.now / 66} (omega arith)

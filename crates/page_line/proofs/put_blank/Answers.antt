@@ -11,15 +11,15 @@ use Rattle.page_line.proofs.put_blank.Goals as goal
 pub put_blanks-requires : goal.put_blanks-requires
 put_blanks-requires c =
     let a = c.args in
-    let h : a.at + 73 ≤ length a.out.now = leb-true (a.at + 73) (length a.out.now) (sym c.holds.ensures ∙ c.if-holds.true) in
+    let h : a.at + 73 ≤ length a.out.now = leb-true (a.at + 73) (length a.out.now) (sym c.holds.ensures ∙ c.if-not-holds.false) in
     omega arith
-
-pub returns-then-holds : goal.returns-then-holds
-returns-then-holds c =
-    let a = c.args in
-    blank_done [] a.out.now a.at c.holds.ensures c.if-holds.true c.put_blanks.ensures
 
 pub returns : goal.returns
 returns c =
     let a = c.args in
-    blank_kept [] a.out.now a.at c.holds.ensures c.if-holds.false
+    blank_done [] a.out.now a.at c.holds.ensures c.if-not-holds.false c.put_blanks.ensures
+
+pub returns-then-not-holds : goal.returns-then-not-holds
+returns-then-not-holds c =
+    let a = c.args in
+    blank_kept [] a.out.now a.at c.holds.ensures c.if-not-holds.true

@@ -10,8 +10,8 @@ put_numbers-requires c =
     let r = c.args.rec.now in
     let i = in_range r c.requires.0 in
     let u = c.u64_at-first.ensures in
-    let b = c.wide.ensures.0 ∙ c.byte_at-kind.ensures in
-    let v = c.u16_at-count.ensures in
+    let b = c.from.ensures ∙ c.byte_at-kind.ensures in
+    let v = c.from-2.ensures ∙ c.u16_at-count.ensures in
     let q = fields_below r i u b v in
     (q.0, q.1, q.2, omega (arith, c.requires.1))
 
@@ -20,8 +20,8 @@ overflow_sub-at c =
     let r = c.args.rec.now in
     let i = in_range r c.requires.0 in
     let u = c.u64_at-first.ensures in
-    let b = c.wide.ensures.0 ∙ c.byte_at-kind.ensures in
-    let v = c.u16_at-count.ensures in
+    let b = c.from.ensures ∙ c.byte_at-kind.ensures in
+    let v = c.from-2.ensures ∙ c.u16_at-count.ensures in
     let e = ends r i c.args.out.now c.args.at c.requires.1 u b v c.put_numbers.ensures c.message_at-end.ensures.0 in
     let m = message_short r in
     omega arith
@@ -31,8 +31,8 @@ overflow_sub-end c =
     let r = c.args.rec.now in
     let i = in_range r c.requires.0 in
     let u = c.u64_at-first.ensures in
-    let b = c.wide.ensures.0 ∙ c.byte_at-kind.ensures in
-    let v = c.u16_at-count.ensures in
+    let b = c.from.ensures ∙ c.byte_at-kind.ensures in
+    let v = c.from-2.ensures ∙ c.u16_at-count.ensures in
     let e = ends r i c.args.out.now c.args.at c.requires.1 u b v c.put_numbers.ensures c.message_at-end.ensures.0 in
     let m = message_short r in
     omega arith
@@ -42,8 +42,8 @@ put_blanks-requires c =
     let r = c.args.rec.now in
     let i = in_range r c.requires.0 in
     let u = c.u64_at-first.ensures in
-    let b = c.wide.ensures.0 ∙ c.byte_at-kind.ensures in
-    let v = c.u16_at-count.ensures in
+    let b = c.from.ensures ∙ c.byte_at-kind.ensures in
+    let v = c.from-2.ensures ∙ c.u16_at-count.ensures in
     let e = ends r i c.args.out.now c.args.at c.requires.1 u b v c.put_numbers.ensures c.message_at-end.ensures.0 in
     let m = message_short r in
     omega (arith, c.requires.1)
@@ -53,6 +53,6 @@ returns c =
     let r = c.args.rec.now in
     let i = in_range r c.requires.0 in
     let u = c.u64_at-first.ensures in
-    let b = c.wide.ensures.0 ∙ c.byte_at-kind.ensures in
-    let v = c.u16_at-count.ensures in
+    let b = c.from.ensures ∙ c.byte_at-kind.ensures in
+    let v = c.from-2.ensures ∙ c.u16_at-count.ensures in
     line_put r i c.args.out.now c.args.at c.requires.1 u b v c.put_numbers.ensures c.message_at-end.ensures.0 c.message_at-end.ensures.1 c.put_blanks.ensures refl refl

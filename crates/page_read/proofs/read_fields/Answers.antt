@@ -1,5 +1,7 @@
 -- `page_read::read_fields` meets its contract.
-use mathlib.Core.Path.{refl, ◌∙◌, ap}
+use Prim.Native.Nat.{ℕ, ◌^◌}
+use mathlib.Core.Path.{◌≡◌, ◌∙◌, ap}
+use lib.ListN.{length, take, drop, length-take, length-drop}
 use Rattle.page_read.specs.Fields.{shown_message}
 use Rattle.page_read.proofs.Values.{fields, type_at_most_14}
 use borrow.Author.Rules.{rules}
@@ -7,12 +9,14 @@ use native.Mathlib.Omega.{arith}
 use Rattle.page_read.proofs.read_fields.Goals as goal
 
 pub read_message-message-requires : goal.read_message-message-requires
-read_message-message-requires c = (search rules, omega (arith, c.wide.ensures.0, c.type_length-size.ensures, type_at_most_14 c.digit-kind.result))
+read_message-message-requires c = (search rules, omega (arith, c.from.ensures, c.type_length-size.ensures, type_at_most_14 c.digit-kind.result))
 
 pub overflow_cast-result : goal.overflow_cast-result
-overflow_cast-result c = omega (arith, c.read_number-count.ensures.1)
+overflow_cast-result c =
+    let e : length (take 4 (drop 19 c.args.line.now)) ≡ 4 = simp (length-take, length-drop) (omega arith) in
+    omega (arith, c.read_number-count.ensures.1, ap (λ (n : ℕ). 10 ^ n) e)
 
 pub returns : goal.returns
 returns c =
     let l = c.args.line.now in
-    fields l c.digit-kind.ensures.0 c.type_length-size.ensures c.read_number-first.ensures.0 c.read_number-count.ensures.0 refl (c.read_message-message.ensures ∙ ap (shown_message c.digit-kind.result l) c.wide.ensures.0)
+    fields l c.digit-kind.ensures.0 c.type_length-size.ensures c.read_number-first.ensures.0 c.read_number-count.ensures.0 (c.read_message-message.ensures ∙ ap (shown_message c.digit-kind.result l) c.from.ensures)

@@ -1,5 +1,4 @@
 -- `page_read::read_message` meets its contract: after k steps k bytes are read.
-use Prim.Native.Nat.{◌-◌}
 use mathlib.Core.Path.{◌≡◌, ap, ◌∙◌}
 use lib.ListN.{length-set}
 use Rattle.page_read.specs.Fields.{shown_message}
@@ -9,17 +8,17 @@ use native.Mathlib.Omega.{arith}
 use Rattle.page_read.proofs.read_message.Goals as goal
 
 pub loop-k-init : goal.loop-k-init
-loop-k-init c = (search rules, search rules, no_byte c.args.kind c.args.line.now)
+loop-k-init c = (search rules, no_byte c.args.kind c.args.line.now)
 
 pub loop-k-preserved : goal.loop-k-preserved
 loop-k-preserved c =
     let l = c.loop-k in
     let a = c.args in
-    (search rules, simp length-set (search rules), next_shown a.kind a.line.now l.k l.message (omega arith) l.invariant.2 c.shown_byte.ensures c.place_of.ensures.0)
+    (simp length-set (search rules), next_shown a.kind a.line.now l.k l.message (omega arith) l.invariant.1 c.shown_byte.ensures c.place_of.ensures.0)
 
 pub returns : goal.returns
 returns c =
     let l = c.loop-k in
     let a = c.args in
     let e : l.k ≡ a.n = omega arith in
-    l.invariant.2 ∙ ap (shown_message a.kind a.line.now) e
+    l.invariant.1 ∙ ap (shown_message a.kind a.line.now) e

@@ -8,13 +8,12 @@ use Rattle.mode_ac.proofs.RisingPositions.{position_below}
 use Rattle.pulse_map.specs.ModeAC.{data_positions}
 use Rattle.pulse_map.proofs.Marked.{mark}
 use Rattle.pulse_map.proofs.ModeACLoop.{step_set, step_clear, end, whole_spi, whole}
-use borrow.Author.Rules.{rules}
 use native.Mathlib.Omega.{arith}
 use Rattle.pulse_map.proofs.mode_ac_pulses.Goals as goal
 use Rattle.pulse_map.proofs.mode_ac_pulses.Goals.{then-bit_of, else-bit_of}
 
 pub loop-n-init : goal.loop-n-init
-loop-n-init c = (search rules, refl, refl)
+loop-n-init c = (refl, refl)
 
 pub bounds-on-position_of : goal.bounds-on-position_of
 bounds-on-position_of c = omega (arith, position_below c.loop-n.n c.loop-n-test.true)
@@ -25,14 +24,13 @@ loop-n-preserved c =
     let d = c.args.«data» in
     let h = c.loop-n-test.true in
     let left : List Bool → List Bool = mark (data_positions d (12 - (l.n + 1)) (l.n + 1)) in (
-      search rules,
       elim c.if-bit_of.branch [
-        | then-bit_of w ↦ ap length w.on-is ∙ length-set l.on w.position_of.result true ∙ l.invariant.1
-        | else-bit_of w ↦ ap length w.on-is ∙ l.invariant.1
+        | then-bit_of w ↦ ap length w.on-is ∙ length-set l.on w.position_of.result true ∙ l.invariant.0
+        | else-bit_of w ↦ ap length w.on-is ∙ l.invariant.0
       ],
       elim c.if-bit_of.branch [
-        | then-bit_of w ↦ ap left (w.on-is ∙ ap (λ (p : ℕ). set l.on p true) w.position_of.ensures) ∙ step_set d l.n l.on h (sym c.bit_of.ensures ∙ w.if-bit_of.true) ∙ l.invariant.2
-        | else-bit_of w ↦ ap left w.on-is ∙ step_clear d l.n l.on h (sym c.bit_of.ensures ∙ w.if-bit_of.false) ∙ l.invariant.2
+        | then-bit_of w ↦ ap left (w.on-is ∙ ap (λ (p : ℕ). set l.on p true) w.position_of.ensures) ∙ step_set d l.n l.on h (sym c.bit_of.ensures ∙ w.if-bit_of.true) ∙ l.invariant.1
+        | else-bit_of w ↦ ap left w.on-is ∙ step_clear d l.n l.on h (sym c.bit_of.ensures ∙ w.if-bit_of.false) ∙ l.invariant.1
       ],
     )
 
@@ -40,10 +38,10 @@ pub returns-then-spi : goal.returns-then-spi
 returns-then-spi c =
     let l = c.loop-n in
     let a = c.args in
-    whole_spi a.«data» a.spi l.on (sym (end a.«data» l.n l.on c.loop-n-test.false) ∙ l.invariant.2) c.if-spi.true
+    whole_spi a.«data» a.spi l.on (sym (end a.«data» l.n l.on c.loop-n-test.false) ∙ l.invariant.1) c.if-spi.true
 
 pub returns : goal.returns
 returns c =
     let l = c.loop-n in
     let a = c.args in
-    whole a.«data» a.spi l.on (sym (end a.«data» l.n l.on c.loop-n-test.false) ∙ l.invariant.2) c.if-spi.false
+    whole a.«data» a.spi l.on (sym (end a.«data» l.n l.on c.loop-n-test.false) ∙ l.invariant.1) c.if-spi.false

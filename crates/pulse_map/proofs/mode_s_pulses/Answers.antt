@@ -13,7 +13,7 @@ use Rattle.pulse_map.proofs.mode_s_pulses.Goals as goal
 pub loop-n-init : goal.loop-n-init
 loop-n-init c =
     let bits = c.num_bits-bits.result in
-    (search rules, refl, ap (λ (k : ℕ). mark (bit_positions c.args.bytes k 0) preambled) {x = bits - 0} {y = bits} (sub-zero bits))
+    (refl, ap (λ (k : ℕ). mark (bit_positions c.args.bytes k 0) preambled) {x = bits - 0} {y = bits} (sub-zero bits))
 
 pub loop-n-preserved : goal.loop-n-preserved
 unfolding bit_of
@@ -21,11 +21,10 @@ loop-n-preserved c =
     let l = c.loop-n in
     let bytes = c.args.bytes in
     let bits = c.num_bits-bits.result in (
-      search rules,
-      length-set l.on _ true ∙ l.invariant.1,
+      length-set l.on _ true ∙ l.invariant.0,
       ap (λ (p : ℕ). mark (bit_positions bytes (bits - (l.n + 1)) (l.n + 1)) (set l.on p true)) (sym (pair_position_lem l.n c.bit-second.result (search rules)) ∙ ap (pair_position l.n) c.bit-second.ensures.0)
           ∙ turn bytes bits l.n l.on c.loop-n-test.true
-          ∙ l.invariant.2,
+          ∙ l.invariant.1,
     )
 
 pub returns : goal.returns
@@ -35,5 +34,5 @@ returns c =
     let a = c.args in
     let bits = c.num_bits-bits.result in
     whole a.bytes a.long l.on _
-    (sym (end a.bytes bits l.n l.on c.loop-n-test.false) ∙ l.invariant.2 ∙ ap (λ (n : ℕ). mark (bit_positions a.bytes n 0) preambled) c.num_bits-bits.ensures.0)
+    (sym (end a.bytes bits l.n l.on c.loop-n-test.false) ∙ l.invariant.1 ∙ ap (λ (n : ℕ). mark (bit_positions a.bytes n 0) preambled) c.num_bits-bits.ensures.0)
     (ap (λ (n : ℕ). 16 + 2 * n) c.num_bits-bits.ensures.0)

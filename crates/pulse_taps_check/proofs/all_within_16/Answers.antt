@@ -1,23 +1,16 @@
--- `all_within_16` meets its contract: what is left of the list decides as the whole does.
-use borrow.Author.Rules.{rules}
-use Prim.Native.Nat.{◌-◌}
-use mathlib.Core.Path.{sym, ◌∙◌}
-use Rattle.pulse_shape.proofs.LoopSteps.{within_stop, within_on, within_end}
+-- `all_within_16` meets its contract: the call of `all` decides as the definition does.
+use Rattle.std.proofs.Common.{◌≡◌, ◌&&◌, Bool, refl, rules, tests, ◌∙◌}
+use Rattle.std.specs.List.{list_all}
+use Rattle.std.proofs.lemmas.Iterator.{YieldsList-from_slice}
+use Rattle.std.proofs.lemmas.Iterator.Search.{all_from_yields_List}
+use Rattle.std.proofs.lemmas.List.Recursion.{same_from_clauses}
+use lib.Ieee.{Float}
+use Rattle.pulse_shape.specs.Accepted.{within16, all_within16}
 use Rattle.pulse_taps_check.proofs.all_within_16.Goals as goal
 
-pub returns-then-not-within_16 : goal.returns-then-not-within_16
-returns-then-not-within_16 c =
-    let l = c.loop-j in
-    let v = c.args.values.now in
-    sym (within_stop v l.j c.loop-j-test.true (sym c.within_16.ensures ∙ c.if-not-within_16.true)) ∙ l.invariant.1
-
-pub loop-j-preserved : goal.loop-j-preserved
-loop-j-preserved c =
-    let l = c.loop-j in
-    let v = c.args.values.now in
-    (search rules, sym (within_on v l.j c.loop-j-test.true (sym c.within_16.ensures ∙ c.if-not-within_16.false)) ∙ l.invariant.1)
-
 pub returns : goal.returns
+unfolding all_within16
 returns c =
-    let l = c.loop-j in
-    sym (within_end c.args.values.now l.j c.loop-j-test.false) ∙ l.invariant.1
+    let v = c.args.values.now in
+    all_from_yields_List within16 _ _ _ c.all.ensures.ran (YieldsList-from_slice v cc) (λ x b q k. search (rules, tests))
+    ∙ same_from_clauses (list_all within16) all_within16 (λ (x : Float) (y : Bool). within16 x && y) refl (λ _ _. refl) (λ _ _. refl) v

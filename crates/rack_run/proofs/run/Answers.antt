@@ -3,18 +3,18 @@ use mathlib.Core.Bool.{Bool, cond}
 use mathlib.Core.Path.{sym, ap, ◌∙◌}
 use Prim.Native.Nat.{ℕ}
 use borrow.Author.Tests.{eq-eqb}
+use native.Mathlib.Omega.{arith}
 use lib.ListN.{length}
 use Rattle.rack.specs.Memory.{held_after}
 use Rattle.rack_run.specs.Calls.{feed_count, lengths_fit, feeds_up_to}
 use Rattle.rack_run.proofs.Answers.{refused, accepted}
 use Rattle.rack_run.proofs.Lengths.{fits}
-use native.Mathlib.Omega.{arith}
 use Rattle.rack_run.proofs.run.Goals as goal
 
 pub returns-then-not-lengths_fit : goal.returns-then-not-lengths_fit
 returns-then-not-lengths_fit c =
     let a = c.args in
-    refused a.rack a.memory.now (record { samples = a.samples.now; room = a.room.now }) c.number.result c.number.ensures
+    refused a.rack a.memory.now (record { samples = a.samples.now; room = a.room.now })
     (sym (c.lengths_fit.ensures ∙ ap (λ (k : ℕ). lengths_fit k (length a.memory.now) (length a.samples.now) (length a.room.now)) c.feed_count-count.ensures) ∙ c.if-not-lengths_fit.true)
 
 pub write_feeds-requires : goal.write_feeds-requires

@@ -6,9 +6,6 @@ use Rattle.reply_add.proofs.add_by.Goals as goal
 pub wave_of-w-requires : goal.wave_of-w-requires
 wave_of-w-requires c = pulses_most c.args.c.reply _ c.message_to_pulses-p.ensures
 
-pub add_wave-requires : goal.add_wave-requires
-add_wave-requires c = c.wave_of-w.ensures.1
-
 pub returns : goal.returns
 returns c =
     let a = c.args in

@@ -1,12 +1,7 @@
 -- `add_wave` meets its contract.
-use native.Mathlib.Omega.{arith}
-use lib.ListN.{length-take}
 use Rattle.constants.specs.Setting.{per_pulse}
 use Rattle.reply_add.proofs.Adding.{by_wave, few}
 use Rattle.reply_add.proofs.add_wave.Goals as goal
-
-pub slice_bounds-add_rotated-end : goal.slice_bounds-add_rotated-end
-slice_bounds-add_rotated-end c = simp length-take (omega arith)
 
 pub overflow_cast-result : goal.overflow_cast-result
 overflow_cast-result c =

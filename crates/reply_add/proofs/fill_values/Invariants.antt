@@ -1,5 +1,5 @@
--- `fill_values` meets its contract. The invariant: what is written and what is left to write make all values.
-use Prim.Native.Nat.{◌+◌, ◌≤◌, ◌-◌}
+-- What is written and what is left to write make all values.
+use Prim.Native.Nat.{◌≤◌, ◌-◌}
 use mathlib.Core.Path.{◌≡◌}
 use mathlib.Core.List.{◌++◌}
 use lib.ListN.{length, take}
@@ -10,10 +10,6 @@ use Rattle.reply_add.proofs.fill_values.Given as goal
 
 abbrev pub invariant-loop-n : goal.invariant-loop-n
 invariant-loop-n l =
-    (l.n ≤ l.fuel)
-    × (l.fuel ≤ 2214)
+    (l.most ≤ 2214)
     × (length l.values ≡ 2214)
-    × (take l.n l.values ++ clock_values (l.fuel - l.n) l.limit l.step (padded_value (per_pulse l.setting) l.prototype l.padded) l.clock ≡ padded_values (per_pulse l.setting) l.prototype l.padded l.limit l.step l.initial.clock)
-
-abbrev pub decreases-loop-n : goal.decreases-loop-n
-decreases-loop-n l = l.fuel - l.n
+    × (take l.n l.values ++ clock_values (l.most - l.n) l.w.limit l.w.step (padded_value (per_pulse l.setting) l.prototype l.padded) l.clock ≡ padded_values (per_pulse l.setting) l.prototype l.padded l.w.limit l.w.step l.w.clock)

@@ -1,20 +1,10 @@
 -- `reply_record::put` meets its contract.
-use borrow.Author.Rules.{rules}
 use mathlib.Core.Path.{sym, ◌∙◌}
 use native.Mathlib.Omega.{arith}
 use Rattle.reply_record.specs.Record.{float_bytes, other_bytes, record_bytes}
 use Rattle.reply_record.proofs.Overwritten.{next, room, record_there, record_past}
 use Rattle.reply_record.proofs.RecordLength.{float_length}
 use Rattle.reply_record.proofs.put.Goals as goal
-
-pub put_floats-requires : goal.put_floats-requires
-put_floats-requires c = let a = c.args in let h = room a.d.now a.at _ c.holds.ensures c.if-holds.true in search rules
-
-pub overflow_add-at : goal.overflow_add-at
-overflow_add-at c = let a = c.args in let h = room a.d.now a.at _ c.holds.ensures c.if-holds.true in search rules
-
-pub put_others-requires : goal.put_others-requires
-put_others-requires c = let a = c.args in let h = room a.d.now a.at _ c.holds.ensures c.if-holds.true in search rules
 
 pub returns-then-holds : goal.returns-then-holds
 unfolding record_bytes

@@ -1,5 +1,6 @@
 -- `booking` meets its contract: the checks in order, then `of_run`.
 -- what opening answers
+use Rattle.std.proofs.lemmas.Result.{err_from_is_err_and}
 use mathlib.Core.Path.{◌≡◌, sym, ap, ◌∙◌}
 use Rattle.run_open_checks.specs.declared.Prepared.{Prepared}
 use Rattle.run_open_checks.specs.Opening.{prepared_of}
@@ -18,18 +19,19 @@ unfolding prepared_of
 of_run-requires c =
     let a = c.args in
     let is_opened : c.prepare-prepared.result.opened ≡ opened a.taps_s.now a.taps_ac.now a.settings.now = ap (λ (p : Prepared). p.opened) c.prepare-prepared.ensures in
-    (few_samples a.taps_s.now a.taps_ac.now a.settings.now _ (sym is_opened ∙ c.in-Run.is), c.if-draws-ne0.false)
+    few_samples a.taps_s.now a.taps_ac.now a.settings.now _ (sym is_opened ∙ c.in_ok-s.was)
 
-pub returns-in-Refused : goal.returns-in-Refused
+pub returns-in_err-s : goal.returns-in_err-s
 unfolding prepared_of
-returns-in-Refused c =
+returns-in_err-s c =
     let a = c.args in
     let is_opened : c.prepare-prepared.result.opened ≡ opened a.taps_s.now a.taps_ac.now a.settings.now = ap (λ (p : Prepared). p.opened) c.prepare-prepared.ensures in
-    opening_refused a.taps_s.now a.taps_ac.now a.time a.settings.now a.draws.now c.if-draws-ne0.false _ is_opened _ c.in-Refused.is
+    let p = err_from_is_err_and c.from_residual.result c.from_residual.ensures.1 in
+    rw (p.1, p.2) (opening_refused a.taps_s.now a.taps_ac.now a.time a.settings.now a.draws.now c.if-draws-ne0.false _ is_opened _ c.in_err-s.was)
 
-pub returns-in-Run : goal.returns-in-Run
+pub returns : goal.returns
 unfolding prepared_of
-returns-in-Run c =
+returns c =
     let a = c.args in
     let is_opened : c.prepare-prepared.result.opened ≡ opened a.taps_s.now a.taps_ac.now a.settings.now = ap (λ (p : Prepared). p.opened) c.prepare-prepared.ensures in
-    run_booked a.taps_s.now a.taps_ac.now a.time a.settings.now a.draws.now c.if-draws-ne0.false _ is_opened _ _ c.in-Run.is c.of_run.ensures
+    run_booked a.taps_s.now a.taps_ac.now a.time a.settings.now a.draws.now c.if-draws-ne0.false _ is_opened _ _ c.in_ok-s.was c.of_run.ensures

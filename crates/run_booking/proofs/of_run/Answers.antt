@@ -3,10 +3,8 @@ use mathlib.Core.List.{[]}
 use Rattle.run_booking.proofs.Decided.{draw_refused, figures_given}
 use Rattle.run_booking.proofs.of_run.Goals as goal
 
-pub returns-in-At : goal.returns-in-At
-returns-in-At c =
-    draw_refused c.args.s [] [] c.args.time c.args.draws.now _ c.requires.1 c.first_fault-fault.ensures _ _ c.in-At.is
+pub returns-in-Some : goal.returns-in-Some
+returns-in-Some c = draw_refused c.args.s [] [] c.args.time c.args.draws.now _ c.first_fault.ensures _ _ c.in-Some.is
 
 pub returns : goal.returns
-returns c =
-    figures_given c.args.s [] [] c.args.time c.args.draws.now _ c.requires.1 c.first_fault-fault.ensures c.in_default.is _ c.walk-walked.ensures.0
+returns c = figures_given c.args.s [] [] c.args.time c.args.draws.now _ c.first_fault.ensures c.in_default.is _ c.walk-walked.ensures.0

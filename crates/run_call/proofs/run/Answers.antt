@@ -1,7 +1,6 @@
 -- `run` meets its contract: the checks in order, each the plain bench's, then `steps`.
 -- the lengths are right
 use mathlib.Core.Path.{sym, ◌∙◌}
-use mathlib.Core.Bool.{false}
 use lib.ListN.{length}
 use Rattle.run_call_checks.proofs.Lengths.{right_memory}
 use Rattle.run_call.proofs.Refusing.{buffers_refused, draw_refused, noise_refused, not_refused}
@@ -12,15 +11,15 @@ returns-then-lengths_wrong c =
     let a = c.args in
     buffers_refused a.s a.mode_s.now a.mode_ac.now a.memory.now a.draws.now a.noise.now a.output.now a.records.now (sym c.lengths_wrong.ensures ∙ c.if-lengths_wrong.true) _ c.refused.ensures
 
-pub returns-in-At : goal.returns-in-At
-returns-in-At c =
+pub returns-in-Some : goal.returns-in-Some
+returns-in-Some c =
     let a = c.args in
-    draw_refused a.s a.mode_s.now a.mode_ac.now a.memory.now a.draws.now a.noise.now a.output.now a.records.now (sym c.lengths_wrong.ensures ∙ c.if-lengths_wrong.false) _ c.check_draws-fault.ensures _ _ c.in-At.is _ c.refused-in-At.ensures
+    draw_refused a.s a.mode_s.now a.mode_ac.now a.memory.now a.draws.now a.noise.now a.output.now a.records.now (sym c.lengths_wrong.ensures ∙ c.if-lengths_wrong.false) _ c.check_draws-fault.ensures _ _ c.in-Some.is _ c.refused-in-Some.ensures
 
-pub returns-in-At-noise_fault : goal.returns-in-At-noise_fault
-returns-in-At-noise_fault c =
+pub returns-in-Some-check_noise : goal.returns-in-Some-check_noise
+returns-in-Some-check_noise c =
     let a = c.args in
-    noise_refused a.s a.mode_s.now a.mode_ac.now a.memory.now a.draws.now a.noise.now a.output.now a.records.now (sym c.lengths_wrong.ensures ∙ c.if-lengths_wrong.false) _ c.check_draws-fault.ensures c.in_default.is _ c.check_noise-noise_fault.ensures _ c.in-At-noise_fault.is _ c.refused-in-At-noise_fault.ensures
+    noise_refused a.s a.mode_s.now a.mode_ac.now a.memory.now a.draws.now a.noise.now a.output.now a.records.now (sym c.lengths_wrong.ensures ∙ c.if-lengths_wrong.false) _ c.check_draws-fault.ensures c.in_default.is _ c.check_noise.ensures _ c.in-Some-check_noise.is _ c.refused-in-Some-check_noise.ensures
 
 pub steps-requires : goal.steps-requires
 steps-requires c =
@@ -30,4 +29,4 @@ steps-requires c =
 pub returns : goal.returns
 returns c =
     let a = c.args in
-    not_refused a.s a.mode_s.now a.mode_ac.now a.memory.now a.draws.now a.noise.now a.output.now a.records.now (sym c.lengths_wrong.ensures ∙ c.if-lengths_wrong.false) _ c.check_draws-fault.ensures c.in_default.is _ c.check_noise-noise_fault.ensures c.in_default-noise_fault.is _ c.steps.ensures
+    not_refused a.s a.mode_s.now a.mode_ac.now a.memory.now a.draws.now a.noise.now a.output.now a.records.now (sym c.lengths_wrong.ensures ∙ c.if-lengths_wrong.false) _ c.check_draws-fault.ensures c.in_default.is _ c.check_noise.ensures c.in_default-check_noise.is _ c.steps.ensures

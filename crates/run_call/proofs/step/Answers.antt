@@ -3,7 +3,6 @@ use mathlib.Core.Path.{◌≡◌}
 use mathlib.Core.List.{List}
 use Prim.Native.Nat.{ℕ, ◌-◌, ◌*◌}
 use lib.Ieee.{Float}
-use Rattle.run_call_model.specs.Plan.{Plan}
 use Rattle.draw.specs.Draw.{draw_at}
 use Rattle.draw.specs.Config.{time_after}
 use Rattle.draw_config.specs.Pending.{pending_of}
@@ -14,7 +13,7 @@ use Rattle.run_steps.specs.declared.Plan as Plan
 use Rattle.run_steps.specs.PlanModel.{plan_read, chosen}
 use Rattle.run_call.specs.StepModel.{Inside}
 use lib.ListN.{length}
-use Rattle.run_call.proofs.Said.{Sized, Planned, halted, drained, dued, skipped, ended_by, added}
+use Rattle.run_call.proofs.Said.{Sized, Planned, untouched, wrote, added}
 use native.Mathlib.Omega.{arith}
 use Rattle.run_call.proofs.step.Goals as goal
 
@@ -56,35 +55,14 @@ returns-in-Halt c =
     let a = c.args in
     let z : Sized a.s.total a.t.taken (length a.rest.now) (length a.output.now) (length a.records.now) = record { run_in = c.requires.3; draws_in_lem = c.requires.2; output_in = omega arith; records_in_lem = omega arith } in
     let p = planned a.s a.mode_s.now a.mode_ac.now a.noise.now a.t a.memory.now a.rest.now a.output.now a.records.now c.pending-last.result c.choose-p.result c.requires.0 c.requires.1 z c.pending-last.ensures c.choose-p.ensures in
-    halted p _ c.in-Halt.is _ c.after_step-r.ensures
+    untouched p c.in-Halt.is _ c.after_step-r.ensures
 
 pub returns-in-Drain : goal.returns-in-Drain
 returns-in-Drain c =
     let a = c.args in
     let z : Sized a.s.total a.t.taken (length a.rest.now) (length a.output.now) (length a.records.now) = record { run_in = c.requires.3; draws_in_lem = c.requires.2; output_in = omega arith; records_in_lem = omega arith } in
     let p = planned a.s a.mode_s.now a.mode_ac.now a.noise.now a.t a.memory.now a.rest.now a.output.now a.records.now c.pending-last.result c.choose-p.result c.requires.0 c.requires.1 z c.pending-last.ensures c.choose-p.ensures in
-    drained p _ c.in-Drain.is _ _ _ c.after_step-r.ensures c.write_due.ensures
-
-pub returns-in-Due : goal.returns-in-Due
-returns-in-Due c =
-    let a = c.args in
-    let z : Sized a.s.total a.t.taken (length a.rest.now) (length a.output.now) (length a.records.now) = record { run_in = c.requires.3; draws_in_lem = c.requires.2; output_in = omega arith; records_in_lem = omega arith } in
-    let p = planned a.s a.mode_s.now a.mode_ac.now a.noise.now a.t a.memory.now a.rest.now a.output.now a.records.now c.pending-last.result c.choose-p.result c.requires.0 c.requires.1 z c.pending-last.ensures c.choose-p.ensures in
-    dued p _ _ c.in-Due.is _ _ _ c.after_step-r.ensures c.write_due-in-Due.ensures
-
-pub returns-in-Skip : goal.returns-in-Skip
-returns-in-Skip c =
-    let a = c.args in
-    let z : Sized a.s.total a.t.taken (length a.rest.now) (length a.output.now) (length a.records.now) = record { run_in = c.requires.3; draws_in_lem = c.requires.2; output_in = omega arith; records_in_lem = omega arith } in
-    let p = planned a.s a.mode_s.now a.mode_ac.now a.noise.now a.t a.memory.now a.rest.now a.output.now a.records.now c.pending-last.result c.choose-p.result c.requires.0 c.requires.1 z c.pending-last.ensures c.choose-p.ensures in
-    skipped p _ c.in-Skip.is _ c.after_step-r.ensures
-
-pub returns-in-End : goal.returns-in-End
-returns-in-End c =
-    let a = c.args in
-    let z : Sized a.s.total a.t.taken (length a.rest.now) (length a.output.now) (length a.records.now) = record { run_in = c.requires.3; draws_in_lem = c.requires.2; output_in = omega arith; records_in_lem = omega arith } in
-    let p = planned a.s a.mode_s.now a.mode_ac.now a.noise.now a.t a.memory.now a.rest.now a.output.now a.records.now c.pending-last.result c.choose-p.result c.requires.0 c.requires.1 z c.pending-last.ensures c.choose-p.ensures in
-    ended_by p _ c.in-End.is _ c.after_step-r.ensures
+    wrote p _ c.in-Drain.is _ _ _ c.after_step-r.ensures c.write_due.ensures
 
 pub returns-in-Add : goal.returns-in-Add
 returns-in-Add c =

@@ -3,10 +3,10 @@ use lib.ListN.{length}
 use Rattle.run_call.proofs.Going.{Going, steps_left}
 use Rattle.run_call.proofs.steps.Given as goal
 
-abbrev pub invariant-loop-rest : goal.invariant-loop-rest
-invariant-loop-rest l =
+abbrev pub invariant-loop-t : goal.invariant-loop-t
+invariant-loop-t l =
     Going l.s l.mode_s l.mode_ac l.initial.memory l.draws l.noise l.initial.output l.initial.records l.memory l.output l.records l.t l.rest
 
-abbrev pub decreases-loop-rest : goal.decreases-loop-rest
-decreases-loop-rest l =
+abbrev pub decreases-loop-t : goal.decreases-loop-t
+decreases-loop-t l =
     steps_left (length l.rest) (length l.output) l.t

@@ -1,12 +1,8 @@
 -- `first_out_of_range` meets its contract. The loop's invariant: the first fault of the rest is that of all.
 use mathlib.Core.Path.{◌≡◌}
-use Prim.Native.Nat.{◌-◌, ◌≤◌}
-use lib.ListN.{length, drop}
+use lib.ListN.{drop}
 use Rattle.run_call_checks.specs.NoiseModel.{out_of_range_from}
 use Rattle.run_call_checks.proofs.first_out_of_range.Given as goal
 
 abbrev pub invariant-loop-k : goal.invariant-loop-k
-invariant-loop-k l = (l.k ≤ length l.noise) × (out_of_range_from l.k (drop l.k l.noise) ≡ out_of_range_from 0 l.noise)
-
-abbrev pub decreases-loop-k : goal.decreases-loop-k
-decreases-loop-k l = length l.noise - l.k
+invariant-loop-k l = out_of_range_from l.k (drop l.k l.noise) ≡ out_of_range_from 0 l.noise

@@ -1,5 +1,4 @@
 -- `mix_stretch` meets its contract. The invariant: n numbers are written.
-use Prim.Native.Nat.{◌-◌, ◌≤◌}
 use mathlib.Core.Path.{◌≡◌}
 use lib.ListN.{length, drop, take}
 use Rattle.run_call_model.specs.Buffers.{overwritten}
@@ -7,7 +6,4 @@ use Rattle.run_due_samples.specs.DueModel.{mix}
 use Rattle.run_due_samples.proofs.mix_stretch.Given as goal
 
 abbrev pub invariant-loop-i : goal.invariant-loop-i
-invariant-loop-i l = (l.i ≤ l.len) × (length l.output ≡ length l.initial.output) × (l.output ≡ overwritten l.at (mix (drop l.p l.memory) (take l.i (drop l.from l.noise))) l.initial.output)
-
-abbrev pub decreases-loop-i : goal.decreases-loop-i
-decreases-loop-i l = l.len - l.i
+invariant-loop-i l = (length l.output ≡ length l.initial.output) × (l.output ≡ overwritten l.at (mix (drop l.p l.memory) (take l.i (drop l.from l.noise))) l.initial.output)

@@ -2,11 +2,8 @@
 use Rattle.tape_feed.proofs.Parts.{stays, goes_on}
 use Rattle.tape_feed.proofs.feed_noise.Goals as goal
 
-pub call-requires : goal.call-requires
-call-requires c = tt
+pub returns-in-Err : goal.returns-in-Err
+returns-in-Err c = stays _ _ _ _ _ _ c.in-Err.is
 
-pub returns-in-Refused : goal.returns-in-Refused
-returns-in-Refused c = stays _ _ _ _ _ _ c.in-Refused.is
-
-pub returns-in-Stopped : goal.returns-in-Stopped
-returns-in-Stopped c = goes_on _ _ _ _ _ _ c.in-Stopped.is c.call.ensures
+pub returns-in-Ok : goal.returns-in-Ok
+returns-in-Ok c = goes_on _ _ _ _ _ _ c.in-Ok.is c.call.ensures

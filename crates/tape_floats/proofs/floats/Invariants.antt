@@ -1,5 +1,4 @@
 -- `tape_floats::floats` meets its contract: after k steps the first k values are there.
-use Prim.Native.Nat.{◌-◌, ◌≤◌, ◌/◌, min}
 use mathlib.Core.Path.{◌≡◌}
 use mathlib.Core.List.{◌++◌}
 use lib.ListN.{length, drop}
@@ -7,7 +6,4 @@ use Rattle.tape_floats.specs.Floats.{floats_of}
 use Rattle.tape_floats.proofs.floats.Given as goal
 
 abbrev pub invariant-loop-k : goal.invariant-loop-k
-invariant-loop-k l = (l.k ≤ l.n) × (length l.out ≡ length l.initial.out) × (l.n ≡ min (length l.bytes / 4) (length l.initial.out)) × (l.out ≡ floats_of l.k l.bytes ++ drop l.k l.initial.out)
-
-abbrev pub decreases-loop-k : goal.decreases-loop-k
-decreases-loop-k l = l.n - l.k
+invariant-loop-k l = (length l.out ≡ length l.initial.out) × (l.out ≡ floats_of l.k l.bytes ++ drop l.k l.initial.out)

@@ -11,6 +11,6 @@ pub returns-in-None : goal.returns-in-None
 unfolding fault_then
 returns-in-None c = let a = c.args in draws_faulty a.tape.now a.state a.n (12139 + 65 * a.n - 12139) c.first_fault.ensures (search rules) (c.noise_count.ensures ∙ sym (ap (fault_then four a.tape.now a.state a.n) c.in-None.is))
 
-pub returns-in-At : goal.returns-in-At
+pub returns-in-Some : goal.returns-in-Some
 unfolding fault_then
-returns-in-At c = let a = c.args in draws_faulty a.tape.now a.state a.n (12139 + 65 * a.n - 12139) c.first_fault.ensures (search rules) (sym (ap (fault_then four a.tape.now a.state a.n) c.in-At.is))
+returns-in-Some c = let a = c.args in draws_faulty a.tape.now a.state a.n (12139 + 65 * a.n - 12139) c.first_fault.ensures (search rules) (sym (ap (fault_then four a.tape.now a.state a.n) c.in-Some.is))

@@ -1,13 +1,9 @@
 -- `tape_head::opened_then` meets its contract.
-use mathlib.Core.Path.{sym, ap, ◌∙◌}
-use Rattle.constants.specs.Rate.{four}
-use Rattle.tape_head.specs.declared.Beginning as Beginning
-use Rattle.tape_head.specs.Head.{opened_then}
+use native.Mathlib.Omega.{arith}
+use mathlib.Core.Path.{ap, ◌∙◌}
+use Rattle.std.specs.Result.{result_ok}
+use Rattle.tape_sections.proofs.Counts.{counted}
 use Rattle.tape_head.proofs.opened_then.Goals as goal
 
-pub returns-in-Run : goal.returns-in-Run
-returns-in-Run c = c.draws_section.ensures ∙ ap (opened_then four c.args.tape.now) (sym c.in-Run.is)
-
-pub returns-in-Refused : goal.returns-in-Refused
-unfolding opened_then
-returns-in-Refused c = ap Beginning.TheVariants.Refused c.number.ensures ∙ ap (opened_then four c.args.tape.now) (sym c.in-Refused.is)
+pub check_draws-requires : goal.check_draws-requires
+check_draws-requires c = let t = counted _ _ _ _ _ _ c.section-counted.ensures (c.ok_or.ensures.ok_part ∙ ap result_ok c.in_ok-ok_or.was) in (omega (arith, t.1), omega (arith, t.2))

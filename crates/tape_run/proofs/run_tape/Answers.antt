@@ -11,18 +11,18 @@ behind_start : (n : ℕ) → 12139 + 65 * n - 12139 ≡ 65 * n
 behind_start n = omega arith
 
 pub overflow_mul-end : goal.overflow_mul-end
-overflow_mul-end c = record { fits = omega (arith, (begun_within _ _ _ _ _ _ c.head.ensures c.in-Run.is).0) }
+overflow_mul-end c = record { fits = omega (arith, (begun_within _ _ _ c.in-Ok.b.state c.in-Ok.b.draws c.in-Ok.b.noise c.head.ensures c.in-Ok.is).0) }
 
 pub overflow_add-end : goal.overflow_add-end
-overflow_add-end c = record { fits = omega (arith, (begun_within _ _ _ _ _ _ c.head.ensures c.in-Run.is).0) }
+overflow_add-end c = record { fits = omega (arith, (begun_within _ _ _ c.in-Ok.b.state c.in-Ok.b.draws c.in-Ok.b.noise c.head.ensures c.in-Ok.is).0) }
 
 pub slice_bounds-feed_section-end : goal.slice_bounds-feed_section-end
-slice_bounds-feed_section-end c = search (rules, (begun_within _ _ _ _ _ _ c.head.ensures c.in-Run.is).0)
+slice_bounds-feed_section-end c = search (rules, (begun_within _ _ _ c.in-Ok.b.state c.in-Ok.b.draws c.in-Ok.b.noise c.head.ensures c.in-Ok.is).0)
 
-pub returns-in-Refused : goal.returns-in-Refused
-returns-in-Refused c = reported_refused _ _ (opened_with _ _ _ _ _ c.head.ensures refl refl refl) _ c.in-Refused.is _
+pub returns-in-Err : goal.returns-in-Err
+returns-in-Err c = reported_refused _ _ (opened_with _ _ _ _ _ c.head.ensures refl refl refl) _ c.in-Err.is _
 
-pub returns-in-Run : goal.returns-in-Run
-returns-in-Run c =
-    reported_run _ _ _ _ _ _ _ _ (opened_with _ _ _ _ _ c.head.ensures refl refl refl) c.in-Run.is c.read_head-got.result c.read_head-got.new.bytes refl _ (behind_start _) c.start-f.result c.feed_section-s.result.feed c.start-f.ensures _ _ _ _
+pub returns-in-Ok : goal.returns-in-Ok
+returns-in-Ok c =
+    reported_run _ c.in-Ok.b.state c.in-Ok.b.draws c.in-Ok.b.noise _ _ _ _ (opened_with _ _ _ _ _ c.head.ensures refl refl refl) c.in-Ok.is c.read_head-got.result c.read_head-got.new.bytes refl _ (behind_start _) c.start-f.result c.feed_section-s.result.feed c.start-f.ensures _ _ _ _
     c.feed_section-s.result.untaken c.feed_section-s.result.short c.feed_section-s.result.over c.reported-outcome.result c.copied-own.ensures.0 c.copied-own.ensures.1 c.feed_section-s.ensures _ c.is_done.result c.reported-outcome.ensures c.is_done.ensures c.keep.ensures

@@ -1,8 +1,11 @@
 -- `tape_text::put_hex` meets its contract: after k steps the first k bytes are there in hexadecimal.
 use borrow.Author.Rules.{rules}
-use Prim.Native.Nat.{ℕ, ◌-◌}
-use mathlib.Core.Path.{◌≡◌, ap, ◌∙◌}
-use lib.ListN.{take}
+use Prim.Native.Nat.{ℕ}
+use mathlib.Core.Path.{ap, ◌∙◌}
+use mathlib.Core.List.{List}
+use native.Mathlib.Omega.{arith}
+use lib.ListN.{length}
+use lib.Seq.{take_all}
 use Rattle.le_read.specs.LeBytes.{overwritten}
 use Rattle.reply_record.proofs.Overwritten.{none_overwritten}
 use Rattle.tape_text.specs.Text.{hex}
@@ -11,15 +14,16 @@ use Rattle.tape_text.proofs.put_hex.Goals as goal
 
 pub loop-k-init : goal.loop-k-init
 unfolding hex
-loop-k-init c = (search rules, search rules, none_overwritten c.args.out.now c.args.at)
+loop-k-init c = (search rules, none_overwritten c.args.out.now c.args.at)
 
 pub loop-k-preserved : goal.loop-k-preserved
 loop-k-preserved c =
     let l = c.loop-k in
-    (search rules, search rules, hex_of_first c.args.out.now c.args.at c.args.bytes.now c.args.n l.k l.out _ (search rules) (search rules) (search rules) l.invariant.2 c.put_hex_byte.ensures)
+    let a = c.args in
+    (search rules, hex_of_first a.out.now a.at a.bytes.now (length a.bytes.now) l.k l.out _ c.loop-k-test.true (omega arith) c.requires l.invariant.1 c.put_hex_byte.ensures)
 
 pub returns : goal.returns
 returns c =
     let l = c.loop-k in
-    let e : l.k ≡ c.args.n = search rules in
-    l.invariant.2 ∙ ap (λ (k : ℕ). overwritten c.args.out.now c.args.at (hex (take k c.args.bytes.now))) e
+    let a = c.args in
+    l.invariant.1 ∙ ap (λ (b : List ℕ). overwritten a.out.now a.at (hex b)) (take_all l.k a.bytes.now c.loop-k-test.false)

@@ -1,5 +1,4 @@
 -- `tape_text::put_hex` meets its contract: after k steps the first k bytes are there in hexadecimal.
-use Prim.Native.Nat.{◌-◌, ◌≤◌}
 use mathlib.Core.Path.{◌≡◌}
 use lib.ListN.{length, take}
 use Rattle.le_read.specs.LeBytes.{overwritten}
@@ -7,7 +6,4 @@ use Rattle.tape_text.specs.Text.{hex}
 use Rattle.tape_text.proofs.put_hex.Given as goal
 
 abbrev pub invariant-loop-k : goal.invariant-loop-k
-invariant-loop-k l = (l.k ≤ l.n) × (length l.out ≡ length l.initial.out) × (l.out ≡ overwritten l.initial.out l.at (hex (take l.k l.bytes)))
-
-abbrev pub decreases-loop-k : goal.decreases-loop-k
-decreases-loop-k l = l.n - l.k
+invariant-loop-k l = (length l.out ≡ length l.initial.out) × (l.out ≡ overwritten l.initial.out l.at (hex (take l.k l.bytes)))

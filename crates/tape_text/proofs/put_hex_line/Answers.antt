@@ -6,4 +6,4 @@ use Rattle.tape_text.proofs.Lines.{hex_line_put}
 use Rattle.tape_text.proofs.put_hex_line.Goals as goal
 
 pub returns : goal.returns
-returns c = hex_line_put _ _ c.requires.0 c.requires.1 c.put_hex.ensures (overwritten_one _ _ _ (search rules)) refl
+returns c = hex_line_put _ c.requires c.put_hex.ensures (overwritten_one _ _ _ (search rules)) refl

@@ -1,9 +1,7 @@
 -- `tape_text::put_line` meets its contract.
+use mathlib.Core.Path.{◌∙◌}
 use Rattle.tape_text.proofs.Lines.{line_put}
 use Rattle.tape_text.proofs.put_line.Goals as goal
 
-pub wide-requires : goal.wide-requires
-wide-requires c = tt
-
 pub returns : goal.returns
-returns c = line_put _ c.requires.0 c.requires.1 c.u64_at.ensures c.wide.ensures.0 c.u16_at.ensures c.put_number-a.ensures c.put_number-b.ensures c.put_number-c.ensures c.put_message.ensures
+returns c = line_put _ c.requires.0 c.requires.1 c.u64_at.ensures c.from.ensures (c.from-2.ensures ∙ c.u16_at.ensures) c.put_number-a.ensures c.put_number-b.ensures c.put_number-c.ensures c.put_message.ensures

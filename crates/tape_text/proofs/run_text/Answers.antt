@@ -3,12 +3,6 @@ use borrow.Author.Rules.{rules}
 use Rattle.tape_text.proofs.Lines.{run_put}
 use Rattle.tape_text.proofs.run_text.Goals as goal
 
-pub least-requires : goal.least-requires
-least-requires c = tt
-
-pub least-n-requires : goal.least-n-requires
-least-n-requires c = tt
-
 pub returns : goal.returns
 returns c =
-    let p = run_put _ _ _ (search rules) c.least.ensures c.least-n.ensures (search rules) c.put_bytes-a.ensures c.put_lines-b.ensures c.put_bytes-c.ensures c.put_number.ensures in record { value = p.0; prefix_len = p.1 }
+    let p = run_put _ _ _ (search rules) c.min.ensures c.min-n.ensures (search rules) c.put_bytes-a.ensures c.put_lines-b.ensures c.put_bytes-c.ensures c.put_number.ensures in record { value = p.0; prefix_len = p.1 }

@@ -1,9 +1,6 @@
 -- `test_pulses::digest` meets its contract.
-use Prim.Native.Nat.{◌-◌, ◌≤◌, ◌<◌}
+use Prim.Native.Nat.{◌<◌}
 use Rattle.test_pulses.proofs.digest.Given as goal
 
-abbrev pub invariant-loop-k : goal.invariant-loop-k
-invariant-loop-k l = (l.k ≤ 240) × (l.g < 4294967291)
-
-abbrev pub decreases-loop-k : goal.decreases-loop-k
-decreases-loop-k l = 240 - l.k
+abbrev pub invariant-loop-on : goal.invariant-loop-on
+invariant-loop-on l = l.g < 4294967291

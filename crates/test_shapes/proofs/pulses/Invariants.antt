@@ -1,9 +1,6 @@
--- `pulses` meets its contract.
-use Rattle.std.proofs.Common.{◌≡◌, ◌-◌, ◌<◌, ◌≤◌, length}
+-- The sequence stays below 2^31.
+use Rattle.std.proofs.Common.{◌<◌}
 use Rattle.test_shapes.proofs.pulses.Given as goal
 
-abbrev pub invariant-loop-k : goal.invariant-loop-k
-invariant-loop-k l = (l.k ≤ 240) × (l.x < 0x8000_0000) × (length l.out ≡ 240)
-
-abbrev pub decreases-loop-k : goal.decreases-loop-k
-decreases-loop-k l = 240 - l.k
+abbrev pub invariant-loop-on : goal.invariant-loop-on
+invariant-loop-on l = l.x < 0x8000_0000

@@ -1,9 +1,6 @@
--- `values_digest` meets its contract.
-use Rattle.std.proofs.Common.{◌-◌, ◌<◌, ◌≤◌, length}
+-- The digest stays below 2^56.
+use Rattle.std.proofs.Common.{◌<◌}
 use Rattle.test_shapes.proofs.values_digest.Given as goal
 
-abbrev pub invariant-loop-k : goal.invariant-loop-k
-invariant-loop-k l = (l.k ≤ length l.values) × (l.digest < 0x100_0000_0000_0000)
-
-abbrev pub decreases-loop-k : goal.decreases-loop-k
-decreases-loop-k l = length l.values - l.k
+abbrev pub invariant-loop-x : goal.invariant-loop-x
+invariant-loop-x l = l.digest < 0x100_0000_0000_0000

@@ -1,9 +1,0 @@
--- `SamplesPerPulse::branches` meets its contract.
-use mathlib.Core.Path.{refl}
-use lib.Dec.{lit≤}
-use Rattle.constants.specs.Rate.{branches}
-use Rattle.constants.proofs.Settings.{either_is, between}
-use Rattle.constants.proofs.SamplesPerPulse.branches.Goals as goal
-
-pub returns : goal.returns
-returns c = let e = c.either.ensures in (either_is branches _ _ _ _ e refl refl, (between _ _ _ _ (lit≤ tt) e).0, (between _ _ _ _ (lit≤ tt) e).1)

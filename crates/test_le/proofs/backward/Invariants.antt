@@ -1,9 +1,0 @@
--- `backward` meets its contract. Nine offsets are counted.
-use Prim.Native.Nat.{◌-◌, ◌≤◌}
-use Rattle.test_le.proofs.backward.Given as goal
-
-abbrev pub invariant-loop-k : goal.invariant-loop-k
-invariant-loop-k l = l.k ≤ 9
-
-abbrev pub decreases-loop-k : goal.decreases-loop-k
-decreases-loop-k l = 9 - l.k
