@@ -2,14 +2,11 @@
 // Samples are written as they come, records once the run is done. Each second of signal, how it ended, and a write that fails are reported on standard error.
 #![tactic(auto)]
 
-ghost use Rattle.std.specs.Prelude.{◌≤◌};
-
 use constants::RECORD_LEN;
 use std::env::{Env, FillError};
 use std::fs::{File, Files};
 use std::io::{Error, Stdout, Write};
 use std::os::fd::{AsFd, AsRawFd};
-use tape_run::Output;
 use tape_sections::{MAX_RECORDS_LEN, STDERR_FILENO};
 use tape_verdict::Outcome;
 
@@ -55,36 +52,19 @@ fn put_records(rt: &(impl Eprint + Alloc), mut file: File, records: &[u8]) -> bo
 }
 
 // The records of a run that is done, and how it ended.
-fn finish(
-    rt: &(impl Eprint + Alloc),
-    file: File,
-    records: [u8; MAX_RECORDS_LEN],
-    count: usize,
-    samples: u64,
-)
-    requires { count ≤ 400 }
-{
-    let end = RECORD_LEN * count;
-    if put_records(rt, file, &records[..end]) {
-        report(b"records ", count as u64, samples);
+fn finish(rt: &(impl Eprint + Alloc), file: File, records: &[u8], samples: u64) {
+    if put_records(rt, file, records) {
+        report(b"records ", (records.len() / RECORD_LEN) as u64, samples);
     }
 }
 
 // The samples, the records, and how it ended.
 fn convert(rt: &(impl Eprint + Alloc), stdout: Stdout, file: File) {
     let mut records = [0u8; MAX_RECORDS_LEN];
-    let mut output = Output {
-        stdout,
-        failure: None,
-    };
-    match tape_run::run_tape(true, &mut records, &mut output) {
-        Outcome::Done(count, samples) => finish(rt, file, records, count, samples),
+    match tape_run::run_tape(&mut records, Some(stdout)) {
+        Outcome::Done(count, samples) => finish(rt, file, &records[..RECORD_LEN * count], samples),
         Outcome::Refused(q, samples) => report(b"refused ", q.number(), samples),
-        Outcome::Untaken => {
-            if let Some(e) = output.failure {
-                tape_run::fail(rt, "cf32: standard output: write failed", &e);
-            }
-        }
+        Outcome::Untaken(e) => tape_run::fail(rt, "cf32: standard output: write failed", &e),
     }
 }
 

@@ -1,5 +1,5 @@
 -- What the theorems over the rate ask of it holds at both settings: bounds, and branches that are a power of two.
-use mathlib.Core.Path.{◌≡◌, refl, ◌∙◌}
+use mathlib.Core.Path.{◌≡◌, refl}
 use mathlib.Core.Logic.{◌⊎◌, inl, inr}
 use Prim.Native.Nat.{ℕ, ◌^◌, ◌≤◌, ◌<◌}
 use lib.Dec.{lit≤, lit<}
@@ -32,12 +32,6 @@ branches_are Eight = refl
 pub few_branches : (s : SamplesPerPulse) → 2 ^ branch_bits s ≤ 2 ^ 20
 few_branches Four = lit≤ tt
 few_branches Eight = lit≤ tt
-
--- ---- a number that the code has for each setting is that of a definition
-pub either_is : (f : ℕ → ℕ) (s : SamplesPerPulse) (a b r : ℕ) → r ≡ either s a b → a ≡ f 4 → b ≡ f 8 → r ≡ f (per_pulse s)
-unfolding either
-either_is f Four a b r e p q = e ∙ p
-either_is f Eight a b r e p q = e ∙ q
 
 -- which of the two it is, by the setting
 pub either_cases : (s : SamplesPerPulse) (a b r : ℕ) → r ≡ either s a b → ((s ≡ Four) × (r ≡ a)) ⊎ ((s ≡ Eight) × (r ≡ b))

@@ -2,6 +2,8 @@
 use Rattle.std.specs.Prelude.{ℕ}
 use Rattle.constants.specs.declared.SamplesPerPulse.{SamplesPerPulse}
 use Rattle.constants.specs.declared.SamplesPerPulse.TheVariants.{Four, Eight}
+use Rattle.constants.specs.declared.Mode.{Mode}
+use Rattle.constants.specs.declared.Mode.TheVariants.{S, Ac}
 
 -- the number of samples that a pulse of 500 ns has
 abbrev pub per_pulse : SamplesPerPulse → ℕ
@@ -12,3 +14,8 @@ per_pulse Eight = 8
 unfoldable pub either : SamplesPerPulse → ℕ → ℕ → ℕ
 either Four a b = a
 either Eight a b = b
+
+-- the first of two where the mode is Mode S, and the second where it is Mode A/C
+unfoldable pub by_mode : {A : Type 0} → Mode → A → A → A
+by_mode S a b = a
+by_mode Ac a b = b

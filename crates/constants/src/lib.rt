@@ -1,9 +1,16 @@
 // The numbers that follow from the samples per pulse, and the bytes of draws and records. specs/Rate has the former.
 #![tactic(auto, using(crate::proofs::Settings::either_cases), unfolding(crate::specs::Setting::either))]
 
-ghost use Rattle.std.specs.Prelude.{◌≡◌, min, ◌≤◌, ◌+◌};
-ghost use Rattle.constants.specs.Setting.{per_pulse, either};
+ghost use Rattle.std.specs.Prelude.{◌≡◌, ◌≤◌, ◌+◌};
+ghost use Rattle.constants.specs.Setting.{per_pulse, either, by_mode};
 ghost use Rattle.constants.specs.Rate.{branches, prototype_length, mode_s_taps, mode_ac_taps, reply_limit, hold_back, working_memory};
+
+// The mode of a reply: each has a lowpass and a prototype of its own.
+#[derive(Clone, Copy)]
+pub enum Mode {
+    S,
+    Ac,
+}
 
 // Samples per pulse, the setting of a run.
 #[derive(Clone, Copy)]
@@ -44,17 +51,15 @@ impl SamplesPerPulse {
         self.either(1792, 3584) as usize
     }
 
-    // Taps of the two lowpasses.
-    pub fn mode_s_taps_len(self) -> usize
-        ensures { result ≡ mode_s_taps (per_pulse self) }
+    // Taps of the lowpass of a mode.
+    #[tactic(auto, using(crate::proofs::Settings::either_cases), unfolding(crate::specs::Setting::either, crate::specs::Setting::by_mode))]
+    pub fn taps_len(self, mode: Mode) -> usize
+        ensures { result ≡ by_mode mode (mode_s_taps (per_pulse self)) (mode_ac_taps (per_pulse self)) }
     {
-        self.either(1486, 2971) as usize
-    }
-
-    pub fn mode_ac_taps_len(self) -> usize
-        ensures { result ≡ mode_ac_taps (per_pulse self) }
-    {
-        self.either(1515, 3029) as usize
+        match mode {
+            Mode::S => self.either(1486, 2971) as usize,
+            Mode::Ac => self.either(1515, 3029) as usize,
+        }
     }
 
     // Slots of the ring in working memory: the most samples of a reply, and those held back.
@@ -72,16 +77,16 @@ impl SamplesPerPulse {
     }
 }
 
+// Down to MEMORY_LEN stand the numbers at 4 samples per pulse, for the lengths of arrays: a constant's value may not call a function, so `SamplesPerPulse::Four` cannot give them.
+
 // Samples a second.
 pub const SAMPLE_RATE: u64 = 8000000;
 
 // Values of a prototype.
 pub const PROTOTYPE_LEN: usize = 1792;
 
-// Taps of the two lowpasses.
+// Taps of the Mode S lowpass, with which a tape's taps begin.
 pub const MODE_S_TAPS_LEN: usize = 1486;
-
-pub const MODE_AC_TAPS_LEN: usize = 1515;
 
 // Pulse positions of the longest reply.
 pub const MAX_POSITIONS: usize = 240;
@@ -97,8 +102,6 @@ pub const RING_SLOTS: usize = 1126;
 
 pub const RING_SLOTS_U64: u64 = RING_SLOTS as u64;
 
-pub const LAST_SLOT: usize = RING_SLOTS - 1;
-
 // Working memory, in f32, two for each slot.
 pub const MEMORY_LEN: usize = 2 * RING_SLOTS;
 
@@ -109,10 +112,3 @@ pub const NOISE_SCALE: f32 = 0.0009765625;
 pub const DRAW_LEN: usize = 65;
 
 pub const RECORD_LEN: usize = 66;
-
-// The lesser of two lengths.
-pub fn least(a: usize, b: usize) -> usize
-    ensures { result ≡ min a b }
-{
-    a.min(b)
-}

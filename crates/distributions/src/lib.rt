@@ -26,7 +26,7 @@ pub enum ClockError {
     Uniform(f64),
 }
 
-// A distribution as the settings ask for it: its kind, a byte whose meaning depends on which of the three it is, and two numbers.
+// A distribution as the settings ask for it: its kind, a byte whose meaning depends on which of the three it is (an unknown one is refused with its place), and two numbers.
 #[derive(Clone, Copy)]
 pub struct RawDistribution {
     pub kind: u8,

@@ -11,6 +11,7 @@ use message::Picks;
 #[derive(Clone, Copy)]
 pub struct Draw {
     pub gap: f64,
+    // the byte of the draw, and no MessageType: a number that no type has is refused with the draw's place
     pub kind: u8,
     pub cn0: f64,
     pub amplitude: f32,
@@ -25,5 +26,5 @@ pub struct Draw {
 pub fn time_after(before: f64, rest: &[u8]) -> f64
     ensures { result ≡ time_after before (draw_at rest.now) }
 {
-    before + le_read_floats::f64_at(rest, 0)
+    before + le_read_or_zero::number::<f64>(rest, 0)
 }

@@ -12,6 +12,7 @@ use message::{MessageType, Picks, Reply, ReplyKind};
 use message_config::MessageConfig;
 use settings::Distributions;
 
+// The type of a draw's byte, here and in `completed`: a draw that is not checked may have any byte, so it is no `MessageType`.
 #[tactic(auto, unfolding(draw::specs::Config::type_drawn))]
 fn type_drawn(kind: u8) -> MessageType
     ensures { result ≡ type_drawn (type_numbered kind) }
@@ -42,10 +43,10 @@ pub fn pending(all: Distributions, last: f64, rest: &[u8]) -> MessageConfig
     let kind = kind_of(type_drawn(draw::byte_at(rest, 8)));
     MessageConfig {
         time: draw::time_after(last, rest),
-        cn0: le_read_floats::f64_at(rest, 9),
-        offset: draw_parameters::offset_of(all.carrier, le_read_floats::f64_at(rest, 21)),
-        phase: draw_parameters::phase_of(all.phase, le_read_floats::f64_at(rest, 29)),
-        error: draw_parameters::error_of(all.clock, le_read_floats::f64_at(rest, 37)),
+        cn0: le_read_or_zero::number::<f64>(rest, 9),
+        offset: draw_parameters::offset_of(all.carrier, le_read_or_zero::number::<f64>(rest, 21)),
+        phase: draw_parameters::phase_of(all.phase, le_read_or_zero::number::<f64>(rest, 29)),
+        error: draw_parameters::error_of(all.clock, le_read_or_zero::number::<f64>(rest, 37)),
         reply: Reply {
             kind,
             bytes: [0; 14],

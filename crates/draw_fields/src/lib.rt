@@ -11,6 +11,7 @@ use message::Picks;
 use settings::{Distributions, MessagesPerSecond};
 
 // The 14 bytes of a draw.
+#[tactic(auto, unfolding(draw::specs::Draw::bytes_at), using(crate::proofs::Fields::bytes_are))]
 fn message_bytes(s: &[u8]) -> [u8; 14]
     ensures { result ≡ bytes_at s.now 48 14 }
 {
@@ -27,7 +28,7 @@ pub fn picks(s: &[u8]) -> Picks
         capability: draw::byte_at(s, 46),
         overlay: draw::byte_at(s, 47),
         bytes: message_bytes(s),
-        data: le_read_or_zero::u16_at(s, 62),
+        data: le_read_or_zero::number::<u16>(s, 62),
         spi: draw::byte_at(s, 64),
     }
 }
@@ -38,18 +39,20 @@ pub fn read(s: &[u8]) -> Draw
     ensures { result ≡ draw_at s.now }
 {
     Draw {
-        gap: le_read_floats::f64_at(s, 0),
+        gap: le_read_or_zero::number::<f64>(s, 0),
         kind: draw::byte_at(s, 8),
-        cn0: le_read_floats::f64_at(s, 9),
-        amplitude: le_read_floats::f32_at(s, 17),
-        carrier: le_read_floats::f64_at(s, 21),
-        phase: le_read_floats::f64_at(s, 29),
-        clock: le_read_floats::f64_at(s, 37),
+        cn0: le_read_or_zero::number::<f64>(s, 9),
+        amplitude: le_read_or_zero::number::<f32>(s, 17),
+        carrier: le_read_or_zero::number::<f64>(s, 21),
+        phase: le_read_or_zero::number::<f64>(s, 29),
+        clock: le_read_or_zero::number::<f64>(s, 37),
         picks: picks(s),
     }
 }
 
-// The first fault of the draws.
+// The first fault of the draws, by draw and field.
+// A place and no refusal, since a fault is what is searched for; which refusal it is, its caller says.
+#[tactic(auto, unfolding(draw::specs::Fault::first_fault), using(crate::proofs::Scan::goes_on, crate::proofs::Scan::stops, crate::proofs::Scan::ends, crate::proofs::Scan::part_is))]
 pub fn first_fault(draws: &[u8], rates: MessagesPerSecond, all: Distributions) -> Option<(u64, u64)>
     ensures { result ≡ first_fault rates all draws.now }
 {

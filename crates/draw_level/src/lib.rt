@@ -19,7 +19,7 @@ const LEAST_SIGNIFICAND: u64 = 0x80_0000;
 // q * 2^(halvings + decades - 44), so E - 1 is this number more than halvings + decades.
 const EXPONENT: u64 = 105;
 
-// 2^30 times 10^(k / 200), rounded down, for k tenths.
+// 2^30 times 10^(k / 200), rounded down, for k tenths. Written out, as a constant's value may not call a function.
 const LEVELS: [u64; 200] = [
     1073741824,
     1086175168,

@@ -8,7 +8,7 @@ use distributions::{CarrierOffset, CarrierPhase, ClockError};
 
 // Three functions and no trait: each distribution has a rule of its own, and no caller is generic over them.
 
-// Rust's `x.clamp(-max, max)`.
+// Rust's `x.clamp(-max, max)` for any max: std's own asks that the lower limit is not above the upper one.
 #[tactic(auto, unfolding(distributions::specs::Drawn::clamped))]
 fn clamp(x: f64, max: f64) -> f64
     ensures { result ≡ clamped x max }

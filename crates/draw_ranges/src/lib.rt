@@ -23,7 +23,7 @@ fn amplitude_fits(a: f32) -> bool
     a >= 0.0 && a <= 1048576.0
 }
 
-// The Mode A/C limit on the clock error.
+// The Mode A/C limit on the clock error, by the draw's byte for its type, which may name none.
 #[tactic(auto, unfolding(draw::specs::Fault::mode_ac_limit), using(distributions::proofs::Literals::tenth_is))]
 fn within_limit(kind: u8, e: f64) -> bool
     ensures { result ≡ mode_ac_limit kind e }

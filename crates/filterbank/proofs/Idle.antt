@@ -1,5 +1,5 @@
 -- What makes the definitions total is idle in use: an index below 2 ^ 64 - 1 does not wrap, and a prototype of 1,792 values has its own taps.
-use Rattle.std.proofs.Common.{◌≡◌, ℕ, ◌+◌, ◌-◌, ◌^◌, ◌<◌, ◌≤◌, Bool, true, false, cond, List, length, replicate, ap, le_refl, lt_of_le_of_lt, mod-eq_of_lt, arith, eq-eqb}
+use Rattle.std.proofs.Common.{◌≡◌, ℕ, ◌+◌, ◌^◌, ◌<◌, ◌≤◌, Bool, true, false, cond, List, length, replicate, ap, le_refl, lt_of_le_of_lt, mod-eq_of_lt, arith, eq-eqb}
 use lib.Ieee.{Float, binary32, binary64, of_bits, add, le}
 use Rattle.constants.specs.Rate.{prototype_length}
 use Rattle.filterbank.specs.declared.Clock.{Clock}

@@ -46,6 +46,7 @@ fn interpolated(p: &[f32], tau: f32, i: usize, j: usize) -> f32
 }
 
 // The taps between branch a and branch a + 1.
+#[tactic(auto, using(crate::proofs::Literals::seven_taps))]
 fn within_bank(setting: SamplesPerPulse, p: &[f32], tau: f32, a: usize) -> [f32; 7]
     requires { (length p.now ≡ prototype_length (per_pulse setting)) × (a + 1 < branches (per_pulse setting)) }
     ensures { result ≡ between tau (branch (per_pulse setting) p.now a) (branch (per_pulse setting) p.now (a + 1)) }
@@ -64,6 +65,7 @@ fn within_bank(setting: SamplesPerPulse, p: &[f32], tau: f32, a: usize) -> [f32;
 }
 
 // The taps of the last branch, which goes on to branch 0 from its second tap.
+#[tactic(auto, using(crate::proofs::Literals::rolled_taps))]
 fn at_bank_end(setting: SamplesPerPulse, p: &[f32], tau: f32) -> [f32; 7]
     requires { length p.now ≡ prototype_length (per_pulse setting) }
     ensures { result ≡ between tau (branch (per_pulse setting) p.now (branches (per_pulse setting) - 1)) (drop 1 (branch (per_pulse setting) p.now 0)) }

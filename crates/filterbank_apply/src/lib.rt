@@ -8,12 +8,19 @@ ghost use Rattle.filterbank.specs.PaddedPulsesModel.{pad_pulses, padded_sum};
 
 use constants::MAX_POSITIONS;
 
-// The first `len` pulses padded by six positions, so that a sum over them needs no tests of their positions.
-pub fn pad_pulses(on: [bool; MAX_POSITIONS], len: usize) -> [bool; 252]
-    ensures { result ≡ pad_pulses (take len on) }
+// Positions with six in front of them and six behind.
+pub const PADDED_LEN: usize = MAX_POSITIONS + 12;
+
+// Indices at which a sum reaches a position.
+const INDICES: usize = MAX_POSITIONS + 6;
+
+// The first pulses, at most as many as a reply has positions, padded by six positions, so that a sum over them needs no tests of their positions.
+#[tactic(auto, using(filterbank::proofs::Padded::padded))]
+pub fn pad_pulses(on: &[bool]) -> [bool; PADDED_LEN]
+    ensures { result ≡ pad_pulses (take 240 on.now) }
 {
-    let n = len.min(MAX_POSITIONS);
-    let mut out = [false; 252];
+    let n = on.len().min(MAX_POSITIONS);
+    let mut out = [false; PADDED_LEN];
     out[6..6 + n].copy_from_slice(&on[..n]);
     out
 }
@@ -25,10 +32,11 @@ fn added(sum: f32, tap: f32, on: bool) -> f32
 }
 
 // The sum of the taps at whose position there is a pulse.
-pub fn pulse_sum(taps: [f32; 7], padded: &[bool; 252], index: usize) -> f32
+#[tactic(auto, using(filterbank::proofs::Literals::sum_past, filterbank::proofs::Literals::sum_seven))]
+pub fn pulse_sum(taps: [f32; 7], padded: &[bool; PADDED_LEN], index: usize) -> f32
     ensures { result ≡ padded_sum taps padded.now index }
 {
-    if index >= 246 {
+    if index >= INDICES {
         return 0.0;
     }
     let s0 = added(0.0, taps[0], padded[index + 6]);

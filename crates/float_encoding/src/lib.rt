@@ -1,6 +1,8 @@
 // Floats from their bit patterns, and bit patterns of floats: equal to `of_bits` and `to_bits` of the kit's floats on every input.
 #![tactic(auto)]
 
+// Two pairs, each function one call of std's: one pair for both formats would want a trait with two types' functions, and be no plainer.
+
 ghost use Rattle.std.specs.Prelude.{◌≡◌};
 ghost use Rattle.std.specs.Float.{binary32, binary64};
 ghost use Rattle.std.specs.Float.Ieee.{of_bits, to_bits};

@@ -6,6 +6,7 @@ use lib.Ieee.{Float, nan, inf, fin, binary64, up, down, round, to_signed, fits}
 use lib.Ieee.Fits.{down_pos, and_l, and_r}
 use lib.Ieee.Exact.{HasValue, round_exact}
 use lib.Ieee.Back.{round_whole}
+use Rattle.std.specs.Float as Std
 use Rattle.float_narrow.specs.Ceil.{ceil, ceil_signed, upward}
 
 to_signed_pos : (h : ℕ) (x : Float) (c : ℕ) → HasValue x false c 1 → to_signed h x ≡ pos (min c (2 ^ h - 1))
@@ -74,3 +75,17 @@ ceil_signed_lem nan F = unfold to_signed in refl
 ceil_signed_lem (inf s) F = unfold to_signed in refl
 ceil_signed_lem (fin false m e) F = to_signed_pos 63 (round binary64 false (upward (m * up e) (down e)) 1) (upward (m * up e) (down e)) (ceil_value m e F)
 ceil_signed_lem (fin true m e) F = to_signed_neg 63 (round binary64 true (m * up e / down e) 1) (m * up e / down e) (floor_value m e F)
+
+-- std's `ceil` is the same, though it rounds up by another expression
+ceil_is : (x : Float) → Std.ceil binary64 x ≡ ceil x
+unfolding Std.round_with ceil
+ceil_is nan = refl
+ceil_is (inf s) = refl
+ceil_is (fin false m e) = ap (λ (n : ℕ). round binary64 false (n / down e) 1) (up_same (m * up e) (down e) (down_pos e))
+  where
+    up_same : (a d : ℕ) → 0 < d → a + d - 1 ≡ a + (d - 1)
+    up_same a d h = omega arith
+ceil_is (fin true m e) = refl
+
+pub std_ceil_signed : (x r : Float) (n : ℤ) → fits binary64 x ≡ true → r ≡ Std.ceil binary64 x → n ≡ to_signed 63 r → n ≡ ceil_signed 63 x
+std_ceil_signed x r n F e p = p ∙ ap (to_signed 63) (e ∙ ceil_is x) ∙ ceil_signed_lem x (subst T (sym F) tt)

@@ -1,15 +1,14 @@
 -- Narrowing keeps the order (`narrow-mono`) and the sign (`narrow-neg`). So a value within a limit that `f32` holds stays within it, finite, and one from 0 to 1 stays there.
-use Rattle.std.proofs.Common.{◌≡◌, ℕ, ◌+◌, ◌*◌, ◌/◌, ◌%◌, ◌^◌, ◌<◌, ◌≤◌, Bool, true, false, not, T, ◌⊎◌, ℤ, pos, sym, refl, ap, ◌∙◌, subst, inl, inr, le_of_eq, lt_of_lt_of_le, lt_of_le_of_lt, zero-lt-suc, mul_assoc, eq-zero-or-pos, one-mul, zero-mul, mul-one, arith, lt→ltb, pow_pos, pow-add}
+use Rattle.std.proofs.Common.{◌≡◌, ℕ, ◌+◌, ◌*◌, ◌^◌, ◌<◌, ◌≤◌, Bool, true, false, not, T, ℤ, pos, sym, refl, ap, ◌∙◌, subst, le_of_eq, lt_of_lt_of_le, lt_of_le_of_lt, zero-lt-suc, mul_assoc, one-mul, zero-mul, mul-one, arith, lt→ltb, pow_pos, pow-add}
 use lib.Pow.{pow-lt}
-use lib.Ieee.{Float, nan, inf, fin, binary32, binary64, up, down, round, neg, le, of_bits, to_bits, fits, is_nan}
+use lib.Ieee.{Float, nan, inf, fin, binary32, up, down, round, neg, le, fits, is_nan}
 use lib.Ieee.Back.{whole_unique}
-use lib.Ieee.Bits.{of_bits-to_bits, to_bits-lt}
 use lib.Ieee.Exact.{HasValue, round_exact}
 use lib.Ieee.Fits.{round-fits, down_pos}
 use lib.Ieee.Order.{round_mono}
 use lib.Ieee.Scale.{finite}
 use Rattle.float_rounding.proofs.Units.{first_zero}
-use Rattle.float_rounding.proofs.Order.{Le, Signed, le_fin, fin_le, le_neg, le_signed, round_signed, round_neg, bits_neg}
+use Rattle.float_rounding.proofs.Order.{Le, Signed, le_fin, fin_le, le_neg, le_signed, round_signed, round_neg}
 use Rattle.float_narrow.specs.Narrow.{narrow}
 use Rattle.float_narrow.specs.Range.{abs, within}
 use Rattle.float_narrow.proofs.Ranges.{within_finite}
@@ -138,37 +137,3 @@ narrow_within_pow x k K h =
 -- and a value from 0 to 1 stays there
 pub narrow_unit : (x : Float) → T (le (fin false 0 (pos 0)) x) → T (le x (fin false 1 (pos 0))) → T (le (fin false 0 (pos 0)) (narrow x)) × T (le (narrow x) (fin false 1 (pos 0)))
 narrow_unit x lo hi = (narrow_at_least x (fin false 0 (pos 0)) (unfold narrow in refl) lo, narrow_at_most x (fin false 1 (pos 0)) (unfold narrow in refl) hi)
-
--- ---- the code: the sign is put before the pattern of the size
-pub with_sign_lem : (x : Float) (m : ℕ) → T (fits binary64 x) → m < 2147483648 → of_bits binary32 m ≡ narrow (of_bits binary64 (to_bits binary64 x % 9223372036854775808))
-    → of_bits binary32 (to_bits binary64 x / 9223372036854775808 * 2147483648 + m) ≡ narrow x
-with_sign_lem x m F M e = go (to_bits binary64 x) (to_bits-lt binary64 x F) (of_bits-to_bits binary64 x F) e
-  where
-    bit : (b : ℕ) → b < 18446744073709551616 → (b / 9223372036854775808 ≡ 0) ⊎ (b / 9223372036854775808 ≡ 1)
-    bit b h = elim (eq-zero-or-pos (b / 9223372036854775808)) [ inl z ↦ inl z | inr p ↦ inr (one b h p) ]
-      where
-        one : (b : ℕ) → b < 18446744073709551616 → 0 < b / 9223372036854775808 → b / 9223372036854775808 ≡ 1
-        one b h p = omega arith
-
-    low : (b : ℕ) → b / 9223372036854775808 ≡ 0 → b % 9223372036854775808 ≡ b
-    low b z = omega arith
-
-    high : (b : ℕ) → b / 9223372036854775808 ≡ 1 → 9223372036854775808 + b % 9223372036854775808 ≡ b
-    high b z = omega arith
-
-    small : (b : ℕ) → b % 9223372036854775808 < 9223372036854775808
-    small b = omega arith
-
-    clear : (s m : ℕ) → s ≡ 0 → s * 2147483648 + m ≡ m
-    clear s m z = omega arith
-
-    set : (s m : ℕ) → s ≡ 1 → s * 2147483648 + m ≡ 2147483648 + m
-    set s m z = omega arith
-
-    go : (b : ℕ) → b < 18446744073709551616 → of_bits binary64 b ≡ x → of_bits binary32 m ≡ narrow (of_bits binary64 (b % 9223372036854775808)) → of_bits binary32 (b / 9223372036854775808 * 2147483648 + m) ≡ narrow x
-    go b B back e = elim (bit b B) [
-      | inl z ↦ ap (of_bits binary32) (clear (b / 9223372036854775808) m z) ∙ e ∙ ap (λ (n : ℕ). narrow (of_bits binary64 n)) (low b z) ∙ ap narrow back
-      | inr o ↦
-          ap (of_bits binary32) (set (b / 9223372036854775808) m o) ∙ bits_neg binary32 m M ∙ ap neg e ∙ sym (narrow_neg (of_bits binary64 (b % 9223372036854775808)))
-          ∙ ap narrow (sym (bits_neg binary64 (b % 9223372036854775808) (small b)) ∙ ap (of_bits binary64) (high b o) ∙ back)
-    ]

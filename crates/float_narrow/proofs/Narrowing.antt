@@ -1,19 +1,27 @@
--- The `f32` pattern of an `f64` pattern n whose sign is clear: n rounded as a whole in the normal range (`in-range`), its digits rounded below it (`subnormal-pattern`), and 0 further below (`zero_pattern`).
-use Rattle.std.proofs.Common.{◌≡◌, ℕ, zero, suc, ◌+◌, ◌-◌, ◌*◌, ◌/◌, ◌%◌, ◌^◌, ◌<◌, ◌≤◌, min, Bool, true, false, cond, not, T, eqb, leb, sym, refl, ap, ◌∙◌, subst, inl, inr, zero-le, le_trans, le_of_eq, lt_of_lt_of_le, lt_of_le_of_lt, mul-le-mul_right, mod-lt, zero-lt-suc, mul_assoc, div-lt_iff_lt-mul, mul-lt-mul_of_pos_right, mul-pos, one-mul, le-div_iff_mul-le, zero-add, arith, le→leb, eqb→eq, pow_pos, pow_mono, pow-add, shl_lt, shl_exact}
+-- The `f32` pattern of an `f64` pattern n whose sign is clear: n rounded as a whole in the normal range (`in_range`), its digits rounded below it, and 0 further below. `narrow_is`: `narrow` is std's rounding.
+use Rattle.std.proofs.Common.{◌≡◌, ℕ, zero, suc, ◌+◌, ◌-◌, ◌*◌, ◌/◌, ◌%◌, ◌^◌, ◌<◌, ◌≤◌, min, Bool, true, false, cond, not, T, eqb, leb, sym, refl, ap, ◌∙◌, subst, inl, inr, le_trans, le_of_eq, lt_of_lt_of_le, lt_of_le_of_lt, mul-le-mul_right, mod-lt, zero-lt-suc, mul_assoc, div-lt_iff_lt-mul, mul-lt-mul_of_pos_right, mul-pos, le-div_iff_mul-le, zero-add, arith, le→leb, eqb→eq, pow_pos, pow_mono, pow-add, shl_lt}
 use lib.Arith.{lt→nleb, le→nltb}
-use lib.Pow.{pow-lt}
-use lib.Ieee.{Float, nan, inf, fin, binary32, binary64, up, down, size, odd, round, of_bits, of_fields, is_nan}
+use lib.Ieee.{Float, nan, inf, fin, binary32, binary64, up, down, size, odd, round, div, ne, fits, of_bits, to_bits, of_fields, is_nan}
 use lib.Ieee.Digits.{size-le}
 use lib.Ieee.Fits.{down_pos}
 use lib.Ieee.Exact.{HasValue, odd_sign}
-use lib.Ieee.Bits.{is_true, is_false, nan_bits_above, nan_bits_is}
+use lib.Ieee.Bits.{is_true, is_false, nan_bits_above, nan_bits_is, of_bits-to_bits}
 use lib.Ieee.Nearest.{closest, closest_same}
 use lib.Ieee.Order.{drop, kept}
 use lib.Ieee.Scale.{round_same}
+use Rattle.std.specs.Float.{round_to_format}
 use Rattle.float_rounding.proofs.Pattern.{round_pattern, size_exact, kept_le}
 use Rattle.float_rounding.proofs.Size.{le_or_lt}
 use Rattle.float_rounding.proofs.Half.{closest_zero, closest_even, closest_half}
 use Rattle.float_narrow.specs.Narrow.{narrow}
+use Rattle.float_narrow.proofs.Nan.{is_nan_lem}
+
+-- std's rounding to a format is the same
+pub narrow_is : (x : Float) → round_to_format binary32 x ≡ narrow x
+unfolding round_to_format narrow
+narrow_is nan = refl
+narrow_is (inf s) = refl
+narrow_is (fin s m e) = refl
 
 narrow_val : (x : Float) (s : Bool) (a c : ℕ) → 0 < c → HasValue x s a c → narrow x ≡ round binary32 s a c
 unfolding narrow
@@ -250,62 +258,16 @@ whole_pattern n h =
     joined : (f x y : ℕ) → 897 ≤ f → x ≡ 2 * ((f - 1) * 4194304) + y → (f - 897) * 8388608 + y ≡ x - 7516192768
     joined f x y h e = omega arith
 
-mag_le : (f d : ℕ) → d < 4503599627370496 → magnitude f d ≤ 2139095040
-mag_le f d D =
-    elim (le_or_lt 897 f) [
-      | inl h ↦ le_trans (le_of_eq (mag_high f d h)) (min_le ((f - 897) * 8388608 + closest (4503599627370496 + d) 536870912))
-      | inr l ↦ elim (le_or_lt 872 f) [
-        | inl g ↦ le_trans (le_of_eq (mag_mid f d l g ∙ sym (lower (4503599627370496 + d) (f - 1) (926 - f) (is f l g) (lt f l g) (most d D)))) (min_le (drop 24 ((4503599627370496 + d) * 2 ^ (f - 1) * 2 ^ 149) (2 ^ 1074) * 8388608 + kept 24 ((4503599627370496 + d) * 2 ^ (f - 1) * 2 ^ 149) (2 ^ 1074)))
-        | inr g ↦ le_trans (le_of_eq (mag_low f d g)) zero-le
-      ]
-    ]
-  where
-    min_le : (x : ℕ) → min x 2139095040 ≤ 2139095040
-    min_le x = omega arith
-
-    is : (f : ℕ) → f < 897 → 872 ≤ f → f - 1 + (926 - f) ≡ 925
-    is f h g = omega arith
-
-    lt : (f : ℕ) → f < 897 → 872 ≤ f → f - 1 < 896
-    lt f h g = omega arith
-
 -- ---- what the code asks
 -- in the normal range, and at an infinity's pattern, m being n rounded as a whole
 pub in_range : (n r : ℕ) → n ≤ 9218868437227405312 → 4039728865751334912 ≤ n → r ≡ min ((n + 268435455 + n / 536870912 % 2) / 536870912 - 7516192768) 2139095040 → of_bits binary32 r ≡ narrow (of_bits binary64 n)
 in_range n r h l e =
     ap (of_bits binary32) (e ∙ ap (λ (x : ℕ). min (x - 7516192768) 2139095040) (closest_half n 268435456 (pow_pos 28)) ∙ sym (whole_pattern n l)) ∙ sym (narrow_bits n h)
 
--- below the normal range, with the exponent's field f, half of the divisor being 1 << (925 - f)
-pub half_shl : (f : ℕ) → 872 ≤ f → f < 897 → (0 < 1 * 2 ^ (925 - f) % 18446744073709551616) × (1 * 2 ^ (925 - f) % 18446744073709551616 ≤ 18014398509481984) × (2 * (1 * 2 ^ (925 - f) % 18446744073709551616) ≡ 2 ^ (926 - f))
-half_shl f lo hi =
-    let e : 1 * 2 ^ (925 - f) % 18446744073709551616 ≡ 2 ^ (925 - f) = shl_exact 1 (925 - f) 64 (pow-lt (zero-lt-suc 0)) (room f lo) ∙ one-mul (2 ^ (925 - f)) in (
-      lt_of_lt_of_le (pow_pos (925 - f)) (le_of_eq (sym e)),
-      le_trans (le_of_eq e) (pow_mono (small f lo)),
-      ap (λ (x : ℕ). 2 * x) e ∙ sym (pow-add 2 1 (925 - f)) ∙ ap (λ (x : ℕ). 2 ^ x) (next f hi),
-    )
-  where
-    room : (f : ℕ) → 872 ≤ f → 1 + (925 - f) ≤ 64
-    room f lo = omega arith
+-- a NaN stays one, and a value's pattern is that of the value
+pub nan_narrowed : (x : Float) → ne x x ≡ true → div binary32 (of_bits binary32 0) (of_bits binary32 0) ≡ narrow x
+unfolding div of_bits narrow
+nan_narrowed x e = sym (ap narrow (is_nan_lem x e))
 
-    small : (f : ℕ) → 872 ≤ f → 925 - f ≤ 54
-    small f lo = omega arith
-
-    next : (f : ℕ) → f < 897 → 1 + (925 - f) ≡ 926 - f
-    next f hi = omega arith
-
-pub subnormal_pattern : (n r : ℕ) → 872 ≤ n / 4503599627370496 → n / 4503599627370496 < 897 → r ≡ closest (4503599627370496 + n % 4503599627370496) (2 * (1 * 2 ^ (925 - n / 4503599627370496) % 18446744073709551616))
-    → (r ≤ 2139095040) × (of_bits binary32 r ≡ narrow (of_bits binary64 n))
-subnormal_pattern n r lo hi e =
-    let f = n / 4503599627370496 in
-    let d = n % 4503599627370496 in
-    let m : r ≡ magnitude f d = e ∙ ap (closest (4503599627370496 + d)) (half_shl f lo hi).2 ∙ sym (mag_mid f d hi lo) in
-    (le_trans (le_of_eq m) (mag_le f d (mod-lt n (pow_pos 52))), ap (of_bits binary32) m ∙ sym (narrow_bits n (less n hi)))
-  where
-    less : (n : ℕ) → n / 4503599627370496 < 897 → n ≤ 9218868437227405312
-    less n h = omega arith
-
-pub zero_pattern : (n : ℕ) → n / 4503599627370496 < 872 → of_bits binary32 0 ≡ narrow (of_bits binary64 n)
-zero_pattern n h = ap (of_bits binary32) (sym (mag_low (n / 4503599627370496) (n % 4503599627370496) h)) ∙ sym (narrow_bits n (less n h))
-  where
-    less : (n : ℕ) → n / 4503599627370496 < 872 → n ≤ 9218868437227405312
-    less n h = omega arith
+pub by_bits : (x r : Float) → fits binary64 x ≡ true → r ≡ narrow (of_bits binary64 (to_bits binary64 x)) → r ≡ narrow x
+by_bits x r F e = e ∙ ap narrow (of_bits-to_bits binary64 x (subst T (sym F) tt))

@@ -1,8 +1,9 @@
--- `within-test`: a value is within a limit in size where it is neither above the limit nor below its negation; the test of `finite`; and what being within a finite limit says.
+-- `within_test`: a value is within a limit in size where it is neither above the limit nor below its negation; std's tests are the definitions'; and what being within a finite limit says.
 use Rattle.std.proofs.Common.{◌≡◌, ℕ, ◌*◌, ◌≤◌, Bool, true, false, not, T, ℤ, sym, refl, ◌∙◌, subst, true≢false, le_of_eq}
 use mathlib.Core.Bool.{false≢true}
-use lib.Ieee.{Float, nan, inf, fin, binary64, up, down, lt, le, neg, div, of_bits}
+use lib.Ieee.{Float, nan, inf, fin, up, down, le, neg}
 use lib.Ieee.Scale.{finite}
+use Rattle.std.specs.Float.{float_is_finite, float_with_sign}
 use Rattle.float_rounding.proofs.Order.{Le, le_fin, fin_le}
 use Rattle.float_rounding.proofs.Val.{Val, le_val, val_le}
 use Rattle.float_rounding.proofs.Compared.{same_test}
@@ -45,34 +46,26 @@ within_test (fin s m e) (fin t n d) =
           (λ k. subst T h (fin_le s m e t n d (back s a t b (le_fin false m e t n d k)).0)),
     )
 
--- below the infinity, and above the other one
-pub finite_test : (x : Float) → (lt x (inf false) ≡ true → lt (inf true) x ≡ finite x) × (lt x (inf false) ≡ false → false ≡ finite x)
-unfolding lt
-finite_test nan = (λ e. refl, λ e. refl)
-finite_test (inf true) = (λ e. refl, λ e. refl)
-finite_test (inf false) = (λ e. absurd (false≢true e), λ e. refl)
-finite_test (fin s m e) = (λ h. refl, λ h. absurd (true≢false h))
+-- std's test is the same one
+pub finite_is : (x : Float) → float_is_finite x ≡ finite x
+unfolding float_is_finite
+finite_is nan = refl
+finite_is (inf s) = refl
+finite_is (fin s m e) = refl
 
--- the same, a law for each branch of the code's two tests
+-- and its size is the definition's
+pub within_is : (x l : Float) → le (float_with_sign false x) l ≡ within x l
+unfolding float_with_sign within abs
+within_is nan l = refl
+within_is (inf s) l = refl
+within_is (fin s m e) l = refl
+
+-- a law for each branch of two tests
 pub within_low : (x l : Float) → le x l ≡ true → le (neg l) x ≡ within x l
 within_low x l = (within_test x l).0
 
 pub within_no : (x l : Float) → le x l ≡ false → le x l ≡ within x l
 within_no x l e = e ∙ (within_test x l).1 e
-
-abbrev infinity : Float
-infinity = div binary64 (of_bits binary64 0x3ff0_0000_0000_0000) (of_bits binary64 0)
-
-abbrev minus_infinity : Float
-minus_infinity = div binary64 (neg (of_bits binary64 0x3ff0_0000_0000_0000)) (of_bits binary64 0)
-
-pub finite_low : (x : Float) → lt x infinity ≡ true → lt minus_infinity x ≡ finite x
-unfolding div neg of_bits
-finite_low x = (finite_test x).0
-
-pub finite_no : (x : Float) → lt x infinity ≡ false → lt x infinity ≡ finite x
-unfolding div neg of_bits
-finite_no x e = e ∙ (finite_test x).1 e
 
 -- ---- for the crates above
 pub within_finite : (x : Float) (t : Bool) (n : ℕ) (d : ℤ) → T (within x (fin t n d)) → T (finite x)

@@ -1,14 +1,14 @@
 -- An `f32` in the normal range has the `f64` pattern m + 896 * 2 ^ 23 with 29 zeros after it (`widened`). So an `f64` pattern in that range, rounded to its upper 35 bits, is a value that `f32` holds, and the nearest there (`rounded`).
-use Rattle.std.proofs.Common.{◌≡◌, ℕ, zero, suc, ◌+◌, ◌-◌, ◌*◌, ◌/◌, ◌%◌, ◌^◌, ◌<◌, ◌≤◌, Bool, true, false, cond, not, T, eqb, leb, pos, negsuc, sym, refl, ap, ◌∙◌, subst, inl, inr, lt_irrefl, eq-zero-or-pos, mul-one, mul-div_cancel, arith, le→leb, eqb→eq, leb→le, pow_pos, pow-add}
+use Rattle.std.proofs.Common.{◌≡◌, ℕ, zero, suc, ◌+◌, ◌-◌, ◌*◌, ◌/◌, ◌%◌, ◌^◌, ◌<◌, ◌≤◌, Bool, true, false, cond, not, ◌&&◌, T, eqb, leb, pos, negsuc, sym, refl, ap, ◌∙◌, subst, inl, inr, lt_irrefl, eq-zero-or-pos, mul-one, mul-div_cancel, arith, le→leb, eqb→eq, leb→le, pow_pos, pow-add}
 use native.Mathlib.Nat.{div-div-eq-div-mul}
 use Prim.Native.Nat.{min}
 use lib.Dec.{nleb→lt}
 use lib.Arith.{lt→nleb}
 use lib.Bits.{shifted_half, shifted_even}
 use lib.Count.{count_trailing_zeros, under}
-use lib.Ieee.{Float, nan, inf, fin, binary32, binary64, minus, odd, up, down, fits, neg, of_bits, of_fields, nan_bits}
-use lib.Ieee.Bits.{is_true, is_false}
-use lib.Ieee.Fits.{round-fits}
+use lib.Ieee.{Float, nan, inf, fin, binary32, binary64, minus, odd, up, down, fits, neg, of_bits, of_fields, nan_bits, is_nan}
+use lib.Ieee.Bits.{is_true, is_false, nan_bits_is}
+use lib.Ieee.Fits.{round-fits, and_i}
 use Rattle.float_rounding.proofs.Order.{bits_neg}
 use Rattle.float_narrow.specs.Narrow.{narrow}
 use Rattle.float_narrow.proofs.Nan.{no_nan_bits}
@@ -211,7 +211,7 @@ rounded b B lo hi = elim (eq-zero-or-pos (b / 9223372036854775808)) [
         most n h = omega arith
 
 -- so the cast loses nothing
-pub kept : (b : ℕ) → b < 18446744073709551616 → 4039728865751334912 ≤ b % 9223372036854775808 → b % 9223372036854775808 < 5179139571476070400 → T (fits binary32 (of_bits binary64 (upper b)))
+kept : (b : ℕ) → b < 18446744073709551616 → 4039728865751334912 ≤ b % 9223372036854775808 → b % 9223372036854775808 < 5179139571476070400 → T (fits binary32 (of_bits binary64 (upper b)))
 kept b B lo hi = subst (λ (x : Float). T (fits binary32 x)) (sym (rounded b B lo hi)) (narrow_fits (of_bits binary64 b))
 
 pub no_nan : (b : ℕ) → b % 9223372036854775808 < 5179139571476070400 → T (not (nan_bits binary64 (upper b)))
@@ -225,3 +225,8 @@ no_nan b h = no_nan_bits binary64 (upper b) (unfold upper in size b h)
 
         split : (b r : ℕ) → r ≤ 1 → b % 9223372036854775808 < 5179139571476070400 → (b + 268435455 + r) / 536870912 * 536870912 % 9223372036854775808 ≤ 9218868437227405312
         split b r e h = omega arith
+
+pub holds : (b : ℕ) → b < 18446744073709551616 → 4039728865751334912 ≤ b % 9223372036854775808 → b % 9223372036854775808 < 5179139571476070400 → T (fits binary32 (of_bits binary64 (upper b)) && not (is_nan (of_bits binary64 (upper b))))
+holds b B lo hi =
+    and_i (fits binary32 (of_bits binary64 (upper b))) (not (is_nan (of_bits binary64 (upper b)))) (kept b B lo hi)
+    (subst (λ (t : Bool). T (not t)) (nan_bits_is binary64 (upper b)) (no_nan b hi))

@@ -18,7 +18,7 @@ use Rattle.float_rounding.proofs.Units.{G-exact}
 use Rattle.float_rounding.proofs.Val.{Val, val_units, neg_val, add_opposite, mul_val, le_val, val_le, val_of}
 use Rattle.float_rounding.proofs.Order.{round_neg}
 use Rattle.float_rounding.proofs.Remainder.{rem_val}
-use Rattle.float_remainder.specs.Turn.{turn, taken}
+use Rattle.float_remainder.specs.Turn.{two_pi, taken}
 use Rattle.float_remainder.proofs.Unique.{unique, under}
 
 -- ---- a turn, half of one, and the largest multiple, in units
@@ -39,8 +39,8 @@ turn_pos : 0 < turn_units
 unfolding turn_units
 turn_pos = lit< tt
 
-turn_val : Val turn false turn_units
-unfolding turn of_bits turn_units
+turn_val : Val two_pi false turn_units
+unfolding two_pi of_bits turn_units
 turn_val = (refl, refl)
 
 abbrev largest : Float
@@ -204,7 +204,7 @@ module _ (x r t : Float) (i : ℕ) (g : Going x r t (suc i)) where
       less_one : (i : ℕ) → suc i ≤ 1022 → i ≤ 1021
       less_one i h = omega arith
 
-  pub step : (r' t' : Float) → r' ≡ taken r t → t' ≡ mul binary64 t half → Going x r' t' i
+  step : (r' t' : Float) → r' ≡ taken r t → t' ≡ mul binary64 t half → Going x r' t' i
   unfolding taken k
   step r' t' e f = go (le t r) refl
     where
@@ -252,26 +252,26 @@ module _ (x r t : Float) (i : ℕ) (g : Going x r t (suc i)) where
 over_end : (n k : ℕ) → n < 2 ^ 0 * k → n < k
 over_end n k h = subst (λ (x : ℕ). n < x) (one-mul k) h
 
-pub ends : (x r t : Float) → T (fits binary64 x) → Going x r t 0 → r ≡ rem binary64 x turn
+ends : (x r t : Float) → T (fits binary64 x) → Going x r t 0 → r ≡ rem binary64 x two_pi
 ends x r t F g =
     let below : g.left < turn_units = over_end g.left turn_units g.below in
     let same : g.whole % turn_units ≡ g.left = sym g.same ∙ mod-eq_of_lt below in
     let rep : G (g.whole % turn_units) (2 ^ 1074) ≡ g.left = ap (λ (n : ℕ). G n (2 ^ 1074)) same ∙ G-rep g.left (rep_of r g.left g.r_fits (val_units r g.left g.r_is)) in
-    unique r (rem binary64 x turn) false g.left g.r_fits (rem-fits binary64 x turn F) g.r_is
-    (subst (λ (n : ℕ). Val (rem binary64 x turn) false n) rep
-    (rem_val x turn false false g.whole turn_units g.x_is turn_val turn_pos (subst (λ (n : ℕ). n < 2 ^ 2098) (sym rep) (under r false g.left g.r_fits g.r_is))))
+    unique r (rem binary64 x two_pi) false g.left g.r_fits (rem-fits binary64 x two_pi F) g.r_is
+    (subst (λ (n : ℕ). Val (rem binary64 x two_pi) false n) rep
+    (rem_val x two_pi false false g.whole turn_units g.x_is turn_val turn_pos (subst (λ (n : ℕ). n < 2 ^ 2098) (sym rep) (under r false g.left g.r_fits g.r_is))))
 
 -- ---- the beginning
 -- what is 2 PI at least and finite has the sign of a number that is not negative
-whole_of : (x : Float) → T (le turn x) → (s : Bool) (n : ℕ) → Val x s n → Val x false n
-whole_of x h true n p = absurd (lt_irrefl 0 (subst (λ (z : ℕ). 0 < z) ((le_val turn x false true turn_units n turn_val p h).0) turn_pos))
+whole_of : (x : Float) → T (le two_pi x) → (s : Bool) (n : ℕ) → Val x s n → Val x false n
+whole_of x h true n p = absurd (lt_irrefl 0 (subst (λ (z : ℕ). 0 < z) ((le_val two_pi x false true turn_units n turn_val p h).0) turn_pos))
 whole_of x h false n p = p
 
 enough : 2 ^ 2098 ≤ 2 ^ 1022 * turn_units
 unfolding turn_units
 enough = lit≤ tt
 
-pub starts : (x : Float) → T (fits binary64 x) → T (finite x) → T (le turn x) → Going x x largest 1022
+starts : (x : Float) → T (fits binary64 x) → T (finite x) → T (le two_pi x) → Going x x largest 1022
 starts x F f h =
     let v = val_of x F f in
     let p = whole_of x h v.0 v.1.0 v.1.1 in record {
@@ -287,29 +287,29 @@ starts x F f h =
     }
 
 -- ---- a value below a turn in size is its own remainder
-own : (x : Float) (s : Bool) (n : ℕ) → T (fits binary64 x) → Val x s n → n < turn_units → G n (2 ^ 1074) ≡ n → x ≡ rem binary64 x turn
+own : (x : Float) (s : Bool) (n : ℕ) → T (fits binary64 x) → Val x s n → n < turn_units → G n (2 ^ 1074) ≡ n → x ≡ rem binary64 x two_pi
 own x s n F p h e =
     let same : G (n % turn_units) (2 ^ 1074) ≡ n = ap (λ (m : ℕ). G m (2 ^ 1074)) (mod-eq_of_lt h) ∙ e in
-    unique x (rem binary64 x turn) s n F (rem-fits binary64 x turn F) p
-    (subst (λ (m : ℕ). Val (rem binary64 x turn) s m) same
-    (rem_val x turn s false n turn_units p turn_val turn_pos (subst (λ (m : ℕ). m < 2 ^ 2098) (sym same) (under x s n F p))))
+    unique x (rem binary64 x two_pi) s n F (rem-fits binary64 x two_pi F) p
+    (subst (λ (m : ℕ). Val (rem binary64 x two_pi) s m) same
+    (rem_val x two_pi s false n turn_units p turn_val turn_pos (subst (λ (m : ℕ). m < 2 ^ 2098) (sym same) (under x s n F p))))
 
-less_than : (y : Float) (n : ℕ) → Val y false n → le turn y ≡ false → n < turn_units
+less_than : (y : Float) (n : ℕ) → Val y false n → le two_pi y ≡ false → n < turn_units
 less_than y n p h = go (leb turn_units n) refl
   where
     go : (b : Bool) → leb turn_units n ≡ b → n < turn_units
-    go true e = absurd (subst T h (val_le turn y false false turn_units n turn_val p (leb-true turn_units n e)))
+    go true e = absurd (subst T h (val_le two_pi y false false turn_units n turn_val p (leb-true turn_units n e)))
     go false e = leb-false turn_units n e
 
-below_minus_infinite : le turn (neg (inf true)) ≡ false → true ≡ false
-unfolding neg le turn of_bits
+below_minus_infinite : le two_pi (neg (inf true)) ≡ false → true ≡ false
+unfolding neg le two_pi of_bits
 below_minus_infinite h = h
 
-above_infinite : le turn (inf false) ≡ false → true ≡ false
-unfolding le turn of_bits
+above_infinite : le two_pi (inf false) ≡ false → true ≡ false
+unfolding le two_pi of_bits
 above_infinite h = h
 
-pub small : (x : Float) → T (fits binary64 x) → le turn x ≡ false → le turn (neg x) ≡ false → x ≡ rem binary64 x turn
+pub small : (x : Float) → T (fits binary64 x) → le two_pi x ≡ false → le two_pi (neg x) ≡ false → x ≡ rem binary64 x two_pi
 small nan F a b = unfold rem in refl
 small (inf true) F a b = absurd (true≢false (below_minus_infinite b))
 small (inf false) F a b = absurd (true≢false (above_infinite a))
@@ -321,7 +321,7 @@ small (fin s m e) F a b = go s v.1.0 (signed v.0 v.1.0 v.1.1) a b F
     signed : (t : Bool) (n : ℕ) → Val (fin s m e) t n → Val (fin s m e) s n
     signed t n p = (refl, p.1)
 
-    go : (s : Bool) (n : ℕ) → Val (fin s m e) s n → le turn (fin s m e) ≡ false → le turn (neg (fin s m e)) ≡ false → T (fits binary64 (fin s m e)) → fin s m e ≡ rem binary64 (fin s m e) turn
+    go : (s : Bool) (n : ℕ) → Val (fin s m e) s n → le two_pi (fin s m e) ≡ false → le two_pi (neg (fin s m e)) ≡ false → T (fits binary64 (fin s m e)) → fin s m e ≡ rem binary64 (fin s m e) two_pi
     go false n p a b F = own (fin false m e) false n F p (less_than (fin false m e) n p a) (G-rep n (rep_of (fin false m e) n F (val_units (fin false m e) n p)))
     go true n p a b F =
         let q : Val (neg (fin true m e)) false n = neg_val (fin true m e) true n p in
@@ -345,27 +345,43 @@ rem_neg_at (fin s m e) t n d = go (eqb n 0) (m * up e * down d % (n * up d * dow
     go true a c = refl
     go false a c = turned s a c
 
-turn_is : turn ≡ fin false 884279719003555 (negsuc 46)
-unfolding turn of_bits
+turn_is : two_pi ≡ fin false 884279719003555 (negsuc 46)
+unfolding two_pi of_bits
 turn_is = refl
 
-pub rem_neg : (x : Float) → neg (rem binary64 (neg x) turn) ≡ rem binary64 x turn
+pub rem_neg : (x : Float) → neg (rem binary64 (neg x) two_pi) ≡ rem binary64 x two_pi
 rem_neg x = subst (λ (z : Float). neg (rem binary64 (neg x) z) ≡ rem binary64 x z) (sym turn_is) (rem_neg_at x false 884279719003555 (negsuc 46))
 
 -- ---- an infinity has no remainder, and nothing else of a turn at least is not finite
 abbrev infinity : Float
 infinity = div binary64 (of_bits binary64 0x3ff0_0000_0000_0000) (of_bits binary64 0)
 
-pub no_number : (x : Float) → eq x infinity ≡ true → sub binary64 x x ≡ rem binary64 x turn
+pub no_number : (x : Float) → eq x infinity ≡ true → sub binary64 x x ≡ rem binary64 x two_pi
 unfolding eq div of_bits sub add rem
 no_number nan h = refl
 no_number (inf true) h = refl
 no_number (inf false) h = refl
 no_number (fin s m e) h = absurd (false≢true h)
 
-pub finite_of : (x : Float) → le turn x ≡ true → eq x infinity ≡ false → T (finite x)
-unfolding le turn of_bits eq div
+finite_of : (x : Float) → le two_pi x ≡ true → eq x infinity ≡ false → T (finite x)
+unfolding le two_pi of_bits eq div
 finite_of nan h g = absurd (false≢true h)
 finite_of (inf true) h g = absurd (false≢true h)
 finite_of (inf false) h g = absurd (true≢false g)
 finite_of (fin s m e) h g = tt
+
+-- ---- the code's loop: i multiples are taken off
+pub begun : (x : Float) → fits binary64 x ≡ true → le two_pi x ≡ true → eq x infinity ≡ false → Going x x largest 1022
+begun x F h g = starts x (subst T (sym F) tt) (finite_of x h g) (subst T (sym h) tt)
+
+pub taken_once : (x r t r' : Float) (i : ℕ) → i < 1022 → Going x r t (1022 - i) → r' ≡ taken r t → Going x r' (mul binary64 t half) (1022 - (i + 1))
+taken_once x r t r' i h g e = step x r t (1022 - (i + 1)) (subst (λ (n : ℕ). Going x r t n) (again i h) g) r' (mul binary64 t half) e refl
+  where
+    again : (i : ℕ) → i < 1022 → 1022 - i ≡ suc (1022 - (i + 1))
+    again i h = omega arith
+
+pub all_taken : (x r t : Float) (i : ℕ) → Going x r t (1022 - i) → 1022 ≤ i → fits binary64 x ≡ true → r ≡ rem binary64 x two_pi
+all_taken x r t i g h F = ends x r t (subst T (sym F) tt) (subst (λ (n : ℕ). Going x r t n) (over i h) g)
+  where
+    over : (i : ℕ) → 1022 ≤ i → 1022 - i ≡ 0
+    over i h = omega arith

@@ -4,9 +4,9 @@
 ghost use Rattle.std.specs.Prelude.{◌≡◌, true};
 ghost use Rattle.std.specs.Float.{binary64};
 ghost use Rattle.std.specs.Float.Ieee.{rem, le};
-ghost use Rattle.float_remainder.specs.Turn.{turn, taken};
+ghost use Rattle.float_remainder.specs.Turn.{two_pi, taken};
 
-const TWO_PI: f64 = 6.283185307179586;
+use std::f64::consts::TAU;
 
 // 2^1021 times 2 PI: twice that is not finite.
 const LARGEST: f64 = 1.4119048864730642e308;
@@ -24,9 +24,10 @@ fn taken_off(r: f64, t: f64) -> f64
 }
 
 // The remainder of a value of 2 PI or more. An infinity has none: it less itself is no number.
+#[tactic(auto, using(crate::proofs::Steps::no_number, crate::proofs::Steps::begun, crate::proofs::Steps::taken_once))]
 fn far(x: f64) -> f64
-    requires { le turn x ≡ true }
-    ensures { result ≡ rem binary64 x turn }
+    requires { le two_pi x ≡ true }
+    ensures { result ≡ rem binary64 x two_pi }
 {
     let infinity = 1.0 / 0.0;
     if x == infinity {
@@ -42,15 +43,15 @@ fn far(x: f64) -> f64
 }
 
 // Rust's `x % (2.0 * PI)`.
-#[tactic(auto, using(crate::proofs::Steps::small, crate::proofs::Steps::rem_neg), unfolding(crate::specs::Turn::turn))]
+#[tactic(auto, using(crate::proofs::Steps::small, crate::proofs::Steps::rem_neg), unfolding(crate::specs::Turn::two_pi))]
 pub fn rem_two_pi(x: f64) -> f64
-    ensures { result ≡ rem binary64 x turn }
+    ensures { result ≡ rem binary64 x two_pi }
 {
-    if TWO_PI <= x {
+    if TAU <= x {
         return far(x);
     }
     let y = -x;
-    if TWO_PI <= y {
+    if TAU <= y {
         return -far(y);
     }
     x

@@ -1,2 +1,3 @@
 pub mod LeBytes
 pub mod Reads
+pub mod Widths

@@ -1,11 +1,11 @@
 // Little-endian numbers at an offset in a byte slice, and whether they lie within it.
 #![tactic(auto)]
 
-ghost use Rattle.std.specs.Prelude.{◌≡◌, ℕ, ◌+◌, ◌≤◌, ◌<◌, leb, length};
+ghost use Rattle.std.specs.Prelude.{◌≡◌, ℕ, ◌+◌, ◌≤◌, ◌<◌, ◌^◌, ◌%◌, leb, length, Some, None, IfSome};
 ghost use Rattle.std.specs.Float.{binary32, binary64};
 ghost use Rattle.std.specs.Float.Ieee.{of_bits};
 ghost use Rattle.le_read.specs.LeBytes.{le_at, read_at};
-ghost use Rattle.le_read.specs.Reads.{read_u16, read_u32, read_u64};
+ghost use Rattle.le_read.specs.Widths.{IsWidth, two_wide, four_wide, eight_wide};
 
 // Whether n bytes from an offset lie within a length; no sum, so that no offset can overflow.
 #[tactic(auto, using(crate::proofs::Decided::no_sum, crate::proofs::Decided::too_long))]
@@ -13,13 +13,6 @@ pub fn holds(len: usize, at: usize, n: usize) -> bool
     ensures { result ≡ leb (at + n) len }
 {
     n <= len && at <= len - n
-}
-
-// A byte as a u64.
-pub fn wide(x: u8) -> u64
-    ensures { (result ≡ x) × (result < 256) }
-{
-    u64::from(x)
 }
 
 // The number in two, four and eight bytes, each made of two halves: LLVM turns that into one load, and a loop over the bytes, which was tried, into one for each byte.
@@ -49,6 +42,18 @@ fn eight(s: &[u8], at: usize) -> u64
     four(s, at) + 0x1_0000_0000 * four(s, at + 4)
 }
 
+// The number in the bytes from an offset, as many as one of the three widths says.
+fn load(s: &[u8], at: usize, width: usize) -> u64
+    requires { (IsWidth width) × (at + width ≤ length s.now) }
+    ensures { (result ≡ le_at width s.now at) × (result < 256 ^ width) }
+{
+    match width {
+        2 => two(s, at),
+        4 => four(s, at),
+        _ => eight(s, at),
+    }
+}
+
 // A number or a float that is read from its little-endian bytes.
 pub trait LeRead: Copy {
     ghost WIDTH: { ℕ };
@@ -56,15 +61,14 @@ pub trait LeRead: Copy {
     // What a number of so many bytes stands for.
     ghost value: { ℕ → Self };
 
-    // Its bytes.
+    // Its bytes: two, four or eight.
     const WIDTH: usize;
 
-    fn load(s: &[u8], at: usize) -> Self
-        requires { at + WIDTH ≤ length s.now }
-        ensures { result ≡ value (le_at WIDTH s.now at) };
+    // What the low bytes of a number stand for.
+    fn of(n: u64) -> Self
+        ensures { result ≡ value (n % 256 ^ WIDTH) };
 
-    fn zero() -> Self
-        ensures { result ≡ value 0 };
+    ghost is_width: { IsWidth WIDTH };
 }
 
 impl LeRead for u16 {
@@ -72,14 +76,12 @@ impl LeRead for u16 {
 
     ghost value = { λ n. n };
 
+    ghost is_width = { two_wide };
+
     const WIDTH: usize = 2;
 
-    fn load(s: &[u8], at: usize) -> u16 {
-        two(s, at) as u16
-    }
-
-    fn zero() -> u16 {
-        0
+    fn of(n: u64) -> u16 {
+        (n % 0x1_0000) as u16
     }
 }
 
@@ -88,14 +90,12 @@ impl LeRead for u32 {
 
     ghost value = { λ n. n };
 
+    ghost is_width = { four_wide };
+
     const WIDTH: usize = 4;
 
-    fn load(s: &[u8], at: usize) -> u32 {
-        four(s, at) as u32
-    }
-
-    fn zero() -> u32 {
-        0
+    fn of(n: u64) -> u32 {
+        (n % 0x1_0000_0000) as u32
     }
 }
 
@@ -104,14 +104,12 @@ impl LeRead for u64 {
 
     ghost value = { λ n. n };
 
+    ghost is_width = { eight_wide };
+
     const WIDTH: usize = 8;
 
-    fn load(s: &[u8], at: usize) -> u64 {
-        eight(s, at)
-    }
-
-    fn zero() -> u64 {
-        0
+    fn of(n: u64) -> u64 {
+        n
     }
 }
 
@@ -120,14 +118,12 @@ impl LeRead for f32 {
 
     ghost value = { of_bits binary32 };
 
+    ghost is_width = { four_wide };
+
     const WIDTH: usize = u32::WIDTH;
 
-    fn load(s: &[u8], at: usize) -> f32 {
-        std::num::f32_from_bits_with_nan(u32::load(s, at))
-    }
-
-    fn zero() -> f32 {
-        0.0
+    fn of(n: u64) -> f32 {
+        std::num::f32_from_bits_with_nan((n % 0x1_0000_0000) as u32)
     }
 }
 
@@ -136,44 +132,31 @@ impl LeRead for f64 {
 
     ghost value = { of_bits binary64 };
 
+    ghost is_width = { eight_wide };
+
     const WIDTH: usize = u64::WIDTH;
 
-    fn load(s: &[u8], at: usize) -> f64 {
-        std::num::f64_from_bits_with_nan(u64::load(s, at))
-    }
-
-    fn zero() -> f64 {
-        0.0
+    fn of(n: u64) -> f64 {
+        std::num::f64_from_bits_with_nan(n)
     }
 }
 
-// The number at an offset, or that it is past the end.
+// The number in the bytes of a T at an offset, whatever T makes of it, or that they run past the end.
 #[tactic(auto, using(crate::proofs::Decided::there), unfolding(crate::specs::LeBytes::read_at))]
-pub fn le<T: LeRead>(s: &[u8], at: usize) -> Option<T>
-    ensures { result ≡ read_at T.WIDTH (λ n. Some (T.value n)) None s.now at }
+pub fn pattern<T: LeRead>(s: &[u8], at: usize) -> Option<u64>
+    ensures { (result ≡ read_at T.WIDTH Some None s.now at) × (IfSome result (λ n. n < 256 ^ T.WIDTH)) }
 {
     if holds(s.len(), at, T::WIDTH) {
-        Some(T::load(s, at))
+        Some(load(s, at, T::WIDTH))
     } else {
         None
     }
 }
 
-// The same at one type each, by the names that callers have.
-pub fn le_u16(s: &[u8], at: usize) -> Option<u16>
-    ensures { result ≡ read_u16 s.now at }
+// What the bytes of a T at an offset stand for, or that they run past the end.
+#[tactic(auto, unfolding(crate::specs::LeBytes::read_at))]
+pub fn le<T: LeRead>(s: &[u8], at: usize) -> Option<T>
+    ensures { result ≡ read_at T.WIDTH (λ n. Some (T.value n)) None s.now at }
 {
-    le(s, at)
-}
-
-pub fn le_u32(s: &[u8], at: usize) -> Option<u32>
-    ensures { result ≡ read_u32 s.now at }
-{
-    le(s, at)
-}
-
-pub fn le_u64(s: &[u8], at: usize) -> Option<u64>
-    ensures { result ≡ read_u64 s.now at }
-{
-    le(s, at)
+    Some(T::of(pattern::<T>(s, at)?))
 }

@@ -1,5 +1,5 @@
 -- A float written, then read at the same offset, is the same float, unless it was a NaN (`float_back`, at both formats).
-use Rattle.std.specs.Prelude.{Result, Ok, Err}
+use Rattle.std.specs.Prelude.{Ok, Err}
 use Prim.Native.Nat.{ℕ, ◌+◌, ◌*◌, ◌^◌, ◌≤◌}
 use mathlib.Core.Path.{◌≡◌, refl, ap, ◌∙◌}
 use mathlib.Core.Bool.{Bool, cond}
@@ -10,13 +10,12 @@ use lib.Ieee.{Float, Format, binary32, binary64, top, fits, is_nan, of_bits, to_
 use lib.Ieee.Bits.{of_bits-to_bits, to_bits-lt, nan_bits_is}
 use Rattle.le_read.specs.LeBytes.{put}
 use Rattle.le_read.proofs.RoundTrip.{back}
-use Rattle.le_read_floats.specs.declared.FloatFault.{FloatFault}
 use Rattle.le_read_floats.specs.declared.FloatFault.TheVariants.{Nan, OutOfBounds}
-use Rattle.le_read_floats.specs.FloatReads.{float_of, read_float}
+use Rattle.le_read_floats.specs.FloatReads.{found, float_of, read_float}
 
 -- the float of a float's pattern is the float, unless it was a NaN
 pub float_of_bits : (f : Format) (x : Float) → T (fits f x) → float_of f (to_bits f x) ≡ cond (is_nan x) (Err Nan) (Ok x)
-unfolding float_of
+unfolding found
 float_of_bits f x F =
     let e = of_bits-to_bits f x F in
     ap (λ (b : Bool). cond b (Err Nan) (Ok (of_bits f (to_bits f x)))) (nan_bits_is f (to_bits f x) ∙ ap is_nan e) ∙ ap (λ (y : Float). cond (is_nan x) (Err Nan) (Ok y)) e

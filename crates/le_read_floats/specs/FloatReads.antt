@@ -6,9 +6,13 @@ use Rattle.le_read.specs.LeBytes.{read_at, number_at}
 use Rattle.le_read_floats.specs.declared.FloatFault.{FloatFault}
 use Rattle.le_read_floats.specs.declared.FloatFault.TheVariants.{Nan, OutOfBounds}
 
+-- what a pattern n of a format stands for, unless n is a NaN's; value says what a pattern stands for
+unfoldable pub found : {X : Type 0} → Format → (ℕ → X) → ℕ → Result X FloatFault
+found f value n = cond (nan_bits f n) (Err Nan) (Ok (value n))
+
 -- the float that a pattern n stands for, unless n is a NaN's
-unfoldable pub float_of : Format → ℕ → Result Float FloatFault
-float_of f n = cond (nan_bits f n) (Err Nan) (Ok (of_bits f n))
+abbrev pub float_of : Format → ℕ → Result Float FloatFault
+float_of f = found f (of_bits f)
 
 -- the float of the pattern in n bytes from at, unless they run past the end
 abbrev pub read_float : Format → ℕ → List ℕ → ℕ → Result Float FloatFault

@@ -18,24 +18,5 @@ pub fn byte_at(s: &[u8], at: usize) -> u8
 pub fn number<T: LeRead>(s: &[u8], at: usize) -> T
     ensures { result ≡ T.value (number_at T.WIDTH s.now at) }
 {
-    le_read::le(s, at).unwrap_or(T::zero())
-}
-
-// The same at one type each, by the names that callers have.
-pub fn u16_at(s: &[u8], at: usize) -> u16
-    ensures { result ≡ number_at 2 s.now at }
-{
-    number::<u16>(s, at)
-}
-
-pub fn u32_at(s: &[u8], at: usize) -> u32
-    ensures { result ≡ number_at 4 s.now at }
-{
-    number::<u32>(s, at)
-}
-
-pub fn u64_at(s: &[u8], at: usize) -> u64
-    ensures { result ≡ number_at 8 s.now at }
-{
-    number::<u64>(s, at)
+    le_read::le(s, at).unwrap_or(T::of(0))
 }

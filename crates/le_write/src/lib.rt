@@ -3,10 +3,11 @@
 
 ghost use Rattle.std.specs.Prelude.{◌≡◌, ℕ, ◌+◌, ◌≤◌, length};
 ghost use Rattle.le_read.specs.LeBytes.{inside, overwritten, bytes_of, put};
+ghost use Rattle.le_read.specs.Widths.{IsWidth, two_wide, four_wide, eight_wide};
 ghost use Rattle.std.specs.Float.{binary32, binary64};
 ghost use Rattle.std.specs.Float.Ieee.{to_bits};
 
-// The low two, four and eight bytes of v, each written as two halves: LLVM turns that into one store.
+// The low two, four and eight bytes of v, each written as two halves: LLVM turns that into one store, and a loop over the bytes into one for each byte. Slice, place and value stay three parameters, as in std's own writes.
 #[tactic(auto, using(le_read::proofs::Halves::overwritten_two))]
 fn put_two(d: &mut [u8], at: usize, v: u64)
     requires { at + 2 ≤ length d.old }
@@ -34,6 +35,18 @@ fn put_eight(d: &mut [u8], at: usize, v: u64)
     put_four(d, at + 4, v / 0x1_0000_0000);
 }
 
+// The low bytes of v, as many as one of the three widths says.
+fn store(d: &mut [u8], at: usize, v: u64, width: usize)
+    requires { (IsWidth width) × (at + width ≤ length d.old) }
+    ensures { d.new ≡ overwritten d.old at (bytes_of width v) }
+{
+    match width {
+        2 => put_two(d, at, v),
+        4 => put_four(d, at, v),
+        _ => put_eight(d, at, v),
+    }
+}
+
 // A number or a float that is written as its little-endian bytes.
 pub trait LeWrite: Copy {
     ghost WIDTH: { ℕ };
@@ -41,12 +54,14 @@ pub trait LeWrite: Copy {
     // What its bytes stand for.
     ghost number: { Self → ℕ };
 
-    // Its bytes.
+    // Its bytes: two, four or eight.
     const WIDTH: usize;
 
-    fn store(self, d: &mut [u8], at: usize)
-        requires { at + WIDTH ≤ length d.old }
-        ensures { d.new ≡ overwritten d.old at (bytes_of WIDTH (number self)) };
+    // The number that its bytes are.
+    fn pattern(self) -> u64
+        ensures { result ≡ number self };
+
+    ghost is_width: { IsWidth WIDTH };
 }
 
 impl LeWrite for u16 {
@@ -54,10 +69,12 @@ impl LeWrite for u16 {
 
     ghost number = { λ n. n };
 
+    ghost is_width = { two_wide };
+
     const WIDTH: usize = 2;
 
-    fn store(self, d: &mut [u8], at: usize) {
-        put_two(d, at, u64::from(self))
+    fn pattern(self) -> u64 {
+        u64::from(self)
     }
 }
 
@@ -66,10 +83,12 @@ impl LeWrite for u32 {
 
     ghost number = { λ n. n };
 
+    ghost is_width = { four_wide };
+
     const WIDTH: usize = 4;
 
-    fn store(self, d: &mut [u8], at: usize) {
-        put_four(d, at, u64::from(self))
+    fn pattern(self) -> u64 {
+        u64::from(self)
     }
 }
 
@@ -78,10 +97,12 @@ impl LeWrite for u64 {
 
     ghost number = { λ n. n };
 
+    ghost is_width = { eight_wide };
+
     const WIDTH: usize = 8;
 
-    fn store(self, d: &mut [u8], at: usize) {
-        put_eight(d, at, self)
+    fn pattern(self) -> u64 {
+        self
     }
 }
 
@@ -90,10 +111,12 @@ impl LeWrite for f32 {
 
     ghost number = { to_bits binary32 };
 
+    ghost is_width = { four_wide };
+
     const WIDTH: usize = u32::WIDTH;
 
-    fn store(self, d: &mut [u8], at: usize) {
-        std::num::f32_to_bits_with_nan(self).store(d, at)
+    fn pattern(self) -> u64 {
+        u64::from(std::num::f32_to_bits_with_nan(self))
     }
 }
 
@@ -102,10 +125,12 @@ impl LeWrite for f64 {
 
     ghost number = { to_bits binary64 };
 
+    ghost is_width = { eight_wide };
+
     const WIDTH: usize = u64::WIDTH;
 
-    fn store(self, d: &mut [u8], at: usize) {
-        std::num::f64_to_bits_with_nan(self).store(d, at)
+    fn pattern(self) -> u64 {
+        std::num::f64_to_bits_with_nan(self)
     }
 }
 
@@ -115,39 +140,8 @@ pub fn put<T: LeWrite>(d: &mut [u8], at: usize, v: T) -> bool
     ensures { (result ≡ inside T.WIDTH d.old at) × (d.new ≡ put T.WIDTH d.old at (T.number v)) }
 {
     if le_read::holds(d.len(), at, T::WIDTH) {
-        v.store(d, at);
+        store(d, at, v.pattern(), T::WIDTH);
         return true;
     }
     false
-}
-
-// The same at one type each, by the names that callers have.
-pub fn put_u16(d: &mut [u8], at: usize, v: u16) -> bool
-    ensures { (result ≡ inside 2 d.old at) × (d.new ≡ put 2 d.old at v) }
-{
-    put::<u16>(d, at, v)
-}
-
-pub fn put_u32(d: &mut [u8], at: usize, v: u32) -> bool
-    ensures { (result ≡ inside 4 d.old at) × (d.new ≡ put 4 d.old at v) }
-{
-    put::<u32>(d, at, v)
-}
-
-pub fn put_u64(d: &mut [u8], at: usize, v: u64) -> bool
-    ensures { (result ≡ inside 8 d.old at) × (d.new ≡ put 8 d.old at v) }
-{
-    put::<u64>(d, at, v)
-}
-
-pub fn put_f32(d: &mut [u8], at: usize, x: f32) -> bool
-    ensures { (result ≡ inside 4 d.old at) × (d.new ≡ put 4 d.old at (to_bits binary32 x)) }
-{
-    put::<f32>(d, at, x)
-}
-
-pub fn put_f64(d: &mut [u8], at: usize, x: f64) -> bool
-    ensures { (result ≡ inside 8 d.old at) × (d.new ≡ put 8 d.old at (to_bits binary64 x)) }
-{
-    put::<f64>(d, at, x)
 }

@@ -15,7 +15,7 @@ use Rattle.log_check.specs.LogChecks.{known_length, entry_accepted, accepted_fro
 holds : (t : Bool) → t ≡ true → T t
 holds t e = subst (λ (x : Bool). T x) (sym e) tt
 
-both_true : (a b : Bool) → (a && b) ≡ true → (a ≡ true) × (b ≡ true)
+pub both_true : (a b : Bool) → (a && b) ≡ true → (a ≡ true) × (b ≡ true)
 both_true true b e = (refl, e)
 both_true false b e = absurd (holds false e)
 

@@ -1,30 +1,24 @@
 -- The answer, case by case.
-use Rattle.std.specs.Prelude.{Some, None}
-use Rattle.std.specs.Prelude.{Result, Ok, Err}
+use Rattle.std.specs.Prelude.{Some, None, Result, Ok, Err}
 use mathlib.Core.Path.{◌≡◌, refl, sym, ap, ◌∙◌, subst}
 use mathlib.Core.Bool.{Bool, true, false, cond, ◌&&◌}
 use mathlib.Core.List.{List}
 use Prim.Native.Nat.{ℕ, ◌/◌, ◌%◌, ◌≤◌}
 use native.Mathlib.Omega.{arith}
-use lib.Dec.{T, eqb, eqb→eq}
+use lib.Dec.{eqb}
+use borrow.Author.Tests.{eqb-true}
 use lib.ListN.{length}
 use Rattle.refusals.specs.declared.Refusal.{Refusal}
 use Rattle.log_theory.specs.Pairing.{Logs}
 use Rattle.log_theory.specs.Report.{Lists, report_of}
 use Rattle.log_theory.proofs.PairingLaws.{pairing_laws}
 use Rattle.log_entry.specs.Entries.{logs}
+use Rattle.log_check.proofs.Rising.{both_true}
 use Rattle.log_check.specs.LogChecks.{lengths_fit, contents_refusal, compare_refusal}
 use Rattle.std.specs.Result.{result_err}
 use Rattle.log_pairs.specs.Paired.{paired_of}
 use Rattle.log_pairs.proofs.Marks.{both_fits}
 use Rattle.log_compare.specs.Comparison.{reported, decided, compared_of}
-
-both_true : (a b : Bool) → (a && b) ≡ true → (a ≡ true) × (b ≡ true)
-both_true true b e = (refl, e)
-both_true false b e = absurd (subst (λ (x : Bool). T x) (sym e) tt)
-
-eq_of : (a b : ℕ) → eqb a b ≡ true → a ≡ b
-eq_of a b e = eqb→eq a b (subst (λ (x : Bool). T x) (sym e) tt)
 
 module _ (log records : List ℕ) (p o : ℕ) where
   fit_true : compare_refusal log records p o ≡ None → lengths_fit (length log) (length records) p o ≡ true
@@ -42,13 +36,13 @@ module _ (log records : List ℕ) (p o : ℕ) where
       let a = (both_true (eqb (length log % 23) 0) (eqb (length records % 66) 0 && (eqb p (length log / 23) && eqb o (length records / 66))) (fit_true e)).1 in
       let b = (both_true (eqb (length records % 66) 0) (eqb p (length log / 23) && eqb o (length records / 66)) a).1 in
       let c = both_true (eqb p (length log / 23)) (eqb o (length records / 66)) b in
-      (eq_of p (length log / 23) c.0, eq_of o (length records / 66) c.1)
+      (eqb-true p (length log / 23) c.0, eqb-true o (length records / 66) c.1)
 
 pub few_pairs : (L : Logs) → ((report_of L).pairs ≤ L.sent) × ((report_of L).pairs ≤ L.heard)
 unfolding report_of
 few_pairs L = (omega (arith, (pairing_laws L).records_counted), omega (arith, (pairing_laws L).entries_counted))
 
-module _ (log records : List ℕ) (d : ℕ) (p o : List ℕ) (k : (Result (Unit {0}) Refusal)) (e : result_err k ≡ compare_refusal log records (length p) (length o)) where
+module _ (log records : List ℕ) (d : ℕ) (p o : List ℕ) (k : Result (Unit {0}) Refusal) (e : result_err k ≡ compare_refusal log records (length p) (length o)) where
   pub refusal_is : {q : Refusal} → k ≡ Err q → record { answer = Err q; partners = p; owners = o } ≡ compared_of log records d p o
   unfolding compared_of decided
   refusal_is h = sym (ap (decided (logs log records d) p o) (sym e ∙ ap result_err h))

@@ -1,6 +1,5 @@
 -- What is shown of a log held against records (SPECIFICATION 13.5).
-use Rattle.std.specs.Prelude.{Some, None, Ok, Err}
-use Rattle.std.specs.Prelude.{◌≡◌, List, ℕ, ◌≤◌, ◌<◌, length, take, get_or}
+use Rattle.std.specs.Prelude.{Some, None, Ok, Err, ◌≡◌, List, ℕ, ◌≤◌, ◌<◌, length, take, get_or}
 use Rattle.refusals.specs.declared.Refusal.{Refusal}
 use Rattle.log_theory.specs.Pairing.{Logs, Pair, Pairing, every, shown}
 use Rattle.log_theory.specs.Report.{nobody, indices, entry_of, entries_from, unnamed, In, left}

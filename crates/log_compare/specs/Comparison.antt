@@ -1,6 +1,5 @@
 -- What holding a log against records answers, and what it leaves in the two lists (SPECIFICATION 13).
-use Rattle.std.specs.Prelude.{Option, Some, None, Result, Ok, Err}
-use Rattle.std.specs.Prelude.{List, ℕ, ◌-◌, length}
+use Rattle.std.specs.Prelude.{Option, Some, None, Result, Ok, Err, List, ℕ, ◌-◌, length}
 use Rattle.refusals.specs.declared.Refusal.{Refusal}
 use Rattle.log_theory.specs.Pairing.{Logs}
 use Rattle.log_theory.specs.Report.{Lists, report_of}

@@ -1,11 +1,7 @@
 -- Where the search for an entry's record ends.
-use Rattle.std.specs.Prelude.{Option, Some, None}
-use Rattle.std.specs.Prelude.{ℕ, ◌+◌}
+use Rattle.std.specs.Prelude.{Option, Some, None, ℕ, ◌+◌}
 use Rattle.log_tolerance.specs.Capped.{capped}
 
-unfoldable pub latest_of : ℕ → ℕ → ℕ → ℕ
-latest_of h d back = capped (capped (h + d) + back)
-
-unfoldable pub limit_of : (ℕ → ℕ) → ℕ → ℕ → (Option ℕ) → ℕ
+unfoldable pub limit_of : (ℕ → ℕ) → ℕ → ℕ → Option ℕ → ℕ
 limit_of first back latest None = latest
 limit_of first back latest (Some g) = capped (first g + back)

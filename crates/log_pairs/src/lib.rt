@@ -1,50 +1,26 @@
-// The pairing of a log's entries with records (SPECIFICATION 13.2), written as two lists of indices. Two marks only move on while samples rise.
+// The pairing of a log's entries with records (SPECIFICATION 13.2), written as two lists of indices. A mark only moves on while samples rise.
 #![tactic(auto)]
 
 ghost use Rattle.std.specs.Prelude.{◌≡◌, Bool, true, cond, ◌+◌, ◌/◌, ◌<◌, ◌≤◌, leb, ltb, length};
 ghost use Rattle.log_theory.specs.Pairing.{cand, better as betterOf, earliest as earliestOf};
 ghost use Rattle.log_theory.specs.Report.{Lists, report_of};
-ghost use Rattle.log_theory.specs.PairsModel.{free_in, Below, paired, pair_up, Back, Past, Taken};
-ghost use Rattle.log_entry.specs.Entries.{sample_of, first_of, logs};
+ghost use Rattle.log_theory.specs.PairsModel.{free_in, Below, paired, pair_up, Back, Past};
+ghost use Rattle.log_entry.specs.Entries.{sample_of, first_of};
+ghost use Rattle.log_entry.specs.Held.{logs_of};
 ghost use Rattle.log_pairs.specs.Paired.{paired_of};
 ghost use Rattle.log_pairs.specs.WindowModel.{limit_of};
 
 use constants::RECORD_LEN;
-use log_entry::ENTRY_LEN;
+use log_entry::{ENTRY_LEN, Heard};
 
 // For no partner.
 const NOBODY: u64 = 0xffff_ffff_ffff_ffff;
 
-// Whether record j is free and allowed for entry i.
-fn candidate(log: &[u8], i: usize, records: &[u8], j: usize, owners: &[u64], d: u64) -> bool
-    requires { j < length owners.now }
-    ensures { result ≡ cand (logs log.now records.now d) (free_in owners.now) i j }
-{
-    owners[j] == NOBODY && log_entry::allowed(log, i, records, j, d)
-}
-
-// The earlier one of what was found and record j.
-fn better(
-    log: &[u8],
-    i: usize,
-    records: &[u8],
-    j: usize,
-    owners: &[u64],
-    d: u64,
-    best: Option<usize>,
-) -> Option<usize>
-    requires { j < length owners.now }
-    ensures { result ≡ betterOf (logs log.now records.now d) (free_in owners.now) i j best }
-{
-    if !candidate(log, i, records, j, owners, d) {
-        return best;
-    }
-    if let Some(g) = best {
-        if log_entry::first_at(records, j) >= log_entry::first_at(records, g) {
-            return best;
-        }
-    }
-    Some(j)
+// What the search for an entry's record looks at: log and records, and each record's entry so far.
+#[derive(Clone, Copy)]
+struct Search<'a> {
+    heard: Heard<'a>,
+    owners: &'a [u64],
 }
 
 // The last first sample after which, though records fall by `back`, none that follows is allowed, or none is earlier than what was found.
@@ -58,57 +34,6 @@ fn limit(records: &[u8], best: Option<usize>, latest: u64, back: u64) -> u64
     }
 }
 
-// The first free record from an index on. Taken ones are passed by without a look at their bytes.
-fn next_free(owners: &[u64], from: usize) -> usize
-    requires { from ≤ length owners.now }
-    ensures { (result ≤ length owners.now) × Taken (free_in owners.now) from result }
-{
-    for k in from..owners.len() {
-        if owners[k] == NOBODY {
-            return k;
-        }
-    }
-    owners.len()
-}
-
-// The earliest free and allowed record for entry i, whose sample is h.
-fn earliest(
-    log: &[u8],
-    i: usize,
-    records: &[u8],
-    owners: &[u64],
-    h: u64,
-    lo: usize,
-    back: u64,
-    d: u64,
-) -> Option<usize>
-    requires { (h ≡ sample_of log.now i) × (lo ≤ length records.now / 66) × (length owners.now ≡ length records.now / 66) × Past (first_of records.now) d (free_in owners.now) h lo × Back (first_of records.now) (length records.now / 66) back }
-    ensures { (result ≡ earliestOf (logs log.now records.now d) (free_in owners.now) i) × Below (length records.now / 66) result }
-{
-    let latest = log_tolerance::sum(log_tolerance::sum(h, d), back);
-    let mut best = None;
-    // j goes from one free record to the next, so a `for` over indices would be no plainer.
-    let mut j = next_free(owners, lo);
-    while j < owners.len() {
-        let f = log_entry::first_at(records, j);
-        let last = limit(records, best, latest, back);
-        if last < f {
-            return best;
-        }
-        best = better(log, i, records, j, owners, d, best);
-        j = next_free(owners, j + 1);
-    }
-    best
-}
-
-// Whether record k is taken, or too early for an entry at sample h.
-fn gone(records: &[u8], k: usize, owners: &[u64], h: u64, d: u64) -> bool
-    requires { k < length owners.now }
-    ensures { result ≡ cond (free_in owners.now k) (ltb (first_of records.now k + d) h) true }
-{
-    owners[k] != NOBODY || log_tolerance::sum(log_entry::first_at(records, k), d) < h
-}
-
 // The mark, from the start where the log falls.
 fn mark(lo: usize, previous: u64, h: u64) -> usize
     ensures { result ≡ cond (leb previous h) lo 0 }
@@ -116,17 +41,77 @@ fn mark(lo: usize, previous: u64, h: u64) -> usize
     if previous <= h { lo } else { 0 }
 }
 
-// The mark moved past records that are taken or too early, for an entry at sample h that follows one at `previous`.
-fn advance(records: &[u8], owners: &[u64], previous: u64, h: u64, lo: usize, d: u64) -> usize
-    requires { (lo ≤ length owners.now) × Past (first_of records.now) d (free_in owners.now) previous lo }
-    ensures { (result ≤ length owners.now) × Past (first_of records.now) d (free_in owners.now) h result }
-{
-    for k in mark(lo, previous, h)..owners.len() {
-        if !gone(records, k, owners, h, d) {
-            return k;
-        }
+impl<'a> Search<'a> {
+    // Whether record j is free and allowed for entry i.
+    fn candidate(self, i: usize, j: usize) -> bool
+        requires { j < length self.owners.now }
+        ensures { result ≡ cand (logs_of self.entry.heard) (free_in self.entry.owners.now) i j }
+    {
+        self.owners[j] == NOBODY && self.heard.allowed(i, j)
     }
-    owners.len()
+
+    // The earlier one of what was found and record j.
+    fn better(self, i: usize, j: usize, best: Option<usize>) -> Option<usize>
+        requires { j < length self.owners.now }
+        ensures { result ≡ betterOf (logs_of self.entry.heard) (free_in self.entry.owners.now) i j best }
+    {
+        if !self.candidate(i, j) {
+            return best;
+        }
+        if let Some(g) = best {
+            if log_entry::first_at(self.heard.records, j)
+                >= log_entry::first_at(self.heard.records, g)
+            {
+                return best;
+            }
+        }
+        Some(j)
+    }
+
+    // The earliest free and allowed record for entry i. Taken ones are looked at too: `better` passes them by, and one that is too late ends the search as well.
+    fn earliest(self, i: usize, lo: usize, back: u64) -> Option<usize>
+        requires { (lo ≤ length self.heard.records.now / 66) × (length self.owners.now ≡ length self.heard.records.now / 66) × Past (first_of self.heard.records.now) self.heard.tolerance (free_in self.owners.now) (sample_of self.heard.log.now i) lo × Back (first_of self.heard.records.now) (length self.heard.records.now / 66) back }
+        ensures { (result ≡ earliestOf (logs_of self.entry.heard) (free_in self.entry.owners.now) i) × Below (length self.entry.heard.records.now / 66) result }
+    {
+        let h = log_entry::sample_at(self.heard.log, i);
+        let latest = log_tolerance::sum(log_tolerance::sum(h, self.heard.tolerance), back);
+        let mut best = None;
+        for j in lo..self.owners.len() {
+            let f = log_entry::first_at(self.heard.records, j);
+            let last = limit(self.heard.records, best, latest, back);
+            if last < f {
+                return best;
+            }
+            best = self.better(i, j, best);
+        }
+        best
+    }
+
+    // Whether record k is taken, or too early for an entry at sample h.
+    #[tactic(auto, using(crate::proofs::Marks::gone_early))]
+    fn gone(self, k: usize, h: u64) -> bool
+        requires { k < length self.owners.now }
+        ensures { result ≡ cond (free_in self.entry.owners.now k) (ltb (first_of self.entry.heard.records.now k + self.entry.heard.tolerance) h) true }
+    {
+        self.owners[k] != NOBODY
+            || log_tolerance::sum(
+                log_entry::first_at(self.heard.records, k),
+                self.heard.tolerance,
+            ) < h
+    }
+
+    // The mark moved past records that are taken or too early, for an entry at sample h that follows one at `previous`.
+    fn advance(self, previous: u64, h: u64, lo: usize) -> usize
+        requires { (lo ≤ length self.owners.now) × Past (first_of self.heard.records.now) self.heard.tolerance (free_in self.owners.now) previous lo }
+        ensures { (result ≤ length self.entry.owners.now) × Past (first_of self.entry.heard.records.now) self.entry.heard.tolerance (free_in self.entry.owners.now) h result }
+    {
+        for k in mark(lo, previous, h)..self.owners.len() {
+            if !self.gone(k, h) {
+                return k;
+            }
+        }
+        self.owners.len()
+    }
 }
 
 // How far the records' first samples fall at most.
@@ -163,24 +148,18 @@ fn settle(
 }
 
 // Each entry's record, one entry after the other; the number of pairs.
-fn pair_each(
-    log: &[u8],
-    records: &[u8],
-    d: u64,
-    back: u64,
-    partners: &mut [u64],
-    owners: &mut [u64],
-) -> usize
-    requires { Back (first_of records.now) (length records.now / 66) back × (length partners.old ≡ length log.now / 23) × (length owners.old ≡ length records.now / 66) }
-    ensures { record { partners = partners.exit.now; owners = owners.new; pairs = result } ≡ pair_up (logs log.now records.now d) (length log.now / 23) 0 (record { partners = partners.entry.now; owners = owners.old; pairs = 0 }) }
+fn pair_each(heard: Heard, back: u64, partners: &mut [u64], owners: &mut [u64]) -> usize
+    requires { Back (first_of heard.records.now) (length heard.records.now / 66) back × (length partners.old ≡ length heard.log.now / 23) × (length owners.old ≡ length heard.records.now / 66) }
+    ensures { record { partners = partners.exit.now; owners = owners.new; pairs = result } ≡ pair_up (logs_of heard.entry) (length heard.entry.log.now / 23) 0 (record { partners = partners.entry.now; owners = owners.old; pairs = 0 }) }
 {
     let mut pairs: usize = 0;
     let mut lo: usize = 0;
     let mut previous: u64 = 0;
-    for i in 0..log.len() / ENTRY_LEN {
-        let h = log_entry::sample_at(log, i);
-        lo = advance(records, owners, previous, h, lo, d);
-        let p = earliest(log, i, records, owners, h, lo, back, d);
+    for i in 0..heard.log.len() / ENTRY_LEN {
+        let h = log_entry::sample_at(heard.log, i);
+        let search = Search { heard, owners };
+        lo = search.advance(previous, h, lo);
+        let p = search.earliest(i, lo, back);
         pairs = settle(partners, owners, i, p, pairs);
         previous = h;
     }
@@ -188,35 +167,25 @@ fn pair_each(
 }
 
 // The pairing in two lists of fitting lengths.
-fn pair_fitting(
-    log: &[u8],
-    records: &[u8],
-    d: u64,
-    partners: &mut [u64],
-    owners: &mut [u64],
-) -> usize
-    requires { (length partners.old ≡ length log.now / 23) × (length owners.old ≡ length records.now / 66) }
-    ensures { record { partners = partners.exit.now; owners = owners.new; pairs = result } ≡ report_of (logs log.now records.now d) }
+fn pair_fitting(heard: Heard, partners: &mut [u64], owners: &mut [u64]) -> usize
+    requires { (length partners.old ≡ length heard.log.now / 23) × (length owners.old ≡ length heard.records.now / 66) }
+    ensures { record { partners = partners.exit.now; owners = owners.new; pairs = result } ≡ report_of (logs_of heard.entry) }
 {
     partners.fill(NOBODY);
     owners.fill(NOBODY);
-    let back = step_back(records);
-    pair_each(log, records, d, back, partners, owners)
+    let back = step_back(heard.records);
+    pair_each(heard, back, partners, owners)
 }
 
 // The pairing, in two lists with one number for each entry and each record; the number of pairs. Lists of other lengths are left as they are.
 #[tactic(auto, unfolding(crate::specs::Paired::paired_of))]
-pub fn pair_up(
-    log: &[u8],
-    records: &[u8],
-    d: u64,
-    partners: &mut [u64],
-    owners: &mut [u64],
-) -> usize
-    ensures { record { partners = partners.exit.now; owners = owners.new; pairs = result } ≡ paired_of log.now records.now d partners.entry.now owners.old }
+pub fn pair_up(heard: Heard, partners: &mut [u64], owners: &mut [u64]) -> usize
+    ensures { record { partners = partners.exit.now; owners = owners.new; pairs = result } ≡ paired_of heard.entry.log.now heard.entry.records.now heard.entry.tolerance partners.entry.now owners.old }
 {
-    if partners.len() != log.len() / ENTRY_LEN || owners.len() != records.len() / RECORD_LEN {
+    if partners.len() != heard.log.len() / ENTRY_LEN
+        || owners.len() != heard.records.len() / RECORD_LEN
+    {
         return 0;
     }
-    pair_fitting(log, records, d, partners, owners)
+    pair_fitting(heard, partners, owners)
 }

@@ -1,13 +1,14 @@
 -- No choice of partners has more of them than the pairing that is reported.
 use Rattle.std.specs.Prelude.{Option, Some, None}
 use mathlib.Core.Path.{◌≡◌, refl, sym, subst}
-use mathlib.Core.Bool.{Bool, true, false}
+use mathlib.Core.Bool.{Bool, true, false, cond}
 use mathlib.Core.List.{List, [], ◌∷◌}
 use Prim.Native.Nat.{ℕ, zero, suc, ◌+◌, ◌≤◌, ◌<◌}
 use native.Mathlib.Omega.{arith}
 use lib.Dec.{T, eqb, eqb→eq}
 use lib.ListN.{length}
-use Rattle.log_theory.specs.Pairing.{Logs, allowed, without, cand, earliest, taking, greedy, one, count}
+use Rattle.std.specs.Option.{is_some}
+use Rattle.log_theory.specs.Pairing.{Logs, allowed, without, cand, earliest, taking, greedy, count}
 use Rattle.log_theory.proofs.Basics.{without_other, without_swap, near, allow, cand_free, cand_allowed, cand_in, cand_without, cand_other}
 use Rattle.log_theory.specs.PairingLaws.{Orderly, Before, Earliest}
 use Rattle.log_theory.proofs.Picks.{found}
@@ -33,7 +34,7 @@ module _ (L : Logs) where
   greedy_fits F zero i = tt
   greedy_fits F (suc l) i = go (earliest L F i) (found L F i) (greedy_fits (taking (earliest L F i) F) l (suc i))
     where
-      go : (b : (Option ℕ)) → Earliest L F i L.sent b → Fits L (taking b F) (suc i) (greedy L (taking b F) l (suc i)) → Fits L F i (b ∷ greedy L (taking b F) l (suc i))
+      go : (b : Option ℕ) → Earliest L F i L.sent b → Fits L (taking b F) (suc i) (greedy L (taking b F) l (suc i)) → Fits L F i (b ∷ greedy L (taking b F) l (suc i))
       go None h r = r
       go (Some g) h r = (h.0, h.1, r)
 
@@ -44,7 +45,7 @@ module _ (L : Logs) where
     pub long : length list ≡ length ps
     pub many : count ps ≤ n + count list
 
-  more : (F : ℕ → Bool) (i n : ℕ) (p : (Option ℕ)) (ps : List (Option ℕ)) → Changed F (suc i) n ps → ((q : List (Option ℕ)) → Fits L F (suc i) q → Fits L F i (p ∷ q)) → Changed F i n (p ∷ ps)
+  more : (F : ℕ → Bool) (i n : ℕ) (p : Option ℕ) (ps : List (Option ℕ)) → Changed F (suc i) n ps → ((q : List (Option ℕ)) → Fits L F (suc i) q → Fits L F i (p ∷ q)) → Changed F i n (p ∷ ps)
   more F i n p ps c f = record { list = p ∷ c.list; fits = f c.list c.fits; long = omega (arith, c.long); many = omega (arith, c.many) }
 
   -- g is given up
@@ -117,9 +118,9 @@ module _ (L : Logs) where
     most F (suc l) i [] within e h = absurd (omega arith)
     most F (suc l) i (p ∷ ps) within e h = go p (earliest L F i) h (found L F i) (λ qs. most (taking (earliest L F i) F) l (suc i) qs (omega arith))
       where
-        go : (p b : (Option ℕ)) → Fits L F i (p ∷ ps) → Earliest L F i L.sent b
+        go : (p b : Option ℕ) → Fits L F i (p ∷ ps) → Earliest L F i L.sent b
             → ((qs : List (Option ℕ)) → length qs ≡ l → Fits L (taking b F) (suc i) qs → count qs ≤ count (greedy L (taking b F) l (suc i)))
-            → one p + count ps ≤ one b + count (greedy L (taking b F) l (suc i))
+            → cond (is_some p) 1 0 + count ps ≤ cond (is_some b) 1 0 + count (greedy L (taking b F) l (suc i))
         go None None h f ih = omega (arith, ih ps (omega arith) h)
         go (Some j) None h f ih = absurd (f j h.0 h.1)
         go None (Some g) h f ih =

@@ -8,9 +8,10 @@ use Prim.Native.Nat.{ℕ, zero, suc, ◌+◌, ◌≤◌, ◌<◌}
 use native.Mathlib.Omega.{arith}
 use lib.Dec.{T}
 use lib.ListN.{length}
+use borrow.Author.Tests.{ne_eqb, eq-eqb}
 use Rattle.log_theory.specs.Pairing.{Logs, Pair, All, Apart, Distinct, without, every, shown, count, pairs_of}
 use Rattle.log_theory.specs.Report.{entry_of, In, unsent, left, tally}
-use Rattle.log_theory.proofs.Basics.{true_at, same_or_not, without_other, cand_free}
+use Rattle.log_theory.proofs.Basics.{without_other, cand_free}
 use Rattle.log_theory.proofs.Best.{Fits, equal_or_not, greedy_fits}
 use Rattle.log_theory.proofs.Lists.{greedy_long, pairs_many}
 
@@ -31,7 +32,7 @@ tally_without (suc n) g F h f =
     equal_or_not g n (tally (suc n) F ≡ suc (tally (suc n) (without g F)))
     (λ e.
     let a : ◌≡◌ {A = ℕ} (cond (F n) 1 0) 1 = one_of (F n) (subst (λ (x : ℕ). T (F x)) e f) in
-    let b : ◌≡◌ {A = ℕ} (cond (without g F n) 1 0) 0 = ap (λ (t : Bool). cond (cond t false (F n)) 1 0) (true_at g n e) in
+    let b : ◌≡◌ {A = ℕ} (cond (without g F n) 1 0) 0 = ap (λ (t : Bool). cond (cond t false (F n)) 1 0) (eq-eqb g n e) in
     omega (arith, tally_past n g F (omega arith)))
     (λ m.
     let a : ◌≡◌ {A = ℕ} (cond (without g F n) 1 0) (cond (F n) 1 0) = ap (λ (t : Bool). cond t 1 0) (without_other g n F m) in
@@ -64,10 +65,10 @@ entry_in [] j k e = absurd (let z : ◌≡◌ {A = ℕ} 0 1 = cc in omega arith)
 entry_in (x ∷ ps) j k e =
     equal_or_not x.reply j (In (record { entry = k; reply = j }) (x ∷ ps))
     (λ q.
-    let f : Some x.entry ≡ Some k = sym (ap (λ (t : Bool). cond t (Some x.entry) (entry_of ps j)) (true_at x.reply j q)) ∙ e in
+    let f : Some x.entry ≡ Some k = sym (ap (λ (t : Bool). cond t (Some x.entry) (entry_of ps j)) (eq-eqb x.reply j q)) ∙ e in
     let g : x.entry ≡ k = cc in
     inl (same g q))
-    (λ n. inr (entry_in ps j k (sym (ap (λ (t : Bool). cond t (Some x.entry) (entry_of ps j)) (same_or_not x.reply j n)) ∙ e)))
+    (λ n. inr (entry_in ps j k (sym (ap (λ (t : Bool). cond t (Some x.entry) (entry_of ps j)) (ne_eqb x.reply j n)) ∙ e)))
   where
     make : ℕ → ℕ → Pair
     make a b = record { entry = a; reply = b }
@@ -78,9 +79,9 @@ entry_in (x ∷ ps) j k e =
 pub in_entry : (ps : List Pair) (x : Pair) → Distinct ps → In x ps → entry_of ps x.reply ≡ Some x.entry
 in_entry [] x d i = absurd i
 in_entry (y ∷ ps) x d (inl e) =
-    ap (λ (t : Bool). cond t (Some y.entry) (entry_of ps x.reply)) (true_at y.reply x.reply (ap (λ (z : Pair). z.reply) e)) ∙ ap (λ (z : Pair). Some z.entry) e
+    ap (λ (t : Bool). cond t (Some y.entry) (entry_of ps x.reply)) (eq-eqb y.reply x.reply (ap (λ (z : Pair). z.reply) e)) ∙ ap (λ (z : Pair). Some z.entry) e
 in_entry (y ∷ ps) x d (inr i) =
-    ap (λ (t : Bool). cond t (Some y.entry) (entry_of ps x.reply)) (same_or_not y.reply x.reply (λ q. (apart ps d.0 i).1 (sym q))) ∙ in_entry ps x d.1 i
+    ap (λ (t : Bool). cond t (Some y.entry) (entry_of ps x.reply)) (ne_eqb y.reply x.reply (λ q. (apart ps d.0 i).1 (sym q))) ∙ in_entry ps x d.1 i
   where
     apart : (qs : List Pair) → All (Apart y) qs → In x qs → Apart y x
     apart [] a i = absurd i

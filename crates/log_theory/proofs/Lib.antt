@@ -8,5 +8,4 @@ pub mod Examples
 pub mod Window
 pub mod Link
 pub mod Turns
-pub mod Choices
 pub mod PairingLaws

@@ -9,12 +9,13 @@ use native.Mathlib.Numerals.{add-one}
 use lib.Dec.{eqb}
 use lib.ListN.{length, set, get_or, replicate, length-set, length-append, length-replicate}
 use lib.Seq.{get_or-set_same, get_or-set_other}
-use borrow.Author.Tests.{ne_eqb}
+use borrow.Author.Tests.{ne_eqb, eq-eqb}
+use Rattle.std.specs.Option.{unwrap_or}
 use Rattle.log_theory.specs.Pairing.{Logs, Pair, All, without, earliest, taking, greedy, every, shown, count, pairs_of}
-use Rattle.log_theory.specs.Report.{nobody, index, indices, entry_of, entries_from, Lists, report_of}
+use Rattle.log_theory.specs.Report.{nobody, indices, entry_of, entries_from, Lists, report_of}
 use Rattle.log_theory.specs.PairingLaws.{Earliest}
 use Rattle.log_theory.specs.PairsModel.{free_in, paired, pair_up, blank}
-use Rattle.log_theory.proofs.Basics.{without_other, true_at, same_or_not, cand_without}
+use Rattle.log_theory.proofs.Basics.{without_other, cand_without}
 use Rattle.log_theory.proofs.Picks.{found}
 use Rattle.log_theory.proofs.Best.{Fits, equal_or_not, greedy_fits}
 use Rattle.log_theory.proofs.Lists.{From, all_map, pairs_from, pairs_many}
@@ -28,7 +29,7 @@ free_set o g i h lt = fun_ext (λ k. at k)
         equal_or_not g k (free_in (set o g i) k ≡ without g (free_in o) k)
         (λ e.
         let v : get_or (set o g i) k nobody ≡ i = ap (λ (x : ℕ). get_or (set o g i) x nobody) (sym e) ∙ get_or-set_same o g i nobody h in
-        ap (λ (x : ℕ). eqb x nobody) v ∙ ne_eqb i nobody (λ q. omega arith) ∙ sym (ap (λ (t : Bool). cond t false (free_in o k)) (true_at g k e)))
+        ap (λ (x : ℕ). eqb x nobody) v ∙ ne_eqb i nobody (λ q. omega arith) ∙ sym (ap (λ (t : Bool). cond t false (free_in o k)) (eq-eqb g k e)))
         (λ n. ap (λ (x : ℕ). eqb x nobody) (get_or-set_other o g k i nobody (λ q. n (sym q))) ∙ sym (without_other g k (free_in o) n))
 
 pub free_all : (n : ℕ) → free_in (replicate n nobody) ≡ every
@@ -39,31 +40,31 @@ free_all n = fun_ext (λ k. ap (λ (x : ℕ). eqb x nobody) (all n k))
     all (suc n) zero = refl
     all (suc n) (suc k) = all n k
 
-by_index : (o : List ℕ) (ps : List Pair) (n j : ℕ) → length o ≡ n → ((k : ℕ) → get_or o k nobody ≡ index (entry_of ps (j + k))) → o ≡ entries_from ps n j
+by_index : (o : List ℕ) (ps : List Pair) (n j : ℕ) → length o ≡ n → ((k : ℕ) → get_or o k nobody ≡ unwrap_or (entry_of ps (j + k)) nobody) → o ≡ entries_from ps n j
 unfolding entries_from
 by_index [] ps zero j e h = refl
 by_index [] ps (suc n) j e h = absurd (omega arith)
 by_index (x ∷ o) ps zero j e h = absurd (omega arith)
 by_index (x ∷ o) ps (suc n) j e h =
     let p : j + 0 ≡ j = omega arith in
-    ap (λ (y : ℕ). y ∷ o) (h 0 ∙ ap (λ (m : ℕ). index (entry_of ps m)) p)
-    ∙ ap (λ (l : List ℕ). index (entry_of ps j) ∷ l) (by_index o ps n (suc j) (omega arith) (λ k. h (suc k) ∙ ap (λ (m : ℕ). index (entry_of ps m)) (moved k)))
+    ap (λ (y : ℕ). y ∷ o) (h 0 ∙ ap (λ (m : ℕ). unwrap_or (entry_of ps m) nobody) p)
+    ∙ ap (λ (l : List ℕ). unwrap_or (entry_of ps j) nobody ∷ l) (by_index o ps n (suc j) (omega arith) (λ k. h (suc k) ∙ ap (λ (m : ℕ). unwrap_or (entry_of ps m) nobody) (moved k)))
   where
     moved : (k : ℕ) → j + suc k ≡ suc j + k
     moved k = omega arith
 
 module _ (L : Logs) where
-  taken : (s : Lists) (i : ℕ) (b : (Option ℕ)) → Earliest L (free_in s.owners) i L.sent b → L.sent ≡ length s.owners → i < nobody → free_in (paired s i b).owners ≡ taking b (free_in s.owners)
+  taken : (s : Lists) (i : ℕ) (b : Option ℕ) → Earliest L (free_in s.owners) i L.sent b → L.sent ≡ length s.owners → i < nobody → free_in (paired s i b).owners ≡ taking b (free_in s.owners)
   taken s i None h e lt = refl
   taken s i (Some g) h e lt = free_set s.owners g i (omega (arith, h.0)) lt
 
-  as_long : (s : Lists) (i : ℕ) (b : (Option ℕ)) → L.sent ≡ length s.owners → L.sent ≡ length (paired s i b).owners
+  as_long : (s : Lists) (i : ℕ) (b : Option ℕ) → L.sent ≡ length s.owners → L.sent ≡ length (paired s i b).owners
   as_long s i None e = e
   as_long s i (Some g) e = e ∙ sym (length-set s.owners g i)
 
   module _ (P : (l i : ℕ) → Lists → List (Option ℕ) → Lists → Type 0)
       (none : (i : ℕ) (s : Lists) → P 0 i s [] s)
-      (more : (l i : ℕ) (s r : Lists) (ps : List (Option ℕ)) (b : (Option ℕ)) → Fits L (free_in s.owners) i (b ∷ ps) → L.sent ≡ length s.owners → P l (suc i) (paired s i b) ps r → P (suc l) i s (b ∷ ps) r) where
+      (more : (l i : ℕ) (s r : Lists) (ps : List (Option ℕ)) (b : Option ℕ) → Fits L (free_in s.owners) i (b ∷ ps) → L.sent ≡ length s.owners → P l (suc i) (paired s i b) ps r → P (suc l) i s (b ∷ ps) r) where
     -- what holds turn by turn holds of the partners that `greedy` gives
     along : (l i : ℕ) (s : Lists) → L.sent ≡ length s.owners → i + l ≤ nobody → P l i s (greedy L (free_in s.owners) l i) (pair_up L l i s)
     unfolding pair_up
@@ -79,7 +80,7 @@ module _ (L : Logs) where
   abbrev Counted : (l i : ℕ) → Lists → List (Option ℕ) → Lists → Type 0
   Counted l i s ps r = r.pairs ≡ s.pairs + count ps
 
-  counted_more : (l i : ℕ) (s r : Lists) (ps : List (Option ℕ)) (b : (Option ℕ)) → Fits L (free_in s.owners) i (b ∷ ps) → L.sent ≡ length s.owners → Counted l (suc i) (paired s i b) ps r → Counted (suc l) i s (b ∷ ps) r
+  counted_more : (l i : ℕ) (s r : Lists) (ps : List (Option ℕ)) (b : Option ℕ) → Fits L (free_in s.owners) i (b ∷ ps) → L.sent ≡ length s.owners → Counted l (suc i) (paired s i b) ps r → Counted (suc l) i s (b ∷ ps) r
   counted_more l i s r ps None f e h = omega arith
   counted_more l i s r ps (Some g) f e h = omega arith
 
@@ -96,14 +97,14 @@ module _ (L : Logs) where
   length_snoc : (p : List ℕ) (x i : ℕ) → length p ≡ i → length (p ++ (x ∷ [])) ≡ suc i
   length_snoc p x i e = rw (length-append p (x ∷ [])) (omega arith)
 
-  laid_more : (l i : ℕ) (s r : Lists) (ps : List (Option ℕ)) (b : (Option ℕ)) → Fits L (free_in s.owners) i (b ∷ ps) → L.sent ≡ length s.owners → Laid l (suc i) (paired s i b) ps r → Laid (suc l) i s (b ∷ ps) r
+  laid_more : (l i : ℕ) (s r : Lists) (ps : List (Option ℕ)) (b : Option ℕ) → Fits L (free_in s.owners) i (b ∷ ps) → L.sent ≡ length s.owners → Laid l (suc i) (paired s i b) ps r → Laid (suc l) i s (b ∷ ps) r
   laid_more l i s r ps None f e h p n q = h (p ++ (nobody ∷ [])) (length_snoc p nobody i n) (q ∙ sym (append_assoc p (nobody ∷ []) (replicate l nobody))) ∙ append_assoc p (nobody ∷ []) (indices ps)
   laid_more l i s r ps (Some g) f e h p n q =
       h (p ++ (g ∷ [])) (length_snoc p g i n) (ap (λ (x : List ℕ). set x i g) q ∙ set_at p (replicate l nobody) i nobody g n ∙ sym (append_assoc p (g ∷ []) (replicate l nobody)))
       ∙ append_assoc p (g ∷ []) (indices ps)
 
   -- ---- the records' partners
-  abbrev pub over : (Option ℕ) → ℕ → ℕ
+  abbrev pub over : Option ℕ → ℕ → ℕ
   over None x = x
   over (Some k) x = k
 
@@ -112,20 +113,20 @@ module _ (L : Logs) where
 
   no_entry : (g : ℕ) (qs : List Pair) → All (λ (x : Pair). g ≡ x.reply → ⊥) qs → entry_of qs g ≡ None
   no_entry g [] a = refl
-  no_entry g (x ∷ qs) a = ap (λ (t : Bool). cond t (Some x.entry) (entry_of qs g)) (same_or_not x.reply g (λ e. a.0 (sym e))) ∙ no_entry g qs a.1
+  no_entry g (x ∷ qs) a = ap (λ (t : Bool). cond t (Some x.entry) (entry_of qs g)) (ne_eqb x.reply g (λ e. a.0 (sym e))) ∙ no_entry g qs a.1
 
-  owned_more : (l i : ℕ) (s r : Lists) (ps : List (Option ℕ)) (b : (Option ℕ)) → Fits L (free_in s.owners) i (b ∷ ps) → L.sent ≡ length s.owners → Owned l (suc i) (paired s i b) ps r → Owned (suc l) i s (b ∷ ps) r
+  owned_more : (l i : ℕ) (s r : Lists) (ps : List (Option ℕ)) (b : Option ℕ) → Fits L (free_in s.owners) i (b ∷ ps) → L.sent ≡ length s.owners → Owned l (suc i) (paired s i b) ps r → Owned (suc l) i s (b ∷ ps) r
   owned_more l i s r ps None f e h j = h j
   owned_more l i s r ps (Some g) f e h j =
       h j
       ∙ equal_or_not g j (over (entry_of (pairs_of (suc i) ps) j) (get_or (set s.owners g i) j nobody) ≡ over (cond (eqb g j) (Some i) (entry_of (pairs_of (suc i) ps) j)) (get_or s.owners j nobody))
       (λ q.
-      ap (λ (x : (Option ℕ)). over x (get_or (set s.owners g i) j nobody)) (ap (entry_of (pairs_of (suc i) ps)) (sym q) ∙ others)
+      ap (λ (x : Option ℕ). over x (get_or (set s.owners g i) j nobody)) (ap (entry_of (pairs_of (suc i) ps)) (sym q) ∙ others)
       ∙ ap (λ (x : ℕ). get_or (set s.owners g i) x nobody) (sym q) ∙ get_or-set_same s.owners g i nobody (omega (arith, f.0))
-      ∙ sym (ap (λ (t : Bool). over (cond t (Some i) (entry_of (pairs_of (suc i) ps) j)) (get_or s.owners j nobody)) (true_at g j q)))
+      ∙ sym (ap (λ (t : Bool). over (cond t (Some i) (entry_of (pairs_of (suc i) ps) j)) (get_or s.owners j nobody)) (eq-eqb g j q)))
       (λ n.
       ap (over (entry_of (pairs_of (suc i) ps) j)) (get_or-set_other s.owners g j i nobody (λ q. n (sym q)))
-      ∙ sym (ap (λ (t : Bool). over (cond t (Some i) (entry_of (pairs_of (suc i) ps) j)) (get_or s.owners j nobody)) (same_or_not g j n)))
+      ∙ sym (ap (λ (t : Bool). over (cond t (Some i) (entry_of (pairs_of (suc i) ps) j)) (get_or s.owners j nobody)) (ne_eqb g j n)))
     where
       others : entry_of (pairs_of (suc i) ps) g ≡ None
       others =
@@ -136,7 +137,7 @@ module _ (L : Logs) where
   abbrev Long : (l i : ℕ) → Lists → List (Option ℕ) → Lists → Type 0
   Long l i s ps r = length r.owners ≡ length s.owners
 
-  long_more : (l i : ℕ) (s r : Lists) (ps : List (Option ℕ)) (b : (Option ℕ)) → Fits L (free_in s.owners) i (b ∷ ps) → L.sent ≡ length s.owners → Long l (suc i) (paired s i b) ps r → Long (suc l) i s (b ∷ ps) r
+  long_more : (l i : ℕ) (s r : Lists) (ps : List (Option ℕ)) (b : Option ℕ) → Fits L (free_in s.owners) i (b ∷ ps) → L.sent ≡ length s.owners → Long l (suc i) (paired s i b) ps r → Long (suc l) i s (b ∷ ps) r
   long_more l i s r ps b f e h = h ∙ sym (as_long s i b e) ∙ e
 
   -- ---- from lists that name nobody
@@ -158,7 +159,7 @@ module _ (L : Logs) where
     partners_are : (pair_up L L.heard 0 start).partners ≡ indices (shown L)
     partners_are = with_every (λ (ps : List (Option ℕ)) (r : Lists). r.partners ≡ indices ps) (along Laid (λ i s p n q. q) laid_more L.heard 0 start same (omega arith) [] refl refl)
 
-    owner_is : (j : ℕ) → get_or (pair_up L L.heard 0 start).owners j nobody ≡ index (entry_of (pairs_of 0 (shown L)) j)
+    owner_is : (j : ℕ) → get_or (pair_up L L.heard 0 start).owners j nobody ≡ unwrap_or (entry_of (pairs_of 0 (shown L)) j) nobody
     owner_is j =
         with_every (λ (ps : List (Option ℕ)) (r : Lists). get_or r.owners j nobody ≡ over (entry_of (pairs_of 0 ps) j) (get_or start.owners j nobody)) (along Owned (λ i s j. refl) owned_more L.heard 0 start same (omega arith) j)
         ∙ go (entry_of (pairs_of 0 (shown L)) j)
@@ -168,7 +169,7 @@ module _ (L : Logs) where
         all (suc n) zero = refl
         all (suc n) (suc k) = all n k
 
-        go : (b : (Option ℕ)) → over b (get_or start.owners j nobody) ≡ index b
+        go : (b : Option ℕ) → over b (get_or start.owners j nobody) ≡ unwrap_or b nobody
         go None = all L.sent j
         go (Some k) = refl
 
@@ -176,7 +177,7 @@ module _ (L : Logs) where
     owners_are =
         by_index (pair_up L L.heard 0 start).owners (pairs_of 0 (shown L)) L.sent 0
         (with_every (λ (ps : List (Option ℕ)) (r : Lists). length r.owners ≡ length start.owners) (along Long (λ i s. refl) long_more L.heard 0 start same (omega arith)) ∙ sym same)
-        (λ k. owner_is k ∙ ap (λ (m : ℕ). index (entry_of (pairs_of 0 (shown L)) m)) (from_zero k))
+        (λ k. owner_is k ∙ ap (λ (m : ℕ). unwrap_or (entry_of (pairs_of 0 (shown L)) m) nobody) (from_zero k))
       where
         from_zero : (k : ℕ) → k ≡ 0 + k
         from_zero k = omega arith

@@ -7,12 +7,12 @@ use Prim.Native.Nat.{ℕ, zero, suc, ◌+◌, ◌≤◌, ◌<◌}
 use native.Mathlib.Omega.{arith}
 use native.Mathlib.Nat.{eq-or-lt_of_le, le_of_suc-le-suc}
 use lib.Dec.{T, ltb, ltb→lt, nltb→le, not_T}
+use lib.Ieee.Fits.{and_l, and_r, and_i}
 use Rattle.log_theory.specs.Pairing.{Logs, cand, better, scan, earliest}
 use Rattle.log_theory.specs.PairingLaws.{Before, Earliest}
-use Rattle.log_theory.proofs.Basics.{both_left, both_right, both_in}
 
 module _ (L : Logs) (F : ℕ → Bool) (i : ℕ) where
-  pub step : (n : ℕ) (b : (Option ℕ)) → Earliest L F i n b → Earliest L F i (suc n) (better L F i n b)
+  pub step : (n : ℕ) (b : Option ℕ) → Earliest L F i n b → Earliest L F i (suc n) (better L F i n b)
   step n None h = go (cand L F i n) refl
     where
       go : (t : Bool) → cand L F i n ≡ t → Earliest L F i (suc n) (cond t (Some n) None)
@@ -31,8 +31,8 @@ module _ (L : Logs) (F : ℕ → Bool) (i : ℕ) where
       go : (t : Bool) → (cand L F i n && ltb (L.first n) (L.first g)) ≡ t → Earliest L F i (suc n) (cond t (Some n) (Some g))
       go true e =
           let t : T (cand L F i n && ltb (L.first n) (L.first g)) = subst (λ (b : Bool). T b) (sym e) tt in
-          let lt : L.first n < L.first g = ltb→lt (L.first n) (L.first g) (both_right (cand L F i n) (ltb (L.first n) (L.first g)) t) in
-          (omega arith, both_left (cand L F i n) (ltb (L.first n) (L.first g)) t, λ k l c. at lt k c (eq-or-lt_of_le (le_of_suc-le-suc l)))
+          let lt : L.first n < L.first g = ltb→lt (L.first n) (L.first g) (and_r (cand L F i n) (ltb (L.first n) (L.first g)) t) in
+          (omega arith, and_l (cand L F i n) (ltb (L.first n) (L.first g)) t, λ k l c. at lt k c (eq-or-lt_of_le (le_of_suc-le-suc l)))
         where
           at : L.first n < L.first g → (k : ℕ) → T (cand L F i k) → (k ≡ n) ⊎ (k < n) → Before L F i n k
           at lt k c (inl e) = record { no_later = subst (λ (x : ℕ). L.first x ≤ L.first k) e (omega arith); in_order_lem = λ q. omega arith }
@@ -40,7 +40,7 @@ module _ (L : Logs) (F : ℕ → Bool) (i : ℕ) where
       go false e = (omega (arith, h.0), h.1, λ k l c. at k c (eq-or-lt_of_le (le_of_suc-le-suc l)))
         where
           no : T (cand L F i n) → T (ltb (L.first n) (L.first g)) → ⊥
-          no c l = subst (λ (b : Bool). T b) e (both_in (cand L F i n) (ltb (L.first n) (L.first g)) c l)
+          no c l = subst (λ (b : Bool). T b) e (and_i (cand L F i n) (ltb (L.first n) (L.first g)) c l)
 
           at : (k : ℕ) → T (cand L F i k) → (k ≡ n) ⊎ (k < n) → Before L F i g k
           at k c (inl q) =
@@ -48,7 +48,7 @@ module _ (L : Logs) (F : ℕ → Bool) (i : ℕ) where
               record { no_later = subst (λ (x : ℕ). L.first g ≤ L.first x) (sym q) le; in_order_lem = λ z. omega (arith, h.0) }
           at k c (inr l) = h.2 k l c
 
-  scans : (r n : ℕ) (b : (Option ℕ)) → Earliest L F i n b → Earliest L F i (n + r) (scan L F i r n b)
+  scans : (r n : ℕ) (b : Option ℕ) → Earliest L F i n b → Earliest L F i (n + r) (scan L F i r n b)
   scans zero n b h = subst (λ (x : ℕ). Earliest L F i x b) {x = n} {y = n + 0} (omega arith) h
   scans (suc r) n b h = subst (λ (x : ℕ). Earliest L F i x (scan L F i r (suc n) (better L F i n b))) {x = suc n + r} {y = n + suc r} (omega arith) (scans r (suc n) (better L F i n b) (step n b h))
 
@@ -57,7 +57,7 @@ module _ (L : Logs) (F : ℕ → Bool) (i : ℕ) where
   found = subst (λ (x : ℕ). Earliest L F i x (scan L F i L.sent 0 None)) {x = 0 + L.sent} {y = L.sent} (omega arith) (scans L.sent 0 None (λ k lt c. omega arith))
 
   -- whatever finds an earliest one finds this one
-  pub only : (n : ℕ) (a b : (Option ℕ)) → Earliest L F i n a → Earliest L F i n b → a ≡ b
+  pub only : (n : ℕ) (a b : Option ℕ) → Earliest L F i n a → Earliest L F i n b → a ≡ b
   only n None None p q = refl
   only n None (Some g) p q = absurd (p g q.0 q.1)
   only n (Some g) None p q = absurd (q g p.0 p.1)

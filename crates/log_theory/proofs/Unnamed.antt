@@ -8,9 +8,10 @@ use native.Mathlib.Omega.{arith}
 use lib.Dec.{eqb}
 use lib.ListN.{length}
 use borrow.Author.Tests.{ne_eqb, eq-eqb}
+use Rattle.std.specs.Option.{unwrap_or}
 use Rattle.log_theory.specs.Pairing.{Logs, without, every, shown, pairs_of}
-use Rattle.log_theory.specs.Report.{nobody, index, indices, entry_of, entries_from, unnamed, left, tally, unsent}
-use Rattle.log_theory.proofs.Basics.{same_or_not, true_at, without_other}
+use Rattle.log_theory.specs.Report.{nobody, indices, entry_of, entries_from, unnamed, left, tally, unsent}
+use Rattle.log_theory.proofs.Basics.{without_other}
 use Rattle.log_theory.proofs.Best.{Fits, equal_or_not, greedy_fits}
 use Rattle.log_theory.proofs.Lists.{greedy_long}
 
@@ -37,17 +38,17 @@ module _ (L : Logs) where
       go false = e
 
   -- a record that was free is still free exactly where no entry has it
-  free_still : (F : ℕ → Bool) (i : ℕ) (ps : List (Option ℕ)) (j : ℕ) → i + length ps ≤ nobody → F j ≡ true → left F ps j ≡ eqb (index (entry_of (pairs_of i ps) j)) nobody
+  free_still : (F : ℕ → Bool) (i : ℕ) (ps : List (Option ℕ)) (j : ℕ) → i + length ps ≤ nobody → F j ≡ true → left F ps j ≡ eqb (unwrap_or (entry_of (pairs_of i ps) j) nobody) nobody
   free_still F i [] j few e = e ∙ sym (eq-eqb nobody nobody refl)
   free_still F i (None ∷ ps) j few e = free_still F (suc i) ps j (omega arith) e
   free_still F i (Some g ∷ ps) j few e =
-      equal_or_not g j (left (without g F) ps j ≡ eqb (index (cond (eqb g j) (Some i) (entry_of (pairs_of (suc i) ps) j))) nobody)
+      equal_or_not g j (left (without g F) ps j ≡ eqb (unwrap_or (cond (eqb g j) (Some i) (entry_of (pairs_of (suc i) ps) j)) nobody) nobody)
       (λ q.
-      stays_taken (without g F) ps j (ap (λ (t : Bool). cond t false (F j)) (true_at g j q))
-      ∙ sym (ap (λ (t : Bool). eqb (index (cond t (Some i) (entry_of (pairs_of (suc i) ps) j))) nobody) (true_at g j q) ∙ ne_eqb i nobody (λ z. omega arith)))
+      stays_taken (without g F) ps j (ap (λ (t : Bool). cond t false (F j)) (eq-eqb g j q))
+      ∙ sym (ap (λ (t : Bool). eqb (unwrap_or (cond t (Some i) (entry_of (pairs_of (suc i) ps) j)) nobody) nobody) (eq-eqb g j q) ∙ ne_eqb i nobody (λ z. omega arith)))
       (λ n.
       free_still (without g F) (suc i) ps j (omega arith) (without_other g j F n ∙ e)
-      ∙ sym (ap (λ (t : Bool). eqb (index (cond t (Some i) (entry_of (pairs_of (suc i) ps) j))) nobody) (same_or_not g j n)))
+      ∙ sym (ap (λ (t : Bool). eqb (unwrap_or (cond t (Some i) (entry_of (pairs_of (suc i) ps) j)) nobody) nobody) (ne_eqb g j n)))
 
 -- counted from the first on, and from the last one back
 upwards : (ℕ → Bool) → ℕ → ℕ → ℕ
@@ -80,7 +81,7 @@ module _ (L : Logs) where
   listed few zero j = refl
   listed few (suc n) j =
       ap (λ (t : Bool). cond t 1 0 + upwards (left every (shown L)) n (suc j)) (free_still L every 0 (shown L) j (omega (arith, greedy_long L every L.heard 0)) refl)
-      ∙ ap (λ (k : ℕ). cond (eqb (index (entry_of (pairs_of 0 (shown L)) j)) nobody) 1 0 + k) (listed few n (suc j))
+      ∙ ap (λ (k : ℕ). cond (eqb (unwrap_or (entry_of (pairs_of 0 (shown L)) j) nobody) nobody) 1 0 + k) (listed few n (suc j))
 
   pub records_unnamed : L.heard ≤ nobody → tally L.sent (left every (shown L)) ≡ unnamed (entries_from (pairs_of 0 (shown L)) L.sent 0)
   records_unnamed few = downwards (left every (shown L)) L.sent ∙ listed few L.sent 0

@@ -1,6 +1,6 @@
 -- Log entries and records, held against each other (SPECIFICATION 13.2): which may be paired, what a pairing is, and the pairing that is reported.
-use Rattle.std.specs.Prelude.{Option, Some, None}
-use Rattle.std.specs.Prelude.{◌≡◌, Bool, true, false, cond, List, [], ◌∷◌, ℕ, zero, suc, ◌+◌, ◌<◌, T, leb, ltb, eqb, ◌&&◌}
+use Rattle.std.specs.Prelude.{Option, Some, None, ◌≡◌, Bool, true, false, cond, List, [], ◌∷◌, ℕ, zero, suc, ◌+◌, ◌<◌, T, leb, ltb, eqb, ◌&&◌}
+use Rattle.std.specs.Option.{is_some}
 
 -- a log of `heard` entries and `sent` records, by their indices from 0
 pub record Logs : Type 0 where
@@ -24,6 +24,7 @@ pub record Pair : Type 0 where
   pub entry : ℕ
   pub reply : ℕ
 
+-- `All` and `Contains` of std speak of each index; these, and `In`, go along the list as the proofs do
 abbrev pub All : (Pair → Type 0) → List Pair → Type 0
 All Q [] = Unit {0}
 All Q (x ∷ xs) = Q x × All Q xs
@@ -52,20 +53,20 @@ abbrev pub cand : Logs → (ℕ → Bool) → ℕ → ℕ → Bool
 cand L F i j = F j && allowed L i j
 
 -- the earlier one of what was found and record j
-abbrev pub better : Logs → (ℕ → Bool) → ℕ → ℕ → (Option ℕ) → (Option ℕ)
+abbrev pub better : Logs → (ℕ → Bool) → ℕ → ℕ → Option ℕ → Option ℕ
 better L F i j None = cond (cand L F i j) (Some j) None
 better L F i j (Some g) = cond (cand L F i j && ltb (L.first j) (L.first g)) (Some j) (Some g)
 
 -- r records are left, from j on
-abbrev pub scan : Logs → (ℕ → Bool) → ℕ → ℕ → ℕ → (Option ℕ) → (Option ℕ)
+abbrev pub scan : Logs → (ℕ → Bool) → ℕ → ℕ → ℕ → Option ℕ → Option ℕ
 scan L F i zero j b = b
 scan L F i (suc r) j b = scan L F i r (suc j) (better L F i j b)
 
 -- the earliest free and allowed record, of equal ones the first in the records' order
-unfoldable pub earliest : Logs → (ℕ → Bool) → ℕ → (Option ℕ)
+unfoldable pub earliest : Logs → (ℕ → Bool) → ℕ → Option ℕ
 earliest L F i = scan L F i L.sent 0 None
 
-abbrev pub taking : (Option ℕ) → (ℕ → Bool) → ℕ → Bool
+abbrev pub taking : Option ℕ → (ℕ → Bool) → ℕ → Bool
 taking None F = F
 taking (Some g) F = without g F
 
@@ -81,15 +82,11 @@ abbrev pub shown : Logs → List (Option ℕ)
 shown L = greedy L every L.heard 0
 
 -- ---- counts
-abbrev pub one : (Option ℕ) → ℕ
-one None = 0
-one (Some g) = 1
-
 abbrev pub count : List (Option ℕ) → ℕ
 count [] = 0
-count (p ∷ ps) = one p + count ps
+count (p ∷ ps) = cond (is_some p) 1 0 + count ps
 
-abbrev pub push : ℕ → (Option ℕ) → List Pair → List Pair
+abbrev pub push : ℕ → Option ℕ → List Pair → List Pair
 push i None ps = ps
 push i (Some j) ps = record { entry = i; reply = j } ∷ ps
 

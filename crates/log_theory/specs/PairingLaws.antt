@@ -1,6 +1,5 @@
 -- What is shown of the pairing (SPECIFICATION 13.5), for any log and any records.
-use Rattle.std.specs.Prelude.{Option, Some, None}
-use Rattle.std.specs.Prelude.{◌≡◌, Bool, List, ℕ, ◌+◌, ◌≤◌, ◌<◌, T, length, take, get_or}
+use Rattle.std.specs.Prelude.{Option, Some, None, ◌≡◌, Bool, List, ℕ, ◌+◌, ◌≤◌, ◌<◌, T, length, take, get_or}
 use Rattle.log_theory.specs.Pairing.{Logs, Pair, Pairing, cand, every, shown, pairs_of}
 use Rattle.log_theory.specs.Report.{nobody, indices, entry_of, entries_from, unnamed, In, left, tally, unsent}
 
@@ -16,7 +15,7 @@ module _ (L : Logs) (F : ℕ → Bool) (i : ℕ) where
     pub in_order_lem : L.first g ≡ L.first k → g ≤ k
 
   -- b is the earliest of the first n records that is free and allowed for entry i, or none is
-  abbrev pub Earliest : ℕ → (Option ℕ) → Type 0
+  abbrev pub Earliest : ℕ → Option ℕ → Type 0
   Earliest n None = (k : ℕ) → k < n → T (cand L F i k) → ⊥
   Earliest n (Some g) = (g < n) × T (cand L F i g) × ((k : ℕ) → k < n → T (cand L F i k) → Before g k)
 

@@ -1,6 +1,5 @@
 -- The pairing as the code makes it: two lists of indices and a count, changed entry by entry.
-use Rattle.std.specs.Prelude.{Option, Some, None}
-use Rattle.std.specs.Prelude.{Bool, false, ◌⊎◌, ◌≡◌, List, ℕ, zero, suc, ◌+◌, ◌≤◌, ◌<◌, eqb, get_or, set, replicate}
+use Rattle.std.specs.Prelude.{Option, Some, None, Bool, false, ◌⊎◌, ◌≡◌, List, ℕ, zero, suc, ◌+◌, ◌≤◌, ◌<◌, eqb, get_or, set, replicate}
 use Rattle.log_theory.specs.Pairing.{Logs, earliest}
 use Rattle.log_theory.specs.Report.{nobody, Lists}
 
@@ -9,11 +8,11 @@ abbrev pub free_in : List ℕ → ℕ → Bool
 free_in owners j = eqb (get_or owners j nobody) nobody
 
 -- a partner's index is below n
-abbrev pub Below : ℕ → (Option ℕ) → Type 0
+abbrev pub Below : ℕ → Option ℕ → Type 0
 Below n None = Unit {0}
 Below n (Some g) = g < n
 
-abbrev pub paired : Lists → ℕ → (Option ℕ) → Lists
+abbrev pub paired : Lists → ℕ → Option ℕ → Lists
 paired s i None = s
 paired s i (Some g) = record { partners = set s.partners i g; owners = set s.owners g i; pairs = s.pairs + 1 }
 
@@ -33,8 +32,3 @@ pub record Back (first : ℕ → ℕ) (n back : ℕ) : Type 0 where
 -- the records before lo are taken, or too early for an entry at sample h
 pub record Past (first : ℕ → ℕ) (d : ℕ) (F : ℕ → Bool) (h lo : ℕ) : Type 0 where
   pub gone : (k : ℕ) → k < lo → (F k ≡ false) ⊎ (first k + d < h)
-
--- the records from a on and before b are taken
-pub record Taken (F : ℕ → Bool) (a b : ℕ) : Type 0 where
-  pub from : a ≤ b
-  pub taken : (k : ℕ) → a ≤ k → k < b → F k ≡ false

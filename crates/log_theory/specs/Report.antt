@@ -1,29 +1,25 @@
 -- What is reported of a pairing (SPECIFICATION 13.3): each entry's record and each record's entry, by their indices, and what is left over.
-use Rattle.std.specs.Prelude.{Option, Some, None}
-use Rattle.std.specs.Prelude.{◌≡◌, Bool, cond, ◌⊎◌, List, [], ◌∷◌, ℕ, zero, suc, ◌+◌, eqb, length}
+use Rattle.std.specs.Prelude.{Option, Some, None, ◌≡◌, Bool, cond, ◌⊎◌, List, [], ◌∷◌, ℕ, zero, suc, ◌+◌, eqb, length}
+use Rattle.std.specs.Option.{is_some, unwrap_or}
 use Rattle.log_theory.specs.Pairing.{Logs, Pair, taking, shown, pairs_of}
 
 -- 2^64 - 1 for no partner
 abbrev pub nobody : ℕ
 nobody = 18446744073709551615
 
-abbrev pub index : (Option ℕ) → ℕ
-index None = nobody
-index (Some g) = g
-
 abbrev pub indices : List (Option ℕ) → List ℕ
 indices [] = []
-indices (p ∷ ps) = index p ∷ indices ps
+indices (p ∷ ps) = unwrap_or p nobody ∷ indices ps
 
 -- the entry that a record is paired with
-abbrev pub entry_of : List Pair → ℕ → (Option ℕ)
+abbrev pub entry_of : List Pair → ℕ → Option ℕ
 entry_of [] j = None
 entry_of (x ∷ ps) j = cond (eqb x.reply j) (Some x.entry) (entry_of ps j)
 
 -- those of n records, from j on
 unfoldable pub entries_from : List Pair → ℕ → ℕ → List ℕ
 entries_from ps zero j = []
-entries_from ps (suc n) j = index (entry_of ps j) ∷ entries_from ps n (suc j)
+entries_from ps (suc n) j = unwrap_or (entry_of ps j) nobody ∷ entries_from ps n (suc j)
 
 -- the number of a list's elements that name nobody
 abbrev pub unnamed : List ℕ → ℕ
@@ -44,13 +40,9 @@ In x [] = ⊥
 In x (y ∷ ps) = (y ≡ x) ⊎ In x ps
 
 -- entries with no partner
-abbrev pub lone : (Option ℕ) → ℕ
-lone None = 1
-lone (Some g) = 0
-
 abbrev pub unsent : List (Option ℕ) → ℕ
 unsent [] = 0
-unsent (p ∷ ps) = lone p + unsent ps
+unsent (p ∷ ps) = cond (is_some p) 0 1 + unsent ps
 
 -- the records still free after these partners
 abbrev pub left : (ℕ → Bool) → List (Option ℕ) → ℕ → Bool

@@ -1,21 +1,14 @@
 -- Laws of distances and of sums kept to 64 bits.
 use mathlib.Core.Path.{◌≡◌, refl, sym, ap, ◌∙◌}
-use mathlib.Core.Bool.{Bool, true, false, not, cond, ◌&&◌}
+use mathlib.Core.Bool.{Bool, true, false, ◌&&◌}
 use mathlib.Core.Logic.{◌⊎◌, inl, inr}
 use Prim.Native.Nat.{ℕ, suc, ◌+◌, ◌-◌, ◌≤◌, ◌<◌}
 use native.Mathlib.Omega.{arith}
-use lib.Dec.{T, leb, ltb, leb→le, nleb→lt}
+use lib.Dec.{leb, ltb}
 use borrow.Author.Tests.{le-leb, lt-leb}
-use Rattle.std.specs.Prelude.{min}
 use Rattle.log_theory.specs.Pairing.{near}
+use Rattle.log_theory.proofs.Window.{le_or_lt}
 use Rattle.log_tolerance.specs.Capped.{capped}
-
-le_or_lt : (a b : ℕ) → (a ≤ b) ⊎ (b < a)
-le_or_lt a b = go (leb a b) (leb→le a b) (nleb→lt a b)
-  where
-    go : (t : Bool) → (T t → a ≤ b) → (T (not t) → b < a) → (a ≤ b) ⊎ (b < a)
-    go true h g = inl (h tt)
-    go false h g = inr (g tt)
 
 leb_same : (a b c e : ℕ) → (a ≤ b → c ≤ e) → (c ≤ e → a ≤ b) → leb a b ≡ leb c e
 leb_same a b c e f g =
@@ -51,35 +44,11 @@ near_is h f d r e = ap (λ (x : ℕ). leb x d) e ∙ go (le_or_lt h f)
         let q : (h - f) + (f - h) ≡ h - f = omega arith in
         ap (λ (x : ℕ). leb x d) q ∙ near_down h f d lt
 
-pub capped_within : (n : ℕ) → n ≤ 18446744073709551615 → n ≡ capped n
-unfolding capped
-capped_within n h = sym (ap (λ (t : Bool). cond t n 18446744073709551615) (le-leb n 18446744073709551615 h))
-
-pub capped_over : (n : ℕ) → 18446744073709551615 < n → 18446744073709551615 ≡ capped n
-unfolding capped
-capped_over n h = sym (ap (λ (t : Bool). cond t n 18446744073709551615) (lt-leb n 18446744073709551615 h))
-
-pub capped_is : (n : ℕ) → min n 18446744073709551615 ≡ capped n
-capped_is n = go (le_or_lt n 18446744073709551615)
-  where
-    go : (n ≤ 18446744073709551615) ⊎ (18446744073709551615 < n) → min n 18446744073709551615 ≡ capped n
-    go (inl h) =
-        let q : min n 18446744073709551615 ≡ n = omega arith in
-        q ∙ capped_within n h
-    go (inr h) =
-        let q : min n 18446744073709551615 ≡ 18446744073709551615 = omega arith in
-        q ∙ capped_over n h
-
 -- what is above a capped number, and is itself a u64, is above the number
 pub capped_below : (n f : ℕ) → f ≤ 18446744073709551615 → capped n < f → n < f
-capped_below n f le lt = go (le_or_lt n 18446744073709551615)
-  where
-    go : (n ≤ 18446744073709551615) ⊎ (18446744073709551615 < n) → n < f
-    go (inl h) = omega (arith, capped_within n h)
-    go (inr h) = absurd (omega (arith, capped_over n h))
+unfolding capped
+capped_below n f le lt = omega arith
 
 pub capped_ltb : (n f : ℕ) → f ≤ 18446744073709551615 → ltb (capped n) f ≡ ltb n f
-capped_ltb n f le = leb_same (suc (capped n)) f (suc n) f (λ q. capped_below n f le q) (λ q. at q)
-  where
-    at : suc n ≤ f → suc (capped n) ≤ f
-    at q = omega (arith, capped_within n (omega arith))
+unfolding capped
+capped_ltb n f le = leb_same (suc (capped n)) f (suc n) f (λ q. omega arith) (λ q. omega arith)

@@ -6,7 +6,7 @@ ghost use Rattle.log_theory.specs.Pairing.{near as nearOf};
 ghost use Rattle.log_tolerance.specs.Capped.{capped};
 
 // The sum, or 2^64 - 1 where it is larger.
-#[tactic(auto, using(crate::proofs::Tests::capped_is))]
+#[tactic(auto, unfolding(crate::specs::Capped::capped))]
 pub fn sum(a: u64, b: u64) -> u64
     ensures { result ≡ capped (a + b) }
 {

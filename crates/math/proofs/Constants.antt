@@ -24,7 +24,7 @@ unfolding pi of_bits neg
 minus_pi_val = (refl, refl)
 
 pub two_pi_val : Val two_pi false two_pi_units
-unfolding two_pi pi of_bits mul
+unfolding two_pi of_bits
 two_pi_val = (refl, refl)
 
 pub half_pi_val : Val half_pi false (2 * quarter_units)

@@ -8,7 +8,7 @@ pub pi_is : pi ≡ of_bits binary64 0x4009_21fb_5444_2d18
 unfolding pi
 pi_is = refl
 
-pub two_pi_is : two_pi ≡ of_bits binary64 0x4019_21fb_5444_2d18
+pub two_pi_is : two_pi ≡ mul binary64 (of_bits binary64 0x4000_0000_0000_0000) pi
 unfolding two_pi pi of_bits mul
 two_pi_is = refl
 

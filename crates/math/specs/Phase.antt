@@ -1,15 +1,12 @@
 -- The two phase wraps of math.rs, each operation rounded once in the Rust's order, for every `f64`.
 use Rattle.std.specs.Prelude.{cond, from_bits, Float}
 use Rattle.std.specs.Float.{binary64}
-use Rattle.std.specs.Float.Ieee.{add, sub, mul, neg, rem, lt, le}
+use Rattle.std.specs.Float.Ieee.{add, sub, neg, rem, lt, le}
+unfoldable pub use Rattle.float_remainder.specs.Turn.{two_pi}
 
 -- The `f64` nearest to π: Rust's `std::f64::consts::PI`.
 unfoldable pub pi : Float
 pi = from_bits binary64 0x4009_21fb_5444_2d18
-
--- 2.0 * PI
-unfoldable pub two_pi : Float
-two_pi = mul binary64 (from_bits binary64 0x4000_0000_0000_0000) pi
 
 -- Rust's `x.rem_euclid(m)` for an m above 0: the remainder has the sign of x, and m is added to a negative one.
 unfoldable pub rem_euclid : Float → Float → Float

@@ -5,17 +5,15 @@ ghost use Rattle.std.specs.Prelude.{◌≡◌};
 ghost use Rattle.math.specs.Phase.{rem_euclid, two_pi, phase_wrap, phase_wrap_once};
 ghost use Rattle.math.specs.Carrier.{reduced, horner_of, sine_sum, cosine_sum, quadrant, sin_cos};
 
-pub const PI: f64 = 3.141592653589793;
-
-const TWO_PI: f64 = 6.283185307179586;
+use std::f64::consts::{FRAC_PI_2, FRAC_PI_4, PI, TAU};
 
 // The remainder by 2 PI that is not negative, as Rust's `rem_euclid`.
-#[tactic(auto, using(crate::proofs::Literals::two_pi_is), unfolding(crate::specs::Phase::rem_euclid, float_remainder::specs::Turn::turn))]
+#[tactic(auto, unfolding(crate::specs::Phase::rem_euclid, float_remainder::specs::Turn::two_pi))]
 fn rem_two_pi(x: f64) -> f64
     ensures { result ≡ rem_euclid x two_pi }
 {
     let rest = float_remainder::rem_two_pi(x);
-    if rest < 0.0 { rest + TWO_PI } else { rest }
+    if rest < 0.0 { rest + TAU } else { rest }
 }
 
 // Wraps a phase to -PI to PI.
@@ -27,14 +25,14 @@ pub fn phase_wrap_f64(phase: f64) -> f64
 }
 
 // Wraps a phase that lies within 3 PI of 0.
-#[tactic(auto, using(crate::proofs::Literals::pi_is, crate::proofs::Literals::two_pi_is), unfolding(crate::specs::Phase::phase_wrap_once))]
+#[tactic(auto, using(crate::proofs::Literals::pi_is), unfolding(crate::specs::Phase::phase_wrap_once, float_remainder::specs::Turn::two_pi))]
 pub fn phase_wrap_once_f64(phase: f64) -> f64
     ensures { result ≡ phase_wrap_once phase }
 {
     if phase >= PI {
-        phase - TWO_PI
+        phase - TAU
     } else if phase < -PI {
-        phase + TWO_PI
+        phase + TAU
     } else {
         phase
     }
@@ -53,12 +51,8 @@ pub struct SinCos {
     pub cos: f64,
 }
 
-const HALF_PI: f64 = 1.5707963267948966;
-
-// 1.5 and 0.5 times HALF_PI.
+// 1.5 times PI / 2. Half of PI / 2 is FRAC_PI_4.
 const OUTER_LIMIT: f64 = 2.356194490192345;
-
-const INNER_LIMIT: f64 = 0.7853981633974483;
 
 #[tactic(auto, using(crate::proofs::Literals::pi_is, crate::proofs::Literals::half_pi_is, crate::proofs::Literals::outer_limit_is, crate::proofs::Literals::inner_limit_is), unfolding(crate::specs::Carrier::reduced))]
 fn reduce(p: f64) -> Reduced
@@ -67,18 +61,18 @@ fn reduce(p: f64) -> Reduced
     if p < -OUTER_LIMIT {
         return Reduced { r: p + PI, q: 2 };
     }
-    if p < -INNER_LIMIT {
+    if p < -FRAC_PI_4 {
         return Reduced {
-            r: p + HALF_PI,
+            r: p + FRAC_PI_2,
             q: 3,
         };
     }
-    if p < INNER_LIMIT {
+    if p < FRAC_PI_4 {
         return Reduced { r: p, q: 0 };
     }
     if p < OUTER_LIMIT {
         return Reduced {
-            r: p - HALF_PI,
+            r: p - FRAC_PI_2,
             q: 1,
         };
     }

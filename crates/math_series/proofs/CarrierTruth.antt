@@ -6,7 +6,7 @@ use native.Mathlib.Omega.{arith}
 use mathlib.Core.Bool.{Bool, true, false}
 use lib.Dec.{T, lit≤}
 use lib.Pow.{pow_pos}
-use lib.Ieee.{Float, neg, le}
+use lib.Ieee.{Float, neg}
 use lib.Ieee.Scale.{finite}
 use Rattle.float_rounding.proofs.Val.{Val}
 use Rattle.float_rounding.proofs.Size.{within_finite}

@@ -1,6 +1,6 @@
 -- Laws of signed fractions: when two are the same number, order, and how a distance is carried over.
 use mathlib.Core.Path.{◌≡◌, refl, sym, ap, ◌∙◌, subst}
-use Prim.Native.Nat.{ℕ, ◌+◌, ◌-◌, ◌*◌, ◌≤◌, ◌<◌}
+use Prim.Native.Nat.{ℕ, ◌+◌, ◌*◌, ◌≤◌, ◌<◌}
 use native.Mathlib.Nat.{le_refl, le_trans, le_of_eq, le_antisymm, mul-one, one-mul, zero-mul, mul-zero, zero-add, add-zero, mul_comm, mul_assoc, mul_left_comm, mul-le-mul_right, le_of_mul-le-mul_right, add-mul, mul-add, add_comm, add_assoc, add_left_comm}
 use native.Mathlib.Omega.{arith}
 use mathlib.Core.Bool.{true}

@@ -19,16 +19,16 @@ pub struct Reply {
     pub bytes: [u8; 14],
 }
 
-// The message types, in the order of their numbers 0 to 6.
+// The message types, with the numbers that the specification gives them.
 #[derive(Clone, Copy)]
 pub enum MessageType {
-    ExtendedSquitter,
-    AcquisitionSquitter,
-    ShortAp,
-    AllCallReply,
-    LongAp,
-    MilitaryExtendedSquitter,
-    ModeAc,
+    ExtendedSquitter = 0,
+    AcquisitionSquitter = 1,
+    ShortAp = 2,
+    AllCallReply = 3,
+    LongAp = 4,
+    MilitaryExtendedSquitter = 5,
+    ModeAc = 6,
 }
 
 // The fields of a draw that a reply is made of.
@@ -42,7 +42,7 @@ pub struct Picks {
     pub spi: u8,
 }
 
-// The type of a number.
+// The type of a number, none where no type has it: no `TryFrom`, whose error would say nothing more.
 #[tactic(auto, using(crate::proofs::Numbers::none_above), unfolding(crate::specs::Types::type_numbered))]
 pub fn message_type(n: u8) -> Option<MessageType>
     ensures { result ≡ type_numbered n }
@@ -64,13 +64,5 @@ pub fn message_type(n: u8) -> Option<MessageType>
 pub fn type_number(t: MessageType) -> u8
     ensures { result ≡ type_number t }
 {
-    match t {
-        MessageType::ExtendedSquitter => 0,
-        MessageType::AcquisitionSquitter => 1,
-        MessageType::ShortAp => 2,
-        MessageType::AllCallReply => 3,
-        MessageType::LongAp => 4,
-        MessageType::MilitaryExtendedSquitter => 5,
-        MessageType::ModeAc => 6,
-    }
+    t as u8
 }

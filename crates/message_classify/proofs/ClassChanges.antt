@@ -85,7 +85,7 @@ first_class b e = ap (λ (x : Option Class). option_or x (type_class (kind_class
 
 changed : (b : List ℕ) → is_tis_b (get_or b 0 0) ≡ true → (class_number (type_class (kind_class Long b)) ≡ 0) × (class_number (class_by Long b) ≡ 7)
 unfolding class_number type_class type_number
-changed b e = (ap (λ (t : (Option MessageType)). class_number (type_class t)) (an_extended_squitter b e), ap class_number (first_class b e))
+changed b e = (ap (λ (t : Option MessageType). class_number (type_class t)) (an_extended_squitter b e), ap class_number (first_class b e))
 
 long_kept : (b : List ℕ) → is_tis_b (get_or b 0 0) ≡ false → class_by Long b ≡ type_class (kind_class Long b)
 unfolding class_by is_long relay_class
@@ -101,7 +101,7 @@ mode_ac_kept b = refl
 
 -- ---- 7 read as 0
 
-type_kept : (f : (Option MessageType)) → seven_as_zero (type_class f) ≡ f
+type_kept : (f : Option MessageType) → seven_as_zero (type_class f) ≡ f
 unfolding seven_as_zero type_class
 type_kept (Some t) = refl
 type_kept None = refl

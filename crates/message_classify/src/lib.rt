@@ -1,13 +1,14 @@
 // Classing: TIS-B, or the message type of a reply by its length and format.
 #![tactic(auto)]
 
-ghost use Rattle.std.specs.Prelude.{◌≡◌, ◌/◌};
+ghost use Rattle.std.specs.Prelude.{◌≡◌, ◌/◌, true};
 ghost use Rattle.std.specs.Option.{option_or};
 ghost use Rattle.message_classify.specs.Classing.{eleven_class, short_class, long_class, is_tis_b, relay_class, type_class, class_of, class_of_bytes};
 
 use message::{MessageType, Reply, ReplyKind};
 
 // What classing answers. TIS-B is no type: no draw is of it, no rate is its, and no record holds it.
+// An enum of its own and no Option: TIS-B is a class by name, and a reply that has no class is `None`.
 #[derive(Clone, Copy)]
 pub enum Class {
     OfType(MessageType),
@@ -59,18 +60,18 @@ fn is_tis_b(first: u8) -> bool
 }
 
 #[tactic(auto, unfolding(crate::specs::Classing::relay_class))]
-fn relay_class(long: bool, first: u8) -> Option<Class>
-    ensures { result ≡ relay_class long first }
+fn relay_class(first: u8) -> Option<Class>
+    ensures { result ≡ relay_class true first }
 {
-    (long && is_tis_b(first)).then_some(Class::TisB)
+    is_tis_b(first).then_some(Class::TisB)
 }
 
-// Both rules hold for a TIS-B message, so their order counts.
+// A long message, by both rules: both hold for a TIS-B message, so their order counts.
 #[tactic(auto, unfolding(crate::specs::Classing::type_class))]
-fn classed(long: bool, first: u8, found: Option<MessageType>) -> Option<Class>
-    ensures { result ≡ option_or (relay_class long first) (type_class found) }
+fn long_classed(first: u8) -> Option<Class>
+    ensures { result ≡ option_or (relay_class true first) (type_class (long_class (first / 8))) }
 {
-    relay_class(long, first).or(found.map(Class::OfType))
+    relay_class(first).or(long_class(first).map(Class::OfType))
 }
 
 // The class of a reply.
@@ -80,8 +81,8 @@ pub fn from_message(r: Reply) -> Option<Class>
 {
     let first = r.bytes[0];
     match r.kind {
-        ReplyKind::Short => classed(false, first, short_class(first / 8, &r.bytes[..7])),
-        ReplyKind::Long => classed(true, first, long_class(first)),
+        ReplyKind::Short => short_class(first / 8, &r.bytes[..7]).map(Class::OfType),
+        ReplyKind::Long => long_classed(first),
         ReplyKind::ModeAc => Some(Class::OfType(MessageType::ModeAc)),
     }
 }
@@ -92,8 +93,8 @@ pub fn of_bytes(m: &[u8]) -> Option<Class>
     ensures { result ≡ class_of_bytes m.now }
 {
     match m.len() {
-        7 => classed(false, m[0], short_class(m[0] / 8, m)),
-        14 => classed(true, m[0], long_class(m[0])),
+        7 => short_class(m[0] / 8, m).map(Class::OfType),
+        14 => long_classed(m[0]),
         2 => Some(Class::OfType(MessageType::ModeAc)),
         _ => None,
     }

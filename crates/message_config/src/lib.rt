@@ -9,6 +9,7 @@ ghost use Rattle.message_config.specs.Config.{config_start, onset_of};
 
 use constants::SamplesPerPulse;
 use message::{Reply, ReplyKind};
+use std::f64::consts::TAU;
 
 // A message's five floats with its reply.
 #[derive(Clone, Copy)]
@@ -79,7 +80,7 @@ impl MessageConfig {
     }
 
     // How the samples begin.
-    #[tactic(auto, unfolding(crate::specs::Config::onset_of, crate::specs::Config::config_start, crate::specs::Config::config_clock_error, crate::specs::Config::config_clock_phase, crate::specs::Config::config_rate, crate::specs::Config::config_phase, crate::specs::Timing::start_of, crate::specs::Timing::clock_phase, crate::specs::Carrier::carrier_rate, crate::specs::Carrier::first_phase), using(crate::proofs::Literals::one_is, math::proofs::Literals::two_pi_is))]
+    #[tactic(auto, unfolding(crate::specs::Config::onset_of, crate::specs::Config::config_start, crate::specs::Config::config_clock_error, crate::specs::Config::config_clock_phase, crate::specs::Config::config_rate, crate::specs::Config::config_phase, crate::specs::Timing::start_of, crate::specs::Timing::clock_phase, crate::specs::Carrier::carrier_rate, crate::specs::Carrier::first_phase, math::specs::Phase::two_pi), using(crate::proofs::Literals::one_is))]
     pub fn onset(self, setting: SamplesPerPulse, delays: Delays) -> Onset
         ensures { result ≡ onset_of (per_pulse setting) delays self }
     {
@@ -88,7 +89,7 @@ impl MessageConfig {
         let first = std::num::nearest_i64_to_f64(float_to_int::ceil_to_i64(unrounded));
         let error = filter_clock_error(kind, self.error);
         let second = std::num::nearest_u64_to_f64(2_000_000 * setting.number());
-        let turn = 6.283185307179586 * self.offset / second;
+        let turn = TAU * self.offset / second;
         Onset {
             clock_error: error,
             clock_phase: (first - unrounded) * (1.0 + error),

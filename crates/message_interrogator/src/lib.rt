@@ -30,7 +30,7 @@ fn overlay(m: &[u8]) -> u32
     requires { length m.now ≡ 7 }
     ensures { result ≡ overlay_of m.now }
 {
-    let last = (u32::from(m[4]) * 256 + u32::from(m[5])) * 256 + u32::from(m[6]);
+    let last = u32::from_be_bytes([0, m[4], m[5], m[6]]);
     mode_s::parity(&m[..4]) ^ last
 }
 

@@ -11,11 +11,8 @@ use message::{MessageType, Picks, Reply, ReplyKind};
 fn parity_bytes(p: u32) -> [u8; 3]
     ensures { result ≡ p / 65536 % 256 ∷ p / 256 % 256 ∷ p % 256 ∷ [] }
 {
-    [
-        (p / 65536 % 256) as u8,
-        (p / 256 % 256) as u8,
-        (p % 256) as u8,
-    ]
+    let [_, high, middle, low] = p.to_be_bytes();
+    [high, middle, low]
 }
 
 // A long message: 11 bytes, the first one given, and their parity.
@@ -62,6 +59,7 @@ fn short_with_parity(head: [u8; 4], overlay: u8) -> Reply
     }
 }
 
+// Each maker asks that its own fields are in range, for each type another fact, which no one struct would carry.
 #[tactic(auto, using(message::proofs::InRange::extended_format, message::proofs::InRange::control_pick, message::proofs::InRange::capability_pick, message::proofs::Replies::control_reply, message::proofs::Replies::capability_reply))]
 fn extended_squitter(p: Picks) -> Reply
     requires { field_fault MessageType.ExtendedSquitter p ≡ None }
@@ -165,7 +163,7 @@ fn reply_of(t: MessageType, p: Picks) -> Reply
     }
 }
 
-// The reply of a type, or the first field at fault.
+// The reply of a type, or the first field at fault, by its place among a draw's fields.
 #[tactic(auto, unfolding(message::specs::Making::made, message::specs::Making::made_where))]
 pub fn make(t: MessageType, p: Picks) -> Result<Reply, u64>
     ensures { result ≡ made t p }

@@ -8,6 +8,7 @@ ghost use Rattle.message_interrogator.specs.Interrogators.{kind_number, code_num
 use message_classify::Class;
 use message_interrogator::Interrogator;
 
+// By a match, here and below: the numbers are those of the C interface, and two cases may share one.
 // The number of a class: its type's, 7 for TIS-B, 255 for none.
 #[tactic(auto, unfolding(message_classify::specs::Classing::class_number))]
 pub fn class_number(c: Option<Class>) -> u8

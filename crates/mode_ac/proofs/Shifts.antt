@@ -1,12 +1,13 @@
 -- Each of the twelve bits, found by shifting the data.
-use mathlib.Core.Path.{◌≡◌, refl, ap, ◌∙◌}
+use mathlib.Core.Path.{◌≡◌, refl, sym, ap, ◌∙◌}
 use mathlib.Core.Bool.{Bool, false}
 use mathlib.Core.List.{List, [], ◌∷◌, map}
-use Prim.Native.Nat.{ℕ, zero, suc, ◌/◌, ◌%◌, ◌^◌, ◌<◌}
+use Prim.Native.Nat.{ℕ, zero, suc, ◌/◌, ◌%◌, ◌^◌, ◌<◌, ◌≤◌}
 use native.Mathlib.Nat.{le_of_suc-le-suc, not-suc-le-zero, div-div-eq-div-mul}
 use native.Mathlib.Omega.{arith}
 use lib.Dec.{eqb}
 use lib.ListN.{length, get_or}
+use Rattle.std.proofs.Math.ListN.{get_or-eq_default}
 use Rattle.mode_ac.specs.Data.{bits_of, bit_of}
 
 abbrev pub shifts : List ℕ
@@ -44,3 +45,8 @@ bits n =
 pub bit_by_shift : (n k : ℕ) → k < 12 → eqb (n / 2 ^ (get_or shifts k 0 % 16) % 2) 1 ≡ bit_of n k
 unfolding bit_of
 bit_by_shift n k h = agree (shifted n) shifts k h ∙ ap (λ (l : List Bool). get_or l k false) (bits n)
+
+-- and there is none beyond the twelve
+pub no_bit : (n k : ℕ) → 12 ≤ k → false ≡ bit_of n k
+unfolding bit_of bits_of
+no_bit n k h = sym (get_or-eq_default (bits_of n) false h)

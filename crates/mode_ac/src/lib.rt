@@ -108,7 +108,7 @@ pub fn position_of(n: usize) -> usize
 }
 
 // The n-th bit of the data.
-#[tactic(auto, unfolding(crate::specs::Data::bit_of, crate::specs::Data::bits_of))]
+#[tactic(auto, using(crate::proofs::Shifts::bit_by_shift, crate::proofs::Shifts::no_bit))]
 pub fn bit_of(data: u16, n: usize) -> bool
     ensures { result ≡ bit_of «data» n }
 {

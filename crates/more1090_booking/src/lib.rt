@@ -6,6 +6,7 @@ ghost use Rattle.run_booking.specs.Booking.{booking_of};
 ghost use Rattle.run_booking.specs.Booked.{figures_read, booked_read};
 ghost use Rattle.more1090_booking.specs.Flat.{zero64, booking_flat, ended_flat};
 
+use pulse_shape::Filters;
 use refusals::Refusal;
 use run_booking::Figures;
 use run_booking_walk::End;
@@ -26,35 +27,37 @@ pub struct FlatBooking {
     pub field: u64,
 }
 
+const ZEROS: FlatBooking = FlatBooking {
+    samples: 0,
+    noise: 0,
+    records: 0,
+    taken: 0,
+    ended: 0,
+    draw: 0,
+    time: 0.0,
+    refusal: 0,
+    value: 0,
+    field: 0,
+};
+
 #[tactic(auto, unfolding(crate::specs::Flat::ended_flat, run_booking::specs::Booked::figures_read, run_booking_walk::specs::Answered::end_read))]
 fn figures_out(f: Figures) -> FlatBooking
     ensures { result ≡ ended_flat (figures_read f) (figures_read f).end }
 {
+    let counts = FlatBooking {
+        samples: f.samples,
+        noise: f.noise,
+        records: f.records,
+        taken: f.taken,
+        ..ZEROS
+    };
     match f.end {
         End::Draw(k) => FlatBooking {
-            samples: f.samples,
-            noise: f.noise,
-            records: f.records,
-            taken: f.taken,
             ended: 1,
             draw: k,
-            time: 0.0,
-            refusal: 0,
-            value: 0,
-            field: 0,
+            ..counts
         },
-        End::RanOut(time) => FlatBooking {
-            samples: f.samples,
-            noise: f.noise,
-            records: f.records,
-            taken: f.taken,
-            ended: 0,
-            draw: 0,
-            time,
-            refusal: 0,
-            value: 0,
-            field: 0,
-        },
+        End::RanOut(time) => FlatBooking { time, ..counts },
     }
 }
 
@@ -64,16 +67,10 @@ fn refusal_out(q: Refusal) -> FlatBooking
 {
     let v = refusal_values::values_of(q);
     FlatBooking {
-        samples: 0,
-        noise: 0,
-        records: 0,
-        taken: 0,
-        ended: 0,
-        draw: 0,
-        time: 0.0,
         refusal: q.number(),
         value: v.value,
         field: v.field,
+        ..ZEROS
     }
 }
 
@@ -98,7 +95,11 @@ pub extern "C" fn more1090_booking_part(
 ) -> FlatBooking
     ensures { result ≡ booking_flat (booking_of taps_s.now taps_ac.now time settings.now draws.now) }
 {
-    booked_out(run_booking::booking(time, settings, taps_s, taps_ac, draws))
+    let taps = Filters {
+        mode_s: taps_s,
+        mode_ac: taps_ac,
+    };
+    booked_out(run_booking::booking(time, settings, taps, draws))
 }
 
 // What a run of these settings, filters and draws will use.

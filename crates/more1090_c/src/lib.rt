@@ -1,4 +1,4 @@
-// The library for C: each function calls the one of its name, and promises what that promises.
+// The library for C: each function calls the one of its name, and promises what that promises. A static library exports its own functions alone, so each name stands here once more.
 #![tactic(auto)]
 
 ghost use Rattle.std.specs.Prelude.{◌≡◌, length};

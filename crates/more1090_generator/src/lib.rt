@@ -10,6 +10,7 @@ ghost use Rattle.more1090_generator.specs.Answers.{opened_flat, answered, ran_fl
 
 use distributions::{CarrierOffset, CarrierPhase, ClockError};
 use message_config::Delays;
+use pulse_shape::Filters;
 use refusals::Refusal;
 use run_call::{Counts, Ran, State, Stop};
 use settings::{Distributions, MessagesPerSecond};
@@ -61,7 +62,7 @@ pub struct FlatOpened {
     pub value: u64,
 }
 
-// What a run call answers beside its state: refusal 0 is none, stop 5 is none.
+// What a run call answers beside its state, in C's numbers: refusal 0 is none, stop 5 is none.
 #[repr(C)]
 #[derive(Clone, Copy)]
 pub struct FlatAnswer {
@@ -84,7 +85,7 @@ pub struct FlatRan {
     pub answer: FlatAnswer,
 }
 
-// The conversions are functions and no `From`: each is used once, and its contract names its definition.
+// The conversions are functions and no `From`: an impl for each pair of types, with a ghost member that says the same definition, is no plainer.
 #[tactic(auto, unfolding(crate::specs::States::carrier_flat, crate::specs::States::distribution_of))]
 fn carrier_out(d: CarrierOffset) -> FlatDistribution
     ensures { result ≡ carrier_flat d }
@@ -289,15 +290,10 @@ fn opened_out(o: Result<State, Refusal>) -> FlatOpened
 fn stop_number(w: Stop) -> u64
     ensures { result ≡ stop_number w }
 {
-    match w {
-        Stop::Done => 0,
-        Stop::OutputFull => 1,
-        Stop::WantsNoise => 2,
-        Stop::WantsDraws => 3,
-        Stop::RecordsFull => 4,
-    }
+    w as u64
 }
 
+// The four numbers behind the counts stand apart, as in the struct that C has.
 #[tactic(auto, unfolding(crate::specs::Answers::flat_answer))]
 fn flat_answer(n: Counts, stop: u64, refusal: u64, value: u64, field: u64) -> FlatAnswer
     ensures { result ≡ Rattle.more1090_generator.specs.Answers.flat_answer n stop refusal value field }
@@ -351,7 +347,11 @@ pub extern "C" fn more1090_open(
 ) -> FlatOpened
     ensures { (result ≡ opened_flat (opened_of four taps_s.now taps_ac.now settings.now (record { mode_s = mode_s.old; mode_ac = mode_ac.old; memory = memory.old }))) × (record { mode_s = mode_s.new; mode_ac = mode_ac.new; memory = memory.new } ≡ left_by four taps_s.now taps_ac.now (opened_of four taps_s.now taps_ac.now settings.now (record { mode_s = mode_s.old; mode_ac = mode_ac.old; memory = memory.old })) (record { mode_s = mode_s.old; mode_ac = mode_ac.old; memory = memory.old })) }
 {
-    opened_out(run_open::open(settings, taps_s, taps_ac, mode_s, mode_ac, memory))
+    let taps = Filters {
+        mode_s: taps_s,
+        mode_ac: taps_ac,
+    };
+    opened_out(run_open::open(settings, taps, mode_s, mode_ac, memory))
 }
 
 // A run call on a state that a call returned, or on any other numbers.
@@ -370,6 +370,6 @@ pub extern "C" fn more1090_run(
     ensures { record { ran = result; memory = memory.new; output = output.new; records = records.new } ≡ flat_run_left state mode_s.now mode_ac.now memory.old draws.now noise.now output.old records.old }
 {
     let s = state_in(state);
-    let r = run_call::run(s, mode_s, mode_ac, memory, draws, noise, output, records);
-    ran_out(r)
+    let prototypes = Filters { mode_s, mode_ac };
+    ran_out(run_call::run(s, prototypes, memory, draws, noise, output, records))
 }

@@ -1,6 +1,5 @@
 -- What holding a log against records answers, as C has it.
-use Rattle.std.specs.Prelude.{Result, Ok, Err}
-use Rattle.std.specs.Prelude.{List, ℕ}
+use Rattle.std.specs.Prelude.{Result, Ok, Err, List, ℕ}
 use Rattle.refusals.specs.Number.{number_of}
 use Rattle.refusals.specs.declared.Refusal.{Refusal}
 use Rattle.refusal_values.specs.Flat.{values_flat}

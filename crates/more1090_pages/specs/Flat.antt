@@ -1,7 +1,6 @@
 -- Pages and lines as C has them.
-use Rattle.std.specs.Prelude.{Option, Some, None, Result, Ok, Err}
+use Rattle.std.specs.Prelude.{Option, Some, None, Result, Ok, Err, ℕ, List, replicate}
 use Rattle.refusals.specs.declared.Refusal.{Refusal}
-use Rattle.std.specs.Prelude.{ℕ, List, replicate}
 use Rattle.refusals.specs.Number.{number_of}
 use Rattle.refusal_values.specs.Flat.{values_flat}
 use Rattle.page_read.specs.declared.LineFields.{LineFields}

@@ -6,6 +6,7 @@ ghost use Rattle.single_theory.specs.Single.{single_run, single_output};
 ghost use Rattle.single_run.specs.Answer.{answer_of};
 ghost use Rattle.more1090_single.specs.Flat.{single_flat};
 
+use pulse_shape::Filters;
 use refusals::Refusal;
 
 // Refusal 0 is none.
@@ -50,5 +51,9 @@ pub extern "C" fn more1090_single(
 ) -> FlatSingle
     ensures { (result ≡ single_flat (answer_of (single_run settings.now taps_s.now taps_ac.now draw.now noise.now (length output.old)))) × (output.new ≡ single_output settings.now taps_s.now taps_ac.now draw.now noise.now output.old) }
 {
-    single_out(single_run::single(settings, taps_s, taps_ac, draw, noise, output))
+    let taps = Filters {
+        mode_s: taps_s,
+        mode_ac: taps_ac,
+    };
+    single_out(single_run::single(settings, taps, draw, noise, output))
 }

@@ -3,16 +3,15 @@ use Rattle.std.specs.Prelude.{Option, Some, None, Result, Ok, Err, is_ok}
 use Rattle.refusals.specs.declared.Refusal.{Refusal}
 use Rattle.refusals.specs.declared.Refusal.TheVariants.{Length}
 use Prim.Native.Nat.{ℕ, ◌+◌, ◌*◌, ◌/◌, ◌%◌, ◌≤◌}
-use mathlib.Core.Path.{◌≡◌, refl, sym, ap, ◌∙◌, subst}
+use mathlib.Core.Path.{◌≡◌, refl}
 use mathlib.Core.Bool.{Bool, true, false, cond}
 use mathlib.Core.List.{List}
 use native.Mathlib.Omega.{arith}
 use lib.Dec.{eqb, leb}
 use lib.ListN.{length}
 use borrow.Author.Tests.{leb-true}
-use Rattle.le_read.specs.LeBytes.{overwritten}
 use Rattle.record_check.specs.FirstFault.{first_fault}
-use Rattle.page_fill.specs.Pages.{page_count, pages_text, by_fault, pages_answer, pages_left}
+use Rattle.page_fill.specs.Pages.{page_count, by_fault, pages_answer}
 
 pub pages_within : (n : ℕ) → (n ≤ 60 * page_count n) × (60 * page_count n ≤ n + 59)
 unfolding page_count

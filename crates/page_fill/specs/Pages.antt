@@ -1,7 +1,6 @@
 -- Records on paper (SPECIFICATION 11.5): their pages, and what is answered.
-use Rattle.std.specs.Prelude.{Option, Some, None, Result, Ok, Err}
+use Rattle.std.specs.Prelude.{Option, Some, None, Result, Ok, Err, ℕ, zero, suc, ◌+◌, ◌-◌, ◌*◌, ◌/◌, ◌%◌, is_ok, cond, List, [], ◌++◌, eqb, leb, length}
 use Rattle.refusals.specs.declared.Refusal.{Refusal}
-use Rattle.std.specs.Prelude.{ℕ, zero, suc, ◌+◌, ◌-◌, ◌*◌, ◌/◌, ◌%◌, is_ok, cond, List, [], ◌++◌, eqb, leb, length}
 use Rattle.le_read.specs.LeBytes.{overwritten}
 use Rattle.refusals.specs.declared.Refusal.TheVariants.{Length, Record}
 use Rattle.record_check.specs.FirstFault.{first_fault}
@@ -27,12 +26,12 @@ unfoldable pub pages_text : List ℕ → List ℕ
 pages_text records = record_lines (length records / 66) records ++ blank_lines (60 * page_count (length records / 66) - length records / 66)
 
 -- what is answered where the lengths are right: refusal 18 with the first record at fault, or the pages written
-unfoldable pub by_fault : (Option ℕ) → ℕ → (Result ℕ Refusal)
+unfoldable pub by_fault : Option ℕ → ℕ → Result ℕ Refusal
 by_fault None pages = Ok pages
 by_fault (Some k) pages = Err (Record k)
 
 -- what is answered for records and room in bytes: refusal 9 for record bytes no multiple of 66 or room for fewer bytes than the pages have, before 18
-unfoldable pub pages_answer : List ℕ → ℕ → (Result ℕ Refusal)
+unfoldable pub pages_answer : List ℕ → ℕ → Result ℕ Refusal
 pages_answer records room =
     cond (eqb (length records % 66) 0)
     (cond (leb (4380 * page_count (length records / 66)) room) (by_fault (first_fault records) (page_count (length records / 66))) (Err Length))

@@ -8,16 +8,16 @@ use native.Mathlib.Omega.{arith}
 use lib.Dec.{eqb}
 use lib.ListN.{length, get_or, take, drop, set, length-append, length-take, length-replicate, replicate-append-replicate}
 use borrow.Author.Tests.{le-leb}
-use Rattle.le_read.specs.LeBytes.{inside, overwritten, number_at}
+use Rattle.le_read.specs.LeBytes.{overwritten, number_at}
 use Rattle.le_read.proofs.Halves.{overwritten_append}
 use Rattle.le_read.proofs.RoundTrip.{length_overwritten}
 use Rattle.reply_record.proofs.Overwritten.{next}
-use Rattle.record_check.specs.Accepted.{first_sample, type_of, count_of, accepted}
+use Rattle.record_check.specs.Accepted.{first_sample, type_of, count_of}
 use Rattle.record_check.specs.FaultLaws.{InRange}
 use Rattle.record_check.proofs.Accepting.{number_is}
 use Rattle.tape_text.specs.Text.{decimal, hex, hex_line, message_of, message_fits, message_at, message_end}
 use Rattle.tape_text.proofs.Puts.{length_hex}
-use Rattle.page_line.specs.Line.{blanks, right_aligned, left_aligned, number_field, numbers, message_field, page_line, blank_line, with_feed, line_fits, line_at, blank_at}
+use Rattle.page_line.specs.Line.{blanks, right_aligned, left_aligned, number_field, numbers, message_field, page_line, with_feed}
 use Rattle.page_line.specs.TensModel.{tens}
 use Rattle.page_line.proofs.Aligned.{length_tens, aligned, length_aligned}
 use Rattle.page_line.proofs.Columns.{byte_behind}
@@ -123,17 +123,19 @@ module _ (r : List ℕ) (i : InRange r) where
       length-append (numbers (first_sample r) (type_of r) (count_of r)) (message_field (message_of r))
       ∙ (λ k. length_numbers (first_sample r) (type_of r) (count_of r) below.0 below.1 below.2 k + length_message (message_of r) (message_short r) k)
 
-  module _ (s : List ℕ) (at : ℕ) (h : at + 73 ≤ length s) {first kind count : ℕ} (u : first ≡ number_at 8 r 40) (b : kind ≡ type_of r) (v : count ≡ number_at 2 r 49) {d : List ℕ} (p : d ≡ overwritten s at (numbers first kind count)) where
-    numbers_there : d ≡ overwritten s at (numbers (first_sample r) (type_of r) (count_of r))
-    numbers_there =
-        let w = i.whole in
-        p ∙ (λ k. overwritten s at (numbers (number_is r 8 40 first (omega arith) u k) (b k) (number_is r 2 49 count (omega arith) v k)))
+  -- the numbers that are read are the record's
+  pub numbers_there : (s : List ℕ) (at : ℕ) {first kind count : ℕ} {d : List ℕ} → first ≡ number_at 8 r 40 → kind ≡ type_of r → count ≡ number_at 2 r 49 → d ≡ overwritten s at (numbers first kind count)
+      → d ≡ overwritten s at (numbers (first_sample r) (type_of r) (count_of r))
+  numbers_there s at {first} {kind} {count} u b v p =
+      let w = i.whole in
+      p ∙ (λ k. overwritten s at (numbers (number_is r 8 40 first (omega arith) u k) (b k) (number_is r 2 49 count (omega arith) v k)))
 
+  module _ (s : List ℕ) (at : ℕ) (h : at + 73 ≤ length s) {d : List ℕ} (p : d ≡ overwritten s at (numbers (first_sample r) (type_of r) (count_of r))) where
     l : length (numbers (first_sample r) (type_of r) (count_of r)) ≡ 24
     l = length_numbers (first_sample r) (type_of r) (count_of r) below.0 below.1 below.2
 
     pub numbers_room : length d ≡ length s
-    numbers_room = ap length numbers_there ∙ length_overwritten s at (numbers (first_sample r) (type_of r) (count_of r)) (omega (arith, l))
+    numbers_room = ap length p ∙ length_overwritten s at (numbers (first_sample r) (type_of r) (count_of r)) (omega (arith, l))
 
     fits : message_fits r d (at + 24) ≡ true
     unfolding message_fits
@@ -157,31 +159,5 @@ module _ (r : List ℕ) (i : InRange r) where
         let size : n ≡ 48 - 2 * k = omega arith in
         let from : start ≡ at + 24 + 2 * k = omega arith in
         let body = message_put (message_of r) y d (at + 24) (omega (arith, numbers_room)) there (q ∙ (λ j. overwritten e (from j) (blanks (size j) ++ (10 ∷ [])))) in
-        next s at 24 (numbers (first_sample r) (type_of r) (count_of r)) (message_field (message_of r) ++ (10 ∷ [])) d g l (omega arith) numbers_there body
+        next s at 24 (numbers (first_sample r) (type_of r) (count_of r)) (message_field (message_of r) ++ (10 ∷ [])) d g l (omega arith) p body
         ∙ ap (overwritten s at) (sym (append_assoc (numbers (first_sample r) (type_of r) (count_of r)) (message_field (message_of r)) (10 ∷ [])))
-
--- ---- a line put or not, by whether it fits
-module _ (r s : List ℕ) (at : ℕ) {t : Bool} (room : t ≡ inside 73 s at) where
-  -- what a call leaves
-  abbrev pub Left : Bool → List ℕ → Type 0
-  Left b out = (b ≡ line_fits r s at) × (out ≡ line_at r s at)
-
-  module _ {a : Bool} (e : a ≡ accepted r) where
-    decided : (b : Bool) → (a && t) ≡ b → b ≡ line_fits r s at
-    unfolding line_fits
-    decided b f = sym f ∙ (λ i. e i && room i)
-
-    pub done : {out : List ℕ} → (a && t) ≡ true → out ≡ overwritten s at (with_feed (page_line r)) → Left true out
-    unfolding line_at
-    done f p = (decided true f, p ∙ sym (ap (λ (b : Bool). cond b (overwritten s at (with_feed (page_line r))) s) (sym (decided true f))))
-
-  abbrev pub LeftBlank : Bool → List ℕ → Type 0
-  LeftBlank b out = (b ≡ inside 73 s at) × (out ≡ blank_at s at)
-
-  pub blank_kept : t ≡ false → LeftBlank false s
-  unfolding blank_at
-  blank_kept f = (sym f ∙ room, sym (ap (λ (b : Bool). cond b (overwritten s at (with_feed blank_line)) s) (sym room ∙ f)))
-
-  pub blank_done : {out : List ℕ} → t ≡ true → out ≡ overwritten s at (blanks 72 ++ (10 ∷ [])) → LeftBlank true out
-  unfolding blank_at with_feed blank_line
-  blank_done f p = (sym f ∙ room, p ∙ sym (ap (λ (b : Bool). cond b (overwritten s at (with_feed blank_line)) s) (sym room ∙ f)))

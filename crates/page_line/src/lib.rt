@@ -3,7 +3,7 @@
 
 ghost use Rattle.std.specs.Prelude.{◌≡◌, true, [], ◌∷◌, ◌++◌, ◌+◌, ◌*◌, ◌^◌, ◌≤◌, ◌<◌, length, replicate};
 ghost use Rattle.le_read.specs.LeBytes.{inside, overwritten};
-ghost use Rattle.record_check.specs.Accepted.{accepted};
+ghost use Rattle.record_check.specs.Accepted.{accepted, first_sample, type_of, count_of};
 ghost use Rattle.page_line.specs.Line.{number_field, numbers, page_line, with_feed, line_fits, line_at, blank_at};
 ghost use Rattle.page_line.specs.TensModel.{tens_digit, tens};
 
@@ -31,7 +31,7 @@ fn tens_digit(n: u64) -> u8
     if n == 0 { BLANK } else { 48 + (n % 10) as u8 }
 }
 
-// A number in its columns, blanks in front of it, and for 0 blanks alone; from the last column to the first.
+// A number in its columns, blanks in front of it, and for 0 blanks alone; from the last column to the first. Offsets here and below, not subslices: a clause then tells of the whole buffer, and parts join by one law.
 fn put_tens(n: u64, width: usize, out: &mut [u8], at: usize)
     requires { at + width ≤ length out.old }
     ensures { out.new ≡ overwritten out.old at (tens width n) }
@@ -53,14 +53,17 @@ fn put_number(n: u64, upper: usize, out: &mut [u8], at: usize)
     out[at + upper + 1] = BLANK;
 }
 
-// First sample, type and count.
-fn put_numbers(first: u64, kind: u64, count: u64, out: &mut [u8], at: usize)
-    requires { (first < 10 ^ 16) × (kind < 10) × (count < 10 ^ 4) × (at + 24 ≤ length out.old) }
-    ensures { out.new ≡ overwritten out.old at (numbers first kind count) }
+// First sample, type and count of an accepted record.
+fn put_numbers(rec: &[u8], out: &mut [u8], at: usize)
+    requires { (accepted rec.now ≡ true) × (at + 24 ≤ length out.old) }
+    ensures { out.new ≡ overwritten out.old at (numbers (first_sample rec.now) (type_of rec.now) (count_of rec.now)) }
 {
+    let first = le_read_or_zero::number::<u64>(rec, 40);
+    let kind = le_read_or_zero::byte_at(rec, 48);
+    let count = le_read_or_zero::number::<u16>(rec, 49);
     put_number(first, FIRST_WIDTH - 1, out, at);
-    put_number(kind, 0, out, at + 17);
-    put_number(count, COUNT_WIDTH - 1, out, at + 19);
+    put_number(u64::from(kind), 0, out, at + 17);
+    put_number(u64::from(count), COUNT_WIDTH - 1, out, at + 19);
 }
 
 // Blanks and a line feed.
@@ -77,10 +80,7 @@ fn put_line(rec: &[u8], out: &mut [u8], at: usize)
     requires { (accepted rec.now ≡ true) × (at + 73 ≤ length out.old) }
     ensures { out.new ≡ overwritten out.old at (with_feed (page_line rec.now)) }
 {
-    let first = le_read_or_zero::u64_at(rec, 40);
-    let kind = le_read_or_zero::byte_at(rec, 48);
-    let count = le_read_or_zero::u16_at(rec, 49);
-    put_numbers(first, u64::from(kind), u64::from(count), out, at);
+    put_numbers(rec, out, at);
     let end = tape_text::message_at(rec, out, at + NUMBERS_WIDTH);
     put_blanks(at + LINE_LEN - end, out, end - 1);
 }
@@ -98,6 +98,7 @@ pub fn put(rec: &[u8], out: &mut [u8], at: usize) -> bool
 }
 
 // A line of blanks and its line feed, put at an offset. False where they run past the end: then nothing is put.
+#[tactic(auto, unfolding(crate::specs::Line::blank_at, crate::specs::Line::with_feed, crate::specs::Line::blank_line))]
 pub fn put_blank(out: &mut [u8], at: usize) -> bool
     ensures { (result ≡ inside 73 out.old at) × (out.new ≡ blank_at out.old at) }
 {

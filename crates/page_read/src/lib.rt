@@ -65,6 +65,7 @@ fn read_number(columns: &[u8]) -> u64
 }
 
 // The byte that stands k-th in the message's columns.
+#[tactic(auto, unfolding(crate::specs::Fields::shown_byte))]
 fn shown_byte(line: &[u8], k: usize) -> u8
     requires { 24 + 2 * k + 2 ≤ length line.now }
     ensures { result ≡ shown_byte line.now k }

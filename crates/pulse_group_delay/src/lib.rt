@@ -3,7 +3,10 @@
 
 ghost use Rattle.std.specs.Prelude.{◌≡◌};
 ghost use Rattle.constants.specs.Rate.{four};
+ghost use Rattle.constants.specs.Setting.{by_mode};
 ghost use Rattle.pulse_shape.specs.GroupDelay.{crosses, delay_at, group_delay, mode_ac_group_delay};
+
+use constants::Mode;
 
 #[tactic(auto, unfolding(pulse_shape::specs::GroupDelay::crosses))]
 fn crosses_level(level: f32, a: f32, b: f32) -> bool
@@ -23,7 +26,9 @@ fn delay_at(level: f32, j: usize, a: f32, b: f32) -> f64
     (std::num::nearest_usize_to_f64(j) + tau) / 64.0
 }
 
-pub fn group_delay(level: f32, prototype: &[f32]) -> Option<f64>
+// Where the level is first crossed, in samples.
+#[tactic(auto, using(pulse_shape::proofs::LoopSteps::delay_stop, pulse_shape::proofs::LoopSteps::delay_on, pulse_shape::proofs::LoopSteps::delay_end), unfolding(pulse_shape::specs::GroupDelay::group_delay))]
+fn crossing(level: f32, prototype: &[f32]) -> Option<f64>
     ensures { result ≡ group_delay four level prototype.now }
 {
     for j in 0..prototype.len().saturating_sub(1) {
@@ -36,11 +41,14 @@ pub fn group_delay(level: f32, prototype: &[f32]) -> Option<f64>
     None
 }
 
-// The delay of a Mode A/C prototype, whose filterbank runs faster than the Mode S one.
-#[tactic(auto, using(pulse_shape::proofs::Delays::ratio_is), unfolding(pulse_shape::specs::GroupDelay::mode_ac_group_delay))]
-pub fn mode_ac_group_delay(level: f32, prototype: &[f32]) -> Option<f64>
-    ensures { result ≡ mode_ac_group_delay four level prototype.now }
+// The delay of a prototype of a mode: the Mode A/C filterbank runs faster than the Mode S one.
+#[tactic(auto, using(pulse_shape::proofs::Delays::ratio_is), unfolding(constants::specs::Setting::by_mode, pulse_shape::specs::GroupDelay::mode_ac_group_delay))]
+pub fn group_delay(mode: Mode, level: f32, prototype: &[f32]) -> Option<f64>
+    ensures { result ≡ by_mode mode (group_delay four level prototype.now) (mode_ac_group_delay four level prototype.now) }
 {
-    let delay = group_delay(level, prototype)?;
-    Some(delay / (1500.0 / 1450.0))
+    let delay = crossing(level, prototype)?;
+    match mode {
+        Mode::S => Some(delay),
+        Mode::Ac => Some(delay / (1500.0 / 1450.0)),
+    }
 }

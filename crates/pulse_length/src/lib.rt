@@ -8,7 +8,7 @@ ghost use Rattle.pulse_length.specs.Length.{mode_s_num_samples, mode_ac_num_samp
 
 use constants::SamplesPerPulse;
 
-// The samples of a Mode S message at the nominal clock rate.
+// The samples of a Mode S message at the nominal clock rate. Here and below the bool is what the reply has, a long message or a special pulse, and the numbers are its mode's own.
 #[tactic(auto, unfolding(crate::specs::Length::mode_s_num_samples, pulse_map::specs::ModeS::mode_s_length, pulse_map::specs::ModeS::mode_s_bits, constants::specs::Setting::either))]
 pub fn mode_s_num_samples(setting: SamplesPerPulse, long: bool) -> usize
     ensures { result ≡ mode_s_num_samples (per_pulse setting) long }

@@ -8,6 +8,7 @@ ghost use Rattle.pulse_map.specs.ModeAC.{mode_ac_pulses};
 use constants::MAX_POSITIONS;
 
 // Where pulses stand, one entry for each position of half a microsecond, and how many positions there are; none stands beyond them.
+// An array with its length beside, and no `Vec`: replies are made in fixed memory, without a heap.
 #[derive(Clone, Copy)]
 pub struct Pulses {
     pub on: [bool; MAX_POSITIONS],
@@ -30,6 +31,7 @@ fn num_bits(long: bool) -> usize
     if long { 112 } else { 56 }
 }
 
+// The map of a Mode S message. `long` is the message's length, a value of the reply: no step is switched by it.
 pub fn mode_s_pulses(bytes: [u8; 14], long: bool) -> Pulses
     ensures { result ≡ mode_s_pulses bytes long }
 {
@@ -49,6 +51,7 @@ pub fn mode_s_pulses(bytes: [u8; 14], long: bool) -> Pulses
     }
 }
 
+// The map of a Mode A/C reply.
 pub fn mode_ac_pulses(data: u16, spi: bool) -> Pulses
     ensures { result ≡ mode_ac_pulses «data» spi }
 {

@@ -1,9 +1,7 @@
 -- The numbers that the code divides by are those of the definitions.
-use Rattle.std.specs.Prelude.{Option, Some, None}
-use Rattle.std.proofs.Common.{◌≡◌, ℕ, List, pos, sym, refl, ap, ◌∙◌}
-use lib.Ieee.{Float, binary64, of_bits, of_int, add, sub, div}
-use Rattle.constants.specs.Rate.{four}
-use Rattle.pulse_shape.specs.GroupDelay.{delay_at, group_delay, mode_ac_ratio, over, mode_ac_group_delay}
+use Rattle.std.proofs.Common.{◌≡◌, pos, refl}
+use lib.Ieee.{Float, binary64, of_bits, of_int, div}
+use Rattle.pulse_shape.specs.GroupDelay.{mode_ac_ratio}
 
 -- 64.0, as the code divides
 pub sixty_four : of_bits binary64 4634204016564240384 ≡ of_int binary64 (pos 64)

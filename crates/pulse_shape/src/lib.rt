@@ -4,12 +4,20 @@
 
 ghost use Rattle.std.specs.Prelude.{◌≡◌, ◌<◌, ◌≤◌};
 ghost use Rattle.constants.specs.Rate.{four};
+ghost use Rattle.constants.specs.Setting.{by_mode};
 ghost use Rattle.pulse_shape.specs.Values.{values};
 ghost use Rattle.pulse_shape.specs.Trapezoid.{trapezoid_at};
 ghost use Rattle.pulse_shape.specs.Convolve.{convolve_at};
 ghost use Rattle.pulse_shape.specs.Prototype.{prototype_of, mode_s_prototype, mode_ac_prototype};
 
-use constants::PROTOTYPE_LEN;
+use constants::{Mode, PROTOTYPE_LEN};
+
+// The filters of the two modes: the lowpass taps that a run is opened with, or the prototypes that replies are made by. `Delays` of message_config has numbers: one struct for both would put a type parameter into each definition over delays, and be no plainer.
+#[derive(Clone, Copy)]
+pub struct Filters<'a> {
+    pub mode_s: &'a [f32],
+    pub mode_ac: &'a [f32],
+}
 
 // m / n, each taken as an f32.
 fn ratio(m: u32, n: u32) -> f32
@@ -33,7 +41,7 @@ fn trapezoid_at(rise: u32, fall: u32, total: u32, j: u32) -> f32
     }
 }
 
-// The trapezoid of N values with two edges.
+// The trapezoid of N values with two edges. By a loop: the closure of `from_fn` would want the clauses of `trapezoid_at` again, as N is any number.
 fn trapezoid<const N: usize>(rise: u32, fall: u32) -> [f32; N]
     requires { (N ≤ 1792) × (fall ≤ N) }
     ensures { result ≡ values (trapezoid_at rise fall N) N }
@@ -59,7 +67,8 @@ fn convolve_at(a: &[f32], b: &[f32], j: usize) -> f32
     sum
 }
 
-fn prototype(pulse: &[f32], lowpass: &[f32]) -> [f32; PROTOTYPE_LEN]
+// A pulse convolved with a lowpass. By a loop: with `from_fn` the proof did not close.
+fn convolution(pulse: &[f32], lowpass: &[f32]) -> [f32; PROTOTYPE_LEN]
     ensures { result ≡ prototype_of four pulse.now lowpass.now }
 {
     let mut out = [0.0f32; PROTOTYPE_LEN];
@@ -69,16 +78,13 @@ fn prototype(pulse: &[f32], lowpass: &[f32]) -> [f32; PROTOTYPE_LEN]
     out
 }
 
-#[tactic(auto, unfolding(crate::specs::Trapezoid::mode_s_trapezoid))]
-pub fn mode_s_prototype(lowpass: &[f32]) -> [f32; PROTOTYPE_LEN]
-    ensures { result ≡ mode_s_prototype four lowpass.now }
+// The prototype of a mode, from its lowpass.
+#[tactic(auto, unfolding(constants::specs::Setting::by_mode, crate::specs::Trapezoid::mode_s_trapezoid, crate::specs::Trapezoid::mode_ac_trapezoid))]
+pub fn prototype(mode: Mode, lowpass: &[f32]) -> [f32; PROTOTYPE_LEN]
+    ensures { result ≡ by_mode mode (mode_s_prototype four lowpass.now) (mode_ac_prototype four lowpass.now) }
 {
-    prototype(&trapezoid::<307>(38, 64), lowpass)
-}
-
-#[tactic(auto, unfolding(crate::specs::Trapezoid::mode_ac_trapezoid))]
-pub fn mode_ac_prototype(lowpass: &[f32]) -> [f32; PROTOTYPE_LEN]
-    ensures { result ≡ mode_ac_prototype four lowpass.now }
-{
-    prototype(&trapezoid::<278>(40, 40), lowpass)
+    match mode {
+        Mode::S => convolution(&trapezoid::<307>(38, 64), lowpass),
+        Mode::Ac => convolution(&trapezoid::<278>(40, 40), lowpass),
+    }
 }

@@ -2,35 +2,22 @@
 #![tactic(auto)]
 
 ghost use Rattle.std.specs.Prelude.{◌≡◌};
-ghost use Rattle.constants.specs.Setting.{per_pulse};
-ghost use Rattle.pulse_shape.specs.Accepted.{within16, all_within16, mode_s_taps_accepted, mode_ac_taps_accepted};
+ghost use Rattle.constants.specs.Setting.{per_pulse, by_mode};
+ghost use Rattle.pulse_shape.specs.Accepted.{all_within16, mode_s_taps_accepted, mode_ac_taps_accepted};
 
-use constants::SamplesPerPulse;
-
-#[tactic(auto, unfolding(pulse_shape::specs::Accepted::within16))]
-fn within_16(x: f32) -> bool
-    ensures { result ≡ within16 x }
-{
-    x >= -16.0 && x <= 16.0
-}
+use constants::{Mode, SamplesPerPulse};
 
 // Whether each value of a prototype is finite and at most 16 in size.
 pub fn all_within_16(values: &[f32]) -> bool
     ensures { result ≡ all_within16 values.now }
 {
-    values.iter().all(|x| within_16(*x))
+    values.iter().all(|x| float_range::within_f32(*x, 16.0))
 }
 
-#[tactic(auto, unfolding(pulse_shape::specs::Accepted::mode_s_taps_accepted))]
-pub fn mode_s_taps_accepted(setting: SamplesPerPulse, taps: &[f32]) -> bool
-    ensures { result ≡ mode_s_taps_accepted (per_pulse setting) taps.now }
+// Whether a lowpass has the taps of its mode, each finite and at most 16 in size.
+#[tactic(auto, unfolding(constants::specs::Setting::by_mode, pulse_shape::specs::Accepted::mode_s_taps_accepted, pulse_shape::specs::Accepted::mode_ac_taps_accepted))]
+pub fn taps_accepted(setting: SamplesPerPulse, mode: Mode, taps: &[f32]) -> bool
+    ensures { result ≡ by_mode mode (mode_s_taps_accepted (per_pulse setting) taps.now) (mode_ac_taps_accepted (per_pulse setting) taps.now) }
 {
-    taps.len() == setting.mode_s_taps_len() && all_within_16(taps)
-}
-
-#[tactic(auto, unfolding(pulse_shape::specs::Accepted::mode_ac_taps_accepted))]
-pub fn mode_ac_taps_accepted(setting: SamplesPerPulse, taps: &[f32]) -> bool
-    ensures { result ≡ mode_ac_taps_accepted (per_pulse setting) taps.now }
-{
-    taps.len() == setting.mode_ac_taps_len() && all_within_16(taps)
+    taps.len() == setting.taps_len(mode) && all_within_16(taps)
 }

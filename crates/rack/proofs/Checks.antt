@@ -1,46 +1,63 @@
 -- The tests of an opening, one feed more in each iteration, and what holds where nothing is refused.
 use Rattle.std.specs.Prelude.{Result, Ok, Err, is_ok}
 use mathlib.Core.Bool.{Bool, true, false, cond, not, ◌&&◌, ◌||◌, false≢true}
-use mathlib.Core.List.{List}
+use mathlib.Core.List.{List, [], ◌∷◌}
 use mathlib.Core.Path.{◌≡◌, refl, sym, ap, ◌∙◌}
-use Prim.Native.Nat.{ℕ, suc, ◌+◌, ◌≤◌, ◌<◌}
-use borrow.Author.Tests.{le-leb, lt-leb, eqb-true, eqb-false, leb-true, not-false}
+use Prim.Native.Nat.{ℕ, suc, ◌+◌, ◌≤◌, ◌<◌, min}
+use borrow.Author.Tests.{le-leb, lt-leb, eqb-true, eqb-false, leb-true, leb-false, not-false}
 use native.Mathlib.Numerals.{add-one}
 use native.Mathlib.Omega.{arith}
 use lib.Dec.{eqb, leb}
 use lib.Ieee.{Float, nan}
-use lib.ListN.{length, get_or, drop, drop_of_length-le}
+use lib.ListN.{length, get_or, drop, length-drop}
 use lib.Seq.{drop-cons}
 use Rattle.refusals.specs.declared.Refusal.{Refusal}
 use Rattle.refusals.specs.declared.Refusal.TheVariants.{Length, Feeds}
-use Rattle.rack.specs.declared.Rack.{Rack}
 use Rattle.rack.specs.Feeds.{silent}
 use Rattle.rack.specs.Opening.{gain_fits, each_fits, wrong_lengths, wrong_feeds, checked, delay_row, gain_row, rack_of, left_by, open_left}
 
-module _ (delays : List ℕ) (gains : List Float) (i : ℕ) (h : i < length delays) (g : i < length gains) where
-  fits_step : each_fits (drop i delays) (drop i gains) ≡ leb (get_or delays i 0) 4095 && gain_fits (get_or gains i nan) && each_fits (drop (suc i) delays) (drop (suc i) gains)
+-- what `zip_turn` of std says of a turn: the pair stands at n in both lists
+abbrev pub Turn : List ℕ → List Float → ℕ → ℕ → Float → Type 0
+Turn delays gains n x y = (n < length delays) × (n < length gains) × ((d : ℕ) → x ≡ get_or delays n d) × ((d : Float) → y ≡ get_or gains n d)
+
+module _ (delays : List ℕ) (gains : List Float) (n : ℕ) (x : ℕ) (y : Float) (t : Turn delays gains n x y) where
+  fits_step : each_fits (drop n delays) (drop n gains) ≡ leb x 4095 && gain_fits y && each_fits (drop (suc n) delays) (drop (suc n) gains)
   unfolding each_fits
-  fits_step = λ j. each_fits (drop-cons delays i 0 h j) (drop-cons gains i nan g j)
+  fits_step =
+      (λ j. each_fits (drop-cons delays n 0 t.0 j) (drop-cons gains n nan t.1 j))
+      ∙ (λ j. leb (sym (t.2 0) j) 4095 && gain_fits (sym (t.3 nan) j) && each_fits (drop (suc n) delays) (drop (suc n) gains))
 
-  pub delay_out : 4095 < get_or delays i 0 → each_fits (drop i delays) (drop i gains) ≡ each_fits delays gains → false ≡ each_fits delays gains
-  delay_out o e =
-      sym (fits_step ∙ ap (λ (t : Bool). t && gain_fits (get_or gains i nan) && each_fits (drop (suc i) delays) (drop (suc i) gains)) (lt-leb _ _ o)) ∙ e
+  pub delay_out : 4095 < x → each_fits (drop n delays) (drop n gains) ≡ each_fits delays gains → false ≡ each_fits delays gains
+  delay_out o e = sym (fits_step ∙ ap (λ (b : Bool). b && gain_fits y && each_fits (drop (suc n) delays) (drop (suc n) gains)) (lt-leb _ _ o)) ∙ e
 
-  pub gain_out : get_or delays i 0 ≤ 4095 → (t : Bool) → t ≡ gain_fits (get_or gains i nan) → t ≡ false → each_fits (drop i delays) (drop i gains) ≡ each_fits delays gains
-      → false ≡ each_fits delays gains
-  gain_out l t r o e =
-      sym (fits_step ∙ (λ j. le-leb _ _ l j && (sym r ∙ o) j && each_fits (drop (suc i) delays) (drop (suc i) gains))) ∙ e
+  pub gain_out : x ≤ 4095 → (b : Bool) → b ≡ gain_fits y → b ≡ false → each_fits (drop n delays) (drop n gains) ≡ each_fits delays gains → false ≡ each_fits delays gains
+  gain_out l b r o e = sym (fits_step ∙ (λ j. le-leb _ _ l j && (sym r ∙ o) j && each_fits (drop (suc n) delays) (drop (suc n) gains))) ∙ e
 
-  pub feed_in : get_or delays i 0 ≤ 4095 → (t : Bool) → t ≡ gain_fits (get_or gains i nan) → t ≡ true → each_fits (drop i delays) (drop i gains) ≡ each_fits delays gains
-      → each_fits (drop (i + 1) delays) (drop (i + 1) gains) ≡ each_fits delays gains
-  feed_in l t r o e =
-      ap (λ (n : ℕ). each_fits (drop n delays) (drop n gains)) (add-one i)
-      ∙ sym (fits_step ∙ (λ j. le-leb _ _ l j && (sym r ∙ o) j && each_fits (drop (suc i) delays) (drop (suc i) gains)))
+  pub feed_in : x ≤ 4095 → (b : Bool) → b ≡ gain_fits y → b ≡ true → (m : ℕ) → m ≡ n + 1 → each_fits (drop n delays) (drop n gains) ≡ each_fits delays gains
+      → each_fits (drop m delays) (drop m gains) ≡ each_fits delays gains
+  feed_in l b r o m s e =
+      ap (λ (k : ℕ). each_fits (drop k delays) (drop k gains)) (s ∙ add-one n)
+      ∙ sym (fits_step ∙ (λ j. le-leb _ _ l j && (sym r ∙ o) j && each_fits (drop (suc n) delays) (drop (suc n) gains)))
       ∙ e
 
-pub all_in : (delays : List ℕ) (gains : List Float) (i : ℕ) → length delays ≤ i → each_fits (drop i delays) (drop i gains) ≡ each_fits delays gains → true ≡ each_fits delays gains
+-- one of the lists ends
+ended : (ds : List ℕ) (gs : List Float) → length ds ≡ 0 → each_fits ds gs ≡ true
 unfolding each_fits
-all_in delays gains i h e = sym (ap (λ (l : List ℕ). each_fits l (drop i gains)) (drop_of_length-le delays h)) ∙ e
+ended [] gs h = refl
+ended (d ∷ ds) gs h = absurd (omega arith)
+
+ended_too : (ds : List ℕ) (gs : List Float) → length gs ≡ 0 → each_fits ds gs ≡ true
+unfolding each_fits
+ended_too [] gs h = refl
+ended_too (d ∷ ds) [] h = refl
+ended_too (d ∷ ds) (g ∷ gs) h = absurd (omega arith)
+
+pub all_in : (delays : List ℕ) (gains : List Float) (n : ℕ) → n ≡ min (length delays) (length gains) → each_fits (drop n delays) (drop n gains) ≡ each_fits delays gains → true ≡ each_fits delays gains
+all_in delays gains n h e = sym (by (leb (length delays) (length gains)) refl) ∙ e
+  where
+    by : (b : Bool) → leb (length delays) (length gains) ≡ b → each_fits (drop n delays) (drop n gains) ≡ true
+    by true l = let f = leb-true _ _ l in ended (drop n delays) (drop n gains) (omega (arith, length-drop n delays))
+    by false l = let f = leb-false _ _ l in ended_too (drop n delays) (drop n gains) (omega (arith, length-drop n gains))
 
 -- ---- the order of the refusals
 -- both sides of a false `or`
@@ -79,10 +96,6 @@ module _ (memory : ℕ) (delays : List ℕ) (gains : List Float) where
 
 -- ---- what an opening leaves
 module _ (memory : List Float) (delays : List ℕ) (gains : List Float) (r : Result (Unit {0}) Refusal) (e : r ≡ checked (length memory) delays gains) where
-  pub left_refused : (q : Refusal) (answer : Result Rack Refusal) → r ≡ Err q → answer ≡ Err q → record { answer = answer; memory = memory } ≡ open_left memory delays gains
-  unfolding open_left left_by
-  left_refused q answer h a = (λ j. record { answer = a j; memory = memory }) ∙ ap (left_by memory delays gains) (sym h ∙ e)
-
   pub left_opened : (u : Unit {0}) → r ≡ Ok u → (after : List Float) (delays_row : List ℕ) (gains_row : List Float) → after ≡ silent (length memory) → delays_row ≡ delay_row delays → gains_row ≡ gain_row gains
       → record { answer = Ok (record { feeds = length delays; seen = 0; delays = delays_row; gains = gains_row }); memory = after } ≡ open_left memory delays gains
   unfolding open_left left_by rack_of

@@ -1,7 +1,7 @@
 -- Laws of silent and scaled lists: their lengths, their first parts and what is behind these.
 use mathlib.Core.List.{List, [], ◌∷◌, ◌++◌}
 use mathlib.Core.Path.{◌≡◌, refl, sym, ap, ◌∙◌}
-use Prim.Native.Nat.{ℕ, zero, suc, ◌+◌, ◌-◌, min}
+use Prim.Native.Nat.{ℕ, zero, suc, ◌-◌, min}
 use native.Mathlib.Omega.{arith}
 use lib.Ieee.{Float, binary32, mul}
 use lib.ListN.{length, take, drop, length-map, length-replicate}

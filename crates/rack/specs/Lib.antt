@@ -1,4 +1,3 @@
 pub mod Feeds
 pub mod Memory
 pub mod Opening
-pub mod WrittenModel

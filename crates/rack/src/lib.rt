@@ -1,7 +1,7 @@
 // A rack of delayed feeds: its state, and opening it (SPECIFICATION 15.1).
 #![tactic(auto)]
 
-ghost use Rattle.std.specs.Prelude.{◌≡◌, length};
+ghost use Rattle.std.specs.Prelude.{◌≡◌, ◌≤◌, ◌++◌, length, drop, replicate};
 ghost use Rattle.rack.specs.Opening.{gain_fits, each_fits, checked, open_left};
 
 use refusals::Refusal;
@@ -16,6 +16,7 @@ pub const LONGEST_DELAY: u64 = 4095;
 pub const MEMORY_LEN: usize = 8190;
 
 // A rack between two calls: the number of feeds, the samples seen so far, counted up to 4,095, and each feed's delay and gain.
+// Two arrays, and not one of `Feed`: C holds it so.
 #[repr(C)]
 #[derive(Clone, Copy)]
 pub struct Rack {
@@ -23,6 +24,21 @@ pub struct Rack {
     pub seen: u64,
     pub delays: [u64; MOST_FEEDS],
     pub gains: [f32; MOST_FEEDS],
+}
+
+// A feed: its delay in samples, and its gain.
+#[derive(Clone, Copy)]
+pub struct Feed {
+    pub delay: u64,
+    pub gain: f32,
+}
+
+// What a call's feeds are written from: the memory of the calls before, the samples seen in these, counted up to 4,095, and the call's own samples.
+#[derive(Clone, Copy)]
+pub struct Past<'a> {
+    pub memory: &'a [f32],
+    pub seen: u64,
+    pub samples: &'a [f32],
 }
 
 // From 0 to 1. -0.0 is in range, a NaN is not.
@@ -35,11 +51,10 @@ fn gain_fits(gain: f32) -> bool
 
 // Every delay and gain is in range.
 fn each_fits(delays: &[u64], gains: &[f32]) -> bool
-    requires { length delays.now ≡ length gains.now }
     ensures { result ≡ each_fits delays.now gains.now }
 {
-    for i in 0..delays.len() {
-        if delays[i] > LONGEST_DELAY || !gain_fits(gains[i]) {
+    for (delay, gain) in delays.iter().zip(gains) {
+        if *delay > LONGEST_DELAY || !gain_fits(*gain) {
             return false;
         }
     }
@@ -60,20 +75,27 @@ fn check(memory: usize, delays: &[u64], gains: &[f32]) -> Result<(), Refusal>
     Ok(())
 }
 
-// Opens a rack; refused, it leaves the memory as it is.
+// An entry for each feed, and the same one behind them.
+fn row<T: Copy>(entries: &[T], rest: T) -> [T; MOST_FEEDS]
+    requires { length entries.now ≤ 16 }
+    ensures { result ≡ entries.now ++ drop (length entries.now) (replicate 16 rest) }
+{
+    let mut row = [rest; MOST_FEEDS];
+    row[..entries.len()].copy_from_slice(entries);
+    row
+}
+
+// Opens a rack; refused, it leaves the memory as it is. The delays and gains stand apart, as C lends them.
+#[tactic(auto, using(crate::proofs::Checks::fits), unfolding(crate::specs::Opening::open_left, crate::specs::Opening::left_by, crate::specs::Opening::rack_of, crate::specs::Opening::delay_row, crate::specs::Opening::gain_row, crate::specs::Feeds::silent))]
 pub fn open(memory: &mut [f32], delays: &[u64], gains: &[f32]) -> Result<Rack, Refusal>
     ensures { record { answer = result; memory = memory.new } ≡ open_left memory.old delays.now gains.now }
 {
     check(memory.len(), delays, gains)?;
     memory.fill(0.0);
-    let mut delay_row = [0; MOST_FEEDS];
-    delay_row[..delays.len()].copy_from_slice(delays);
-    let mut gain_row = [0.0; MOST_FEEDS];
-    gain_row[..gains.len()].copy_from_slice(gains);
     Ok(Rack {
         feeds: delays.len() as u64,
         seen: 0,
-        delays: delay_row,
-        gains: gain_row,
+        delays: row(delays, 0),
+        gains: row(gains, 0.0),
     })
 }

@@ -94,21 +94,6 @@ module _ (gain : Float) (memory samples : List Float) (w back known n : ℕ) (hn
           ap (λ (k : ℕ). n - (back - known) - k) (length-drop (w - known + (known - back)) memory ∙ ap (λ (k : ℕ). k - (w - known + (known - back))) hm ∙ seen_part w back known hb hk)
           ∙ rest_part n back (back - known) (omega arith)
 
--- as long as the samples
-pub length_feed : (gain : Float) (delay seen : ℕ) (memory samples : List Float) → length memory ≡ 8190 → length (feed_of gain delay seen memory samples) ≡ length samples
-unfolding feed_of
-length_feed gain delay seen memory samples h =
-    length-take-le (length samples) _
-    (omega (
-      arith,
-      length-drop (2 * (4095 - delay)) (silent (2 * (4095 - seen)) ++ scaled gain (drop (2 * (4095 - seen)) memory ++ samples)),
-      length-append (silent (2 * (4095 - seen))) (scaled gain (drop (2 * (4095 - seen)) memory ++ samples)),
-      length_silent (2 * (4095 - seen)),
-      length_scaled gain (drop (2 * (4095 - seen)) memory ++ samples),
-      length-append (drop (2 * (4095 - seen)) memory) samples,
-      length-drop (2 * (4095 - seen)) memory,
-    ))
-
 -- ---- three stretches, one behind the other
 three_written : (xs ys zs to written : List Float) (u h : ℕ) → length xs ≡ u → u ≤ h → length ys ≡ h - u → written ≡ put_mid u (h - u) (xs ++ drop u to) ys
     → take h written ++ (zs ++ post_of h (length written - h) written) ≡ xs ++ ys ++ zs

@@ -1,7 +1,7 @@
 -- `opened_racks`: the claim on every list of calls on an opened rack, by one induction over the calls (`over_calls`).
 use Rattle.std.specs.Prelude.{Some, None, Result, Ok, Err, is_ok}
 use Rattle.std.specs.Result.{result_unwrap_or}
-use mathlib.Core.Bool.{Bool, true, false, cond, ◌&&◌, true≢false, false≢true}
+use mathlib.Core.Bool.{Bool, true, false, cond, ◌&&◌, false≢true, and-eq-true_iff}
 use mathlib.Core.List.{List, [], ◌∷◌, ◌++◌, map}
 use mathlib.Core.Path.{◌≡◌, refl, sym, ap, subst, ◌∙◌}
 use Prim.Native.Nat.{ℕ, zero, suc, ◌+◌, ◌-◌, ◌*◌, ◌/◌, ◌≤◌, ◌<◌, min}
@@ -26,17 +26,13 @@ use Rattle.rack_theory.proofs.Delayed.{length_delayed, length_new, joined, part}
 use Rattle.rack_theory.proofs.Remembered.{Remembers, remembers_more, all_new}
 
 -- ---- what opening says
-and_true : (a b : Bool) → (a && b) ≡ true → (a ≡ true) × (b ≡ true)
-and_true true b e = (refl, e)
-and_true false b e = absurd (true≢false (sym e))
-
 -- every delay is in range
 pub delay_fits : (delays : List ℕ) (gains : List Float) → length delays ≡ length gains → each_fits delays gains ≡ true → (i : ℕ) → i < length delays → get_or delays i 0 ≤ 4095
 unfolding each_fits
 delay_fits [] gains l e i h = absurd (omega arith)
 delay_fits (d ∷ ds) [] l e i h = absurd (omega arith)
-delay_fits (d ∷ ds) (g ∷ gs) l e zero h = leb-true d 4095 (and_true (leb d 4095) (gain_fits g) (and_true (leb d 4095 && gain_fits g) (each_fits ds gs) e).0).0
-delay_fits (d ∷ ds) (g ∷ gs) l e (suc i) h = delay_fits ds gs (omega arith) (and_true (leb d 4095 && gain_fits g) (each_fits ds gs) e).1 i (omega arith)
+delay_fits (d ∷ ds) (g ∷ gs) l e zero h = leb-true d 4095 ((and-eq-true_iff (leb d 4095) (gain_fits g)).0 ((and-eq-true_iff (leb d 4095 && gain_fits g) (each_fits ds gs)).0 e).0).0
+delay_fits (d ∷ ds) (g ∷ gs) l e (suc i) h = delay_fits ds gs (omega arith) ((and-eq-true_iff (leb d 4095 && gain_fits g) (each_fits ds gs)).0 e).1 i (omega arith)
 
 pub record Says (delays : List ℕ) (gains given : List Float) (r : Opened) : Type 0 where
   pub right : Fits (length given) delays gains

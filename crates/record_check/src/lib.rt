@@ -36,13 +36,15 @@ pub fn accepts(rec: &[u8]) -> bool
     ensures { result ≡ accepted rec.now }
 {
     rec.len() >= RECORD_LEN
-        && le_read_or_zero::u64_at(rec, 40) <= LARGEST_FIRST
+        && le_read_or_zero::number::<u64>(rec, 40) <= LARGEST_FIRST
         && rec[48] < TYPES
-        && le_read_or_zero::u16_at(rec, 49) <= LARGEST_COUNT
+        && le_read_or_zero::number::<u16>(rec, 49) <= LARGEST_COUNT
         && rec[51] == type_length(rec[48])
 }
 
 // The first record at fault, of as many as the bytes have whole.
+// A place and no refusal, since a fault is what is searched for; which refusal it is, its caller says.
+#[tactic(auto, unfolding(crate::specs::FirstFault::first_fault), using(crate::proofs::Searched::one_more, crate::proofs::Searched::found, crate::proofs::Searched::none_left))]
 pub fn first_fault(records: &[u8]) -> Option<u64>
     ensures { result ≡ first_fault records.now }
 {

@@ -1,6 +1,6 @@
 -- One step of the loop that writes a wave's values, its beginning and its two ends.
-use Prim.Native.Nat.{ℕ, zero, suc, ◌+◌, ◌-◌, ◌*◌, ◌^◌, ◌<◌, ◌≤◌}
-use native.Mathlib.Nat.{le_of_eq, mod-eq_of_lt, sub-zero, mul-le-mul}
+use Prim.Native.Nat.{ℕ, zero, suc, ◌+◌, ◌-◌, ◌^◌, ◌<◌, ◌≤◌}
+use native.Mathlib.Nat.{le_of_eq, mod-eq_of_lt}
 use native.Mathlib.Numerals.{add-one}
 use native.Mathlib.Omega.{arith}
 use mathlib.Core.Path.{◌≡◌, refl, sym, ap, ◌∙◌}
@@ -13,18 +13,11 @@ use lib.Ieee.{Float, binary64, add, le}
 use Rattle.pulse_map.proofs.Marked.{left_suc}
 use Rattle.filterbank.specs.declared.Clock.{Clock}
 use Rattle.filterbank.specs.Clocked.{one, advance, settle, in64}
-use Rattle.filterbank.specs.Apply.{clock_values, limit_of, fuel_of}
+use Rattle.filterbank.specs.Apply.{clock_values, limit_of}
 
 pub limit_some : (n : ℕ) → (n ≡ 0 → ⊥) → n + 6 ≡ limit_of n
 limit_some zero h = absurd (h refl)
 limit_some (suc n) h = refl
-
--- ---- the fuel of the loop, by the number of samples per pulse
-pub fuel_room : (k limit : ℕ) → k ≤ 8 → limit ≤ 246 → (k + 1) * limit ≤ 2214
-fuel_room k limit h g = let a : k + 1 ≤ 9 = omega arith in mul-le-mul a g
-
-pub fuel_is : (sps k limit : ℕ) → k ≡ sps → (k + 1) * limit ≡ fuel_of sps limit
-fuel_is sps k limit e = ap (λ (n : ℕ). (n + 1) * limit) e
 
 -- an index below the indices of a reply does not wrap
 abbrev clock_at : Float → ℕ → Clock
@@ -86,7 +79,3 @@ module _ (value : Clock → Float) (limit : ℕ) (step : Float) where
       ∙ sym (append-nil (take n vs))
       ∙ ap (λ (f : ℕ). take n vs ++ clock_values f limit step value s) (sym (none_left e n (le_of_eq h)))
       ∙ inv
-
-  -- at the beginning
-  pub fill_first : (e : ℕ) (vs : List Float) (s : Clock) → take 0 vs ++ clock_values (e - 0) limit step value s ≡ clock_values e limit step value s
-  fill_first e vs s = ap (λ (f : ℕ). clock_values f limit step value s) (sub-zero e)

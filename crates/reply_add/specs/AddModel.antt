@@ -1,7 +1,6 @@
 -- What functions within this crate give, as their contracts name it. No public contract cites this file.
 use Rattle.std.specs.Prelude.{ℕ, ◌≡◌, Bool, List, length, Float}
-use Rattle.message_config.specs.declared.Delays.{Delays}
-use Rattle.message_config.specs.declared.MessageConfig.{MessageConfig}
+use Rattle.constants.specs.Setting.{per_pulse}
 use Rattle.message_config.specs.Config.{config_clock_phase, config_clock_error, config_rate, config_phase}
 use Rattle.filterbank.specs.declared.Clock.{Clock}
 use Rattle.filterbank.specs.Taps.{filter_taps}
@@ -9,6 +8,7 @@ use Rattle.filterbank.specs.PaddedPulsesModel.{padded_sum}
 use Rattle.filterbank.specs.Clocked.{step_of, start_clock}
 use Rattle.filterbank.specs.Apply.{clock_values, limit_of, fuel_of}
 use Rattle.reply_samples.specs.declared.Sample.{Sample}
+use Rattle.reply_add.specs.declared.ReplySignal.{ReplySignal}
 use Rattle.reply_add.specs.declared.Wave.{Wave}
 use Rattle.reply_samples.specs.Samples.{rotated}
 use Rattle.reply_samples.specs.RingModel.{added_reply, added_count}
@@ -21,14 +21,14 @@ padded_value sps prototype padded clock = padded_sum (filter_taps sps prototype 
 abbrev pub padded_values : ℕ → List Float → List Bool → ℕ → Float → Clock → List Float
 padded_values sps prototype padded limit step first = clock_values (fuel_of sps limit) limit step (padded_value sps prototype padded) first
 
--- the wave of a message whose reply has n positions
-unfoldable pub wave_of : ℕ → MessageConfig → Float → Delays → ℕ → Wave
-wave_of sps c amplitude delays len =
+-- the wave of a reply, as one of n positions
+unfoldable pub wave_of : ReplySignal → ℕ → Wave
+wave_of r len =
     record {
-      clock = start_clock sps (config_clock_phase delays c);
-      step = step_of sps (config_clock_error c);
+      clock = start_clock (per_pulse r.setting) (config_clock_phase r.delays r.config);
+      step = step_of (per_pulse r.setting) (config_clock_error r.config);
       limit = limit_of len;
-      carrier = record { amplitude = amplitude; rate = config_rate sps c; phase = config_phase sps delays c };
+      carrier = record { amplitude = r.amplitude; rate = config_rate (per_pulse r.setting) r.config; phase = config_phase (per_pulse r.setting) r.delays r.config };
     }
 
 unfoldable pub wave_samples : ℕ → List Float → List Bool → Wave → List Sample

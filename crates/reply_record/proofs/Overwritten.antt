@@ -1,17 +1,15 @@
 -- Bytes written part after part, by each of the writes: what the writes so far wrote, and the next write's bytes behind them (`next`).
-use Prim.Native.Nat.{ℕ, ◌+◌, ◌≤◌, ◌<◌}
+use Prim.Native.Nat.{ℕ, ◌+◌, ◌≤◌}
 use mathlib.Core.Path.{◌≡◌, refl, sym, ap, ◌∙◌}
 use mathlib.Core.Bool.{Bool, true, false, cond}
 use mathlib.Core.List.{List, [], ◌∷◌, ◌++◌, append_assoc, append-nil}
 use native.Mathlib.Nat.{add-zero}
-use native.Mathlib.Numerals.{add-one}
 use native.Mathlib.Omega.{arith}
-use lib.ListN.{length, get_or, take, drop, set, length-append, take-append-drop}
-use lib.Seq.{take-suc, length-take-le}
+use lib.ListN.{length, take, drop, length-append, take-append-drop}
 use lib.Ieee.{binary64, to_bits}
 use borrow.Author.Tests.{le-leb, leb-true}
 use Rattle.le_read.specs.LeBytes.{bytes_of, inside, overwritten, put}
-use Rattle.le_read.proofs.Halves.{overwritten_append, overwritten_one, length_bytes}
+use Rattle.le_read.proofs.Halves.{overwritten_append, length_bytes}
 use Rattle.le_read.proofs.Decided.{put_there}
 use Rattle.le_read.proofs.RoundTrip.{length_overwritten}
 use Rattle.message.specs.declared.Reply.{Reply}
@@ -42,14 +40,6 @@ module _ (s : List ℕ) (at : ℕ) where
   next_put k xs n v d e l h p q =
       let m : length d ≡ length s = ap length p ∙ length_overwritten s at xs (omega arith) in
       next k xs (bytes_of n v) d e l (omega arith) p (q ∙ put_overwritten n d (at + k) v (omega arith))
-
-  -- one more byte of a list
-  pub next_byte : (b : List ℕ) (k : ℕ) (d : List ℕ) → k < length b → at + length b ≤ length s → d ≡ overwritten s at (take k b) → set d (at + k) (get_or b k 0) ≡ overwritten s at (take (k + 1) b)
-  next_byte b k d h r p =
-      let l : length (take k b) ≡ k = length-take-le k b (omega arith) in
-      let m : length d ≡ length s = ap length p ∙ length_overwritten s at (take k b) (omega arith) in
-      next k (take k b) (get_or b k 0 ∷ []) d (set d (at + k) (get_or b k 0)) l (omega arith) p (overwritten_one d (at + k) (get_or b k 0) (omega arith))
-      ∙ ap (overwritten s at) (sym (ap (λ (n : ℕ). take n b) (add-one k) ∙ take-suc b k 0 h))
 
 -- ---- a record's two parts
 pub floats_overwritten : (s : List ℕ) (at : ℕ) (c : MessageConfig) {d₁ d₂ d₃ d₄ d₅ : List ℕ} → at + 40 ≤ length s → d₁ ≡ put 8 s at (to_bits binary64 c.time) → d₂ ≡ put 8 d₁ (at + 8) (to_bits binary64 c.cn0)

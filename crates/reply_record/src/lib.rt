@@ -9,6 +9,7 @@ use constants::RECORD_LEN;
 use message::{Reply, ReplyKind};
 use message_config::MessageConfig;
 
+// The bytes of a message. A match: these are lengths, and no numbers of the kinds that a cast would give.
 #[tactic(auto, unfolding(crate::specs::Record::message_length))]
 fn message_length(kind: ReplyKind) -> u8
     ensures { result ≡ message_length kind }
@@ -20,14 +21,7 @@ fn message_length(kind: ReplyKind) -> u8
     }
 }
 
-#[tactic(auto, using(le_read::proofs::Halves::overwritten_one))]
-fn put_u8(d: &mut [u8], at: usize, v: u8)
-    requires { at < length d.old }
-    ensures { d.new ≡ overwritten d.old at (v ∷ []) }
-{
-    d[at] = v;
-}
-
+// The 14 bytes of a message.
 #[tactic(auto, using(std::proofs::lemmas::Slice::overwrites), unfolding(le_read::specs::LeBytes::overwritten))]
 fn put_bytes(d: &mut [u8], at: usize, b: [u8; 14])
     requires { at + 14 ≤ length d.old }
@@ -36,25 +30,27 @@ fn put_bytes(d: &mut [u8], at: usize, b: [u8; 14])
     d[at..at + 14].copy_from_slice(&b);
 }
 
+// Offsets 0 to 39. There is room, so what `le_write::put` answers is not looked at.
 fn put_floats(d: &mut [u8], at: usize, c: MessageConfig)
     requires { at + 40 ≤ length d.old }
     ensures { d.new ≡ overwritten d.old at (float_bytes c) }
 {
-    le_write::put_f64(d, at, c.time);
-    le_write::put_f64(d, at + 8, c.cn0);
-    le_write::put_f64(d, at + 16, c.offset);
-    le_write::put_f64(d, at + 24, c.phase);
-    le_write::put_f64(d, at + 32, c.error);
+    le_write::put(d, at, c.time);
+    le_write::put(d, at + 8, c.cn0);
+    le_write::put(d, at + 16, c.offset);
+    le_write::put(d, at + 24, c.phase);
+    le_write::put(d, at + 32, c.error);
 }
 
+// Offsets 40 to 65, with room as above. First sample, type and count are no struct: it would be made for this call and read once.
 fn put_others(d: &mut [u8], at: usize, reply: Reply, first: u64, kind: u8, count: u16)
     requires { at + 26 ≤ length d.old }
     ensures { d.new ≡ overwritten d.old at (other_bytes reply first kind count) }
 {
-    le_write::put_u64(d, at, first);
-    put_u8(d, at + 8, kind);
-    le_write::put_u16(d, at + 9, count);
-    put_u8(d, at + 11, message_length(reply.kind));
+    le_write::put(d, at, first);
+    d[at + 8] = kind;
+    le_write::put(d, at + 9, count);
+    d[at + 11] = message_length(reply.kind);
     put_bytes(d, at + 12, reply.bytes);
 }
 

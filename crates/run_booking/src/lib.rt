@@ -5,10 +5,12 @@ ghost use Rattle.std.specs.Prelude.{[], ◌≡◌, ◌≤◌, ◌^◌};
 ghost use Rattle.run_booking.specs.Booking.{draws_then, booking_of};
 ghost use Rattle.run_booking.specs.Booked.{booked_read};
 
-use constants::{DRAW_LEN, MEMORY_LEN, PROTOTYPE_LEN};
+use constants::DRAW_LEN;
+use pulse_shape::Filters;
 use refusals::Refusal;
 use run_booking_walk::End;
 use run_call::State;
+use run_open_checks::Lengths;
 
 // The samples, noise values and records of a run, the draws that it takes, and where they end.
 #[derive(Clone, Copy)]
@@ -21,6 +23,7 @@ pub struct Figures {
 }
 
 // Refusal 7, or the figures. Every draw is checked, also those behind the one that ends the run.
+#[tactic(auto, using(crate::proofs::Decided::draw_refused, crate::proofs::Decided::figures_given))]
 fn of_run(s: State, time: f64, draws: &[u8]) -> Result<Figures, Refusal>
     requires { s.total ≤ 2 ^ 52 }
     ensures { booked_read result ≡ draws_then s [] [] time draws.now }
@@ -39,26 +42,13 @@ fn of_run(s: State, time: f64, draws: &[u8]) -> Result<Figures, Refusal>
 }
 
 // What a run of these settings and filters will use of these draws, the time before the first of them given: 0.0, or where an earlier part of the draws ran out.
-pub fn booking(
-    time: f64,
-    settings: &[u8],
-    taps_s: &[f32],
-    taps_ac: &[f32],
-    draws: &[u8],
-) -> Result<Figures, Refusal>
-    ensures { booked_read result ≡ booking_of taps_s.now taps_ac.now time settings.now draws.now }
+#[tactic(auto, unfolding(crate::specs::Booking::booking_of, crate::specs::Booking::opened_then, crate::specs::Booked::booked_read, run_open_checks::specs::Opening::prepared_of), using(crate::proofs::InRange::few_samples, crate::proofs::Decided::any_prototypes))]
+pub fn booking(time: f64, settings: &[u8], taps: Filters, draws: &[u8]) -> Result<Figures, Refusal>
+    ensures { booked_read result ≡ booking_of taps.entry.mode_s.now taps.entry.mode_ac.now time settings.now draws.now }
 {
     if draws.len() % DRAW_LEN != 0 {
         return Err(Refusal::Length);
     }
-    let prepared = run_open_checks::prepare(
-        settings,
-        taps_s,
-        taps_ac,
-        PROTOTYPE_LEN,
-        PROTOTYPE_LEN,
-        MEMORY_LEN,
-    );
-    let s = prepared.opened?;
+    let s = run_open_checks::prepare(settings, taps, Lengths::WHOLE).opened?;
     of_run(s, time, draws)
 }

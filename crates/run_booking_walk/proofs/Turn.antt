@@ -1,14 +1,14 @@
 -- The code's loop: one draw more, and its ends.
-use Prim.Native.Nat.{ℕ, suc, ◌+◌, ◌-◌, ◌<◌, ◌≤◌}
-use mathlib.Core.Path.{◌≡◌, sym, ap, ◌∙◌}
-use mathlib.Core.Bool.{true, false, true≢false, false≢true}
-use mathlib.Core.List.{List, ◌∷◌}
+use Prim.Native.Nat.{ℕ, ◌+◌, ◌-◌, ◌*◌, ◌/◌, ◌<◌, ◌≤◌}
+use mathlib.Core.Path.{◌≡◌, refl, sym, ap, ◌∙◌}
+use mathlib.Core.List.{List}
 use native.Mathlib.Numerals.{add-one}
 use native.Mathlib.Omega.{arith}
 use lib.Dec.{lit<}
 use lib.IntN.{ℤ}
 use lib.ListN.{length, take, drop, length-drop}
-use lib.Seq.{take_all}
+use lib.Seq.{take_all, drop-drop}
+use Rattle.std.proofs.Common.{w64, SFits, to_z, of_z, to_z-of_z}
 use lib.Ieee.{Float}
 use Rattle.run_theory.specs.Generator.{Generator, start_from}
 use Rattle.run_theory.specs.PlainRun as Plain
@@ -24,71 +24,93 @@ use Rattle.draw.specs.Config.{time_after, config_with, config_of, start_at}
 use Rattle.draw_config.specs.Pending.{pending_of}
 use Rattle.run_booking_walk.specs.declared.End as End
 use Rattle.run_booking_walk.specs.declared.Kind as Kind
-use Rattle.run_booking_walk.specs.declared.Progress.{Progress}
 use Rattle.run_booking_walk.specs.Walk as Walk
 use Rattle.run_booking_walk.specs.Answered.{walk_generator, end_read, walked_read}
-use Rattle.run_booking_walk.specs.WalkModel.{kind_seen, progress_after}
+use Rattle.run_booking_walk.specs.WalkModel.{kind_seen}
 
 -- the part of a list from an offset to its end
-pub part_is : (s : List ℕ) (at : ℕ) → take (length s - at) (drop at s) ≡ drop at s
+part_is : (s : List ℕ) (at : ℕ) → take (length s - at) (drop at s) ≡ drop at s
 part_is s at = take_all (length s - at) (drop at s) (rw length-drop (omega arith))
 
--- at most one record a draw
-pub counted_on : (w w' : Progress) (kind : Kind.Kind) (time : Float) → w' ≡ progress_after w kind time → w'.records ≤ w.records + 1
-unfolding progress_after
-counted_on w w' Kind.TheVariants.Ignored time e = omega (arith, ap (λ (x : Progress). x.records) e)
-counted_on w w' Kind.TheVariants.Ends time e = omega (arith, ap (λ (x : Progress). x.records) e)
-counted_on w w' Kind.TheVariants.Reply time e = omega (arith, ap (λ (x : Progress). x.records) e)
+-- a choice by what the code makes of a draw
+abbrev by_seen : {X : Type 0} → Kind.Kind → X → X → X → X
+by_seen Kind.TheVariants.Ignored passed ended replied = passed
+by_seen Kind.TheVariants.Ends passed ended replied = ended
+by_seen Kind.TheVariants.Reply passed ended replied = replied
 
-module _ (all : Distributions) (delays : Delays) (total : ℕ) where
+seen_is : {X : Type 0} (kind : Plain.Kind) (passed ended replied : X) → Walk.by_kind kind passed ended replied ≡ by_seen (kind_seen kind) passed ended replied
+unfolding kind_seen
+seen_is Plain.ignored passed ended replied = refl
+seen_is Plain.ends passed ended replied = refl
+seen_is (Plain.reply first) passed ended replied = refl
+
+module _ (all : Distributions) (delays : Delays) (total : ℕ) (s : List ℕ) where
   abbrev G : Generator
   G = walk_generator all delays total
 
-  -- the rest of a walk
-  abbrev pub rest_of : ℕ → Progress → List ℕ → Walk.Walk Float
-  rest_of k w rest = Walk.walk_from (walk_generator all delays total) k w.records w.time (draws_of (walk_generator all delays total) rest)
+  -- the walk over the draws from the k-th on
+  abbrev pub from : ℕ → ℕ → Float → Walk.Walk Float
+  from k n t = Walk.walk_from (walk_generator all delays total) k n t (draws_of (walk_generator all delays total) (drop (k * 65) s))
 
-  -- what step 4 makes of the next draw
-  abbrev pub next : Progress → List ℕ → Plain.Kind
-  next w rest = Plain.kind_of (counted total) (start_from (start_at all delays (time_after w.time (draw_at rest)) (draw_at rest)))
+  -- what the code makes of the bytes from a draw on
+  abbrev message_in : Float → List ℕ → MessageConfig
+  message_in t rest = pending_of all (time_after t (draw_at rest)) (draw_at rest)
 
-  -- the walk after the next draw, where its message, start and kind are those of the definitions
-  pub stepped : (w w' : Progress) (rest : List ℕ) (message : MessageConfig) (start : ℤ) (kind : Kind.Kind)
-      → message ≡ pending_of all (time_after w.time (draw_at rest)) (draw_at rest) → start ≡ config_start delays message
-      → kind ≡ kind_seen (Plain.kind_of (counted total) (start_from start)) → w' ≡ progress_after w kind message.time
-      → w' ≡ progress_after w (kind_seen (next w rest)) (time_after w.time (draw_at rest))
-  unfolding pending_of config_with config_of config_start
-  stepped w w' rest message start kind m s k e =
-      e ∙ (λ i. progress_after w ((k ∙ ap (λ (z : ℤ). kind_seen (Plain.kind_of (counted total) (start_from z))) (s ∙ ap (config_start delays) m)) i) (m i).time)
+  module _ (k n : ℕ) (t : Float) (h : k < length s / 65) (message : MessageConfig) (start : ℤ) (kind : Kind.Kind)
+      (part : message ≡ message_in t (take (length s - k * 65) (drop (k * 65) s))) (f : SFits w64 start) (b : start ≡ config_start delays message)
+      (e : kind ≡ kind_seen (Plain.kind_of (counted total) (start_from (to_z w64 (of_z w64 start))))) where
+    abbrev t' : Float
+    t' = time_after t (draw_at (drop (k * 65) s))
 
-  module _ (k : ℕ) (w w' : Progress) (rest : List ℕ) (h : 65 ≤ length rest) (e : w' ≡ progress_after w (kind_seen (next w rest)) (time_after w.time (draw_at rest))) where
-    first : rest_of k w rest ≡ Walk.walk_from G k w.records w.time (G.draw_at rest ∷ draws_of G (drop 65 rest))
-    first = ap (Walk.walk_from G k w.records w.time) (draws_cons G rest (lit< tt) h)
+    m : message ≡ message_in t (drop (k * 65) s)
+    m = part ∙ ap (message_in t) (part_is s (k * 65))
 
-    pub goes_on : w'.ended ≡ false → rest_of k w rest ≡ rest_of (k + 1) w' (drop 65 rest)
-    unfolding time_after progress_after kind_seen
-    goes_on q = first ∙ go (next w rest) e ∙ ap (λ (n : ℕ). rest_of n w' (drop 65 rest)) (sym (add-one k))
-      where
-        go : (kind : Plain.Kind) → w' ≡ progress_after w (kind_seen kind) (time_after w.time (draw_at rest))
-            → Walk.by_kind kind (Walk.walk_from G (suc k) w.records (time_after w.time (draw_at rest)) (draws_of G (drop 65 rest))) (record { records = w.records; taken = suc k; end = Walk.at_draw k }) (Walk.walk_from G (suc k) (suc w.records) (time_after w.time (draw_at rest)) (draws_of G (drop 65 rest)))
-            ≡ rest_of (suc k) w' (drop 65 rest)
-        go Plain.ignored p = λ i. rest_of (suc k) (sym p i) (drop 65 rest)
-        go Plain.ends p = absurd (true≢false (sym (ap (λ (x : Progress). x.ended) p) ∙ q))
-        go (Plain.reply s) p =
-            ap (λ (n : ℕ). Walk.walk_from G (suc k) n (time_after w.time (draw_at rest)) (draws_of G (drop 65 rest))) (sym (add-one w.records))
-            ∙ (λ i. rest_of (suc k) (sym p i) (drop 65 rest))
+    time_is : message.time ≡ t'
+    unfolding pending_of config_with config_of
+    time_is = ap (λ (x : MessageConfig). x.time) m
 
-    pub stops : w'.ended ≡ true → rest_of k w rest ≡ walked_read (record { records = w'.records; taken = k + 1; end = End.TheVariants.Draw k })
-    unfolding time_after progress_after kind_seen walked_read end_read
-    stops q = first ∙ go (next w rest) e
-      where
-        go : (kind : Plain.Kind) → w' ≡ progress_after w (kind_seen kind) (time_after w.time (draw_at rest))
-            → Walk.by_kind kind (Walk.walk_from G (suc k) w.records (time_after w.time (draw_at rest)) (draws_of G (drop 65 rest))) (record { records = w.records; taken = suc k; end = Walk.at_draw k }) (Walk.walk_from G (suc k) (suc w.records) (time_after w.time (draw_at rest)) (draws_of G (drop 65 rest)))
-            ≡ record { records = w'.records; taken = k + 1; end = Walk.at_draw k }
-        go Plain.ignored p = absurd (false≢true (sym (ap (λ (x : Progress). x.ended) p) ∙ q))
-        go Plain.ends p = λ i. record { records = (sym p i).records; taken = sym (add-one k) i; end = Walk.at_draw k }
-        go (Plain.reply s) p = absurd (false≢true (sym (ap (λ (x : Progress). x.ended) p) ∙ q))
+    -- what step 4 makes of the draw
+    abbrev made : Plain.Kind
+    made = Plain.kind_of (counted total) (start_from (start_at all delays (time_after t (draw_at (drop (k * 65) s))) (draw_at (drop (k * 65) s))))
 
-  pub ends : (k : ℕ) (w : Progress) (rest : List ℕ) → length rest < 65 → rest_of k w rest ≡ walked_read (record { records = w.records; taken = k; end = End.TheVariants.RanOut w.time })
+    kind_is : kind ≡ kind_seen made
+    unfolding pending_of config_with config_of config_start
+    kind_is = e ∙ ap (λ (z : ℤ). kind_seen (Plain.kind_of (counted total) (start_from z))) (to_z-of_z f ∙ b ∙ ap (config_start delays) m)
+
+    length_is : k * 65 + 65 ≡ (k + 1) * 65
+    length_is = omega arith
+
+    enough : 65 ≤ length (drop (k * 65) s)
+    enough = rw length-drop (omega (arith, h))
+
+    next : drop 65 (drop (k * 65) s) ≡ drop ((k + 1) * 65) s
+    next = drop-drop 65 (k * 65) s ∙ ap (λ (n : ℕ). drop n s) length_is
+
+    -- the walk from the draw on, by what the code makes of it
+    abbrev on_by : Kind.Kind → Walk.Walk Float
+    on_by c = by_seen c (from (k + 1) n message.time) (record { records = n; taken = k + 1; end = Walk.at_draw k }) (from (k + 1) (n + 1) message.time)
+
+    turn : from k n t ≡ on_by kind
+    unfolding time_after
+    turn =
+        ap (Walk.walk_from G k n t) (draws_cons G (drop (k * 65) s) (lit< tt) enough)
+        ∙ (λ i. Walk.by_kind made (Walk.walk_from G (sym (add-one k) i) n (sym time_is i) (draws_of G (next i))) (record { records = n; taken = sym (add-one k) i; end = Walk.at_draw k }) (Walk.walk_from G (sym (add-one k) i) (sym (add-one n) i) (sym time_is i) (draws_of G (next i))))
+        ∙ seen_is made _ _ _
+        ∙ ap on_by (sym kind_is)
+
+    pub passes : kind ≡ Kind.TheVariants.Ignored → from k n t ≡ from (k + 1) n message.time
+    passes q = turn ∙ ap on_by q
+
+    pub stops : kind ≡ Kind.TheVariants.Ends → from k n t ≡ walked_read (record { records = n; taken = k + 1; end = End.TheVariants.Draw k })
+    unfolding walked_read end_read
+    stops q = turn ∙ ap on_by q
+
+    pub replies : kind ≡ Kind.TheVariants.Reply → from k n t ≡ from (k + 1) (n + 1) message.time
+    replies q = turn ∙ ap on_by q
+
+  pub ends : (k n : ℕ) (t : Float) → k ≤ length s / 65 → length s / 65 ≤ k → from k n t ≡ walked_read (record { records = n; taken = length s / 65; end = End.TheVariants.RanOut t })
   unfolding walked_read end_read
-  ends k w rest h = ap (Walk.walk_from G k w.records w.time) (draws_none G rest h)
+  ends k n t b h =
+      let last : k ≡ length s / 65 = omega arith in
+      ap (Walk.walk_from G k n t) (draws_none G (drop (k * 65) s) (rw length-drop (omega (arith, h))))
+      ∙ ap (λ (j : ℕ). record { records = n; taken = j; end = Walk.ran_out t }) last

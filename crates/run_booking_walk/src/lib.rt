@@ -1,14 +1,14 @@
 // The walk over draws: the records of a run, and the draw that ends it. No sample is made.
 #![tactic(auto)]
 
-ghost use Rattle.std.specs.Prelude.{◌≡◌, ◌+◌, ◌*◌, ◌≤◌, ◌<◌, ◌^◌, length};
+ghost use Rattle.std.specs.Prelude.{◌≡◌, ◌+◌, ◌*◌, ◌≤◌, ◌<◌, length};
 ghost use Rattle.run_theory.specs.Generator.{start_from};
 ghost use Rattle.run_theory.specs.PlainRun.{kind_of};
 ghost use Rattle.run_theory.specs.PlainBench.{draws_of};
 ghost use Rattle.run_steps.specs.PlanModel.{counted};
 ghost use Rattle.run_booking_walk.specs.Walk.{walk_of};
 ghost use Rattle.run_booking_walk.specs.Answered.{walk_generator, walked_read};
-ghost use Rattle.run_booking_walk.specs.WalkModel.{kind_seen, progress_after};
+ghost use Rattle.run_booking_walk.specs.WalkModel.{kind_seen};
 
 use constants::{DRAW_LEN, REPLY_LIMIT};
 use message_config::Delays;
@@ -39,15 +39,8 @@ pub enum Kind {
     Reply,
 }
 
-// A walk so far: the records, the time of the last draw, and whether that draw ends the run.
-#[derive(Clone, Copy)]
-pub struct Progress {
-    pub records: u64,
-    pub time: f64,
-    pub ended: bool,
-}
-
 // Of a draw's start.
+#[tactic(auto, using(run_steps::proofs::Tests::negative_start, crate::proofs::Step4::ignored, crate::proofs::Step4::ends, crate::proofs::Step4::replies))]
 fn kind_of(total: u64, start: i64) -> Kind
     ensures { result ≡ kind_seen (kind_of (counted total) (start_from start)) }
 {
@@ -58,60 +51,34 @@ fn kind_of(total: u64, start: i64) -> Kind
     }
 }
 
-// A draw taken at its time, with n records more.
-fn took(w: Progress, time: f64, ended: bool, n: u64) -> Progress
-    requires { w.records + n < 2 ^ 64 }
-    ensures { result ≡ record { records = w.records + n; time = time; ended = ended } }
-{
-    Progress {
-        records: w.records + n,
-        time,
-        ended,
-    }
-}
-
-// The walk after one more draw. An ignored draw's time counts.
-#[tactic(auto, unfolding(crate::specs::WalkModel::progress_after))]
-fn after_draw(w: Progress, kind: Kind, time: f64) -> Progress
-    requires { w.records + 1 < 2 ^ 64 }
-    ensures { result ≡ progress_after w kind time }
-{
-    match kind {
-        Kind::Ignored => took(w, time, false, 0),
-        Kind::Ends => took(w, time, true, 0),
-        Kind::Reply => took(w, time, false, 1),
-    }
-}
-
-// The walk over all draws in the bytes, the time before the first one given.
+// The walk over all draws in the bytes, the time before the first one given. An ignored draw's time counts.
+#[tactic(auto, using(crate::proofs::Turn::passes, crate::proofs::Turn::stops, crate::proofs::Turn::replies, crate::proofs::Turn::ends))]
 pub fn walk(all: Distributions, delays: Delays, total: u64, time: f64, draws: &[u8]) -> Walked
     ensures { (walked_read result ≡ walk_of (walk_generator all delays total) time (draws_of (walk_generator all delays total) draws.now)) × (65 * result.taken ≤ length draws.now) }
 {
-    let mut rest = draws;
-    let mut k: u64 = 0;
-    let mut w = Progress {
-        records: 0,
-        time,
-        ended: false,
-    };
-    // A walk along a slice that shrinks; k names the draw in the answer.
-    while DRAW_LEN <= rest.len() {
-        let message = draw_config::pending(all, w.time, rest);
+    let mut records: u64 = 0;
+    let mut last = time;
+    for k in 0..draws.len() / DRAW_LEN {
+        let message = draw_config::pending(all, last, &draws[k * DRAW_LEN..]);
         let start = message.first_sample_index(delays);
-        w = after_draw(w, kind_of(total, start), message.time);
-        if w.ended {
-            return Walked {
-                records: w.records,
-                taken: k + 1,
-                end: End::Draw(k),
-            };
+        match kind_of(total, start) {
+            Kind::Ignored => last = message.time,
+            Kind::Ends => {
+                return Walked {
+                    records,
+                    taken: k as u64 + 1,
+                    end: End::Draw(k as u64),
+                };
+            }
+            Kind::Reply => {
+                last = message.time;
+                records += 1;
+            }
         }
-        rest = &rest[DRAW_LEN..];
-        k += 1;
     }
     Walked {
-        records: w.records,
-        taken: k,
-        end: End::RanOut(w.time),
+        records,
+        taken: (draws.len() / DRAW_LEN) as u64,
+        end: End::RanOut(last),
     }
 }

@@ -81,6 +81,7 @@ module _ (s : State) (mode_s mode_ac memory : List Float) (draws : List ℕ) (no
       unfolding noise_fault_read refusal_given
       noise_refused p e x r = refused_with_lem (Bench.wrong_noise p) x (then_noise ∙ ap noise_fault_read e) r
 
-      pub not_refused : l ≡ None → (left : Left) → left ≡ call_left s mode_s mode_ac memory draws noise output records → left ≡ run_left s mode_s mode_ac memory draws noise output records
+      -- `whole` is memory, lent as an array
+      pub not_refused : l ≡ None → (whole : List Float) → whole ≡ memory → (left : Left) → left ≡ call_left s mode_s mode_ac whole draws noise output records → left ≡ run_left s mode_s mode_ac memory draws noise output records
       unfolding noise_fault_read run_left
-      not_refused e left k = k ∙ sym (ap (λ (o : Option Bench.Refusal). run_by s memory output records (call_left s mode_s mode_ac memory draws noise output records) o) (then_noise ∙ ap noise_fault_read e))
+      not_refused e whole w left k = k ∙ ap (λ (m : List Float). call_left s mode_s mode_ac m draws noise output records) w ∙ sym (ap (λ (o : Option Bench.Refusal). run_by s memory output records (call_left s mode_s mode_ac memory draws noise output records) o) (then_noise ∙ ap noise_fault_read e))

@@ -1,17 +1,19 @@
-// Run calls: the checks, and the steps, each a stop, samples that are due, or a draw. Each function is tied to the theory of lists of calls.
+// Run calls: the checks, and the steps, each a stop, samples that are due, or a draw. What each yields is stated by models in specs/, of which the theory of lists of calls speaks.
 #![tactic(auto)]
 
-ghost use Rattle.std.specs.Prelude.{◌≡◌, ◌+◌, ◌*◌, ◌≤◌, ◌<◌, ◌^◌, length};
+ghost use Rattle.std.specs.Prelude.{◌≡◌, ◌+◌, ◌-◌, ◌*◌, ◌≤◌, ◌<◌, ◌^◌, length};
 ghost use Rattle.std.specs.Float.{nan};
 ghost use Rattle.run_call.specs.CallModel.{initial_by, ran_by, call_left, refused_by, run_left};
 ghost use Rattle.run_call.specs.StepModel.{Inside, progress_read, rest_after, StepSays};
 ghost use Rattle.run_call.specs.StateGenerator.{gen_of};
+ghost use Rattle.run_steps.specs.PlanModel.{plan_read, chosen};
 
-use constants::{DRAW_LEN, RECORD_LEN};
-use message_config::Delays;
+use constants::{DRAW_LEN, MEMORY_LEN, RECORD_LEN};
+use message_config::{Delays, MessageConfig};
+use pulse_shape::Filters;
 use refusals::Refusal;
 pub use run_steps::Stop;
-use run_steps::{LastStep, Plan, Progress};
+use run_steps::{LastStep, Plan, Progress, Room};
 use settings::{Distributions, MessagesPerSecond};
 
 // What a run call hands to the next one.
@@ -46,35 +48,43 @@ pub struct Ran {
     pub answer: Result<Stop, Refusal>,
 }
 
+// What is left of buffers of these lengths.
+fn left(t: Progress, noise: usize, output: usize, records: usize) -> Room
+    requires { Inside t noise output records }
+    ensures { result ≡ record { output = output - 2 * t.samples; noise = noise - 2 * t.samples; records = records - 66 * t.records } }
+{
+    Room {
+        output: output - 2 * t.samples,
+        noise: noise - 2 * t.samples,
+        records: records - RECORD_LEN * t.records,
+    }
+}
+
+// What comes next in a call.
+fn next(s: State, t: Progress, last: MessageConfig, rest: usize, room: Room) -> Plan
+    ensures { plan_read result ≡ chosen t.ended t.written s.total s.delays last rest room.output room.noise room.records }
+{
+    run_steps::choose(t.ended, t.written, s.total, s.delays, last, rest, room)
+}
+
+// The buffers are passed apart, as C lends them: of a struct of `&mut` slices each contract would have to promise besides that every field is still the same borrow (its `ghost_name`), and the draws that are left change with each step.
 // One step: a stop, n samples, or a draw. The count of a reply is known once its samples are added.
 fn step(
     s: State,
     t: Progress,
-    mode_s: &[f32],
-    mode_ac: &[f32],
-    memory: &mut [f32],
+    prototypes: Filters,
+    memory: &mut [f32; MEMORY_LEN],
     rest: &[u8],
     noise: &[f32],
     output: &mut [f32],
     records: &mut [u8],
 ) -> Progress
-    requires { (length memory.old ≡ 2252) × (Inside t (length noise.now) (length output.old) (length records.old)) × (65 * t.taken + length rest.now < 2 ^ 64) × (s.total < 2 ^ 64) }
-    ensures { StepSays (gen_of s mode_s.now mode_ac.now) noise.now nan result.last (progress_read s mode_s.now mode_ac.now t memory.old rest.now output.old records.old) (progress_read s mode_s.now mode_ac.now result memory.new (rest_after result.last rest.now) output.new records.new) }
+    requires { (Inside t (length noise.now) (length output.old) (length records.old)) × (65 * t.taken + length rest.now < 2 ^ 64) × (s.total < 2 ^ 64) }
+    ensures { StepSays (gen_of s prototypes.entry.mode_s.now prototypes.entry.mode_ac.now) noise.now nan result.last (progress_read s prototypes.entry.mode_s.now prototypes.entry.mode_ac.now t memory.old rest.now output.old records.old) (progress_read s prototypes.entry.mode_s.now prototypes.entry.mode_ac.now result memory.new (rest_after result.last rest.now) output.new records.new) }
 {
     let last = draw_config::pending(s.distributions, t.time, rest);
-    let used = 2 * t.samples;
-    let lines = t.records;
-    let p = run_steps::choose(
-        t.ended,
-        t.written,
-        s.total,
-        s.delays,
-        last,
-        rest.len(),
-        output.len() - used,
-        noise.len() - used,
-        records.len() - RECORD_LEN * lines,
-    );
+    let room = left(t, noise.len(), output.len(), records.len());
+    let p = next(s, t, last, rest.len(), room);
     let r = run_steps::after_step(t, p, 0);
     match p {
         Plan::Halt(_) | Plan::Skip(_) | Plan::End(_) => r,
@@ -87,12 +97,11 @@ fn step(
                 last,
                 s.delays,
                 first,
-                mode_s,
-                mode_ac,
+                prototypes,
                 memory,
                 rest,
                 records,
-                RECORD_LEN * lines,
+                RECORD_LEN * t.records,
             );
             run_steps::after_step(t, p, count)
         }
@@ -119,6 +128,7 @@ fn initial_progress(s: State) -> Progress
 }
 
 // The answer at a stop.
+#[tactic(auto, using(crate::proofs::Halves::stopped_is))]
 fn stopped_at(s: State, t: Progress, w: Stop) -> Ran
     requires { 2 * t.samples < 2 ^ 64 }
     ensures { result ≡ ran_by s t w }
@@ -144,23 +154,22 @@ fn stopped_at(s: State, t: Progress, w: Stop) -> Ran
 }
 
 // The steps of a call, until one stops it. The draw bytes that are not taken are handed on as a part.
+#[tactic(auto, using(crate::proofs::Going::tail_is, crate::proofs::Going::samples_written_less, crate::proofs::Going::samples_written_again, crate::proofs::Going::draw_taken_bytes, crate::proofs::Going::draw_taken_less, crate::proofs::Going::draw_taken_again, crate::proofs::Going::stop_reached_samples))]
 fn steps(
     s: State,
-    mode_s: &[f32],
-    mode_ac: &[f32],
-    memory: &mut [f32],
+    prototypes: Filters,
+    memory: &mut [f32; MEMORY_LEN],
     draws: &[u8],
     noise: &[f32],
     output: &mut [f32],
     records: &mut [u8],
 ) -> Ran
-    requires { length memory.old ≡ 2252 }
-    ensures { record { ran = result; memory = memory.new; output = output.new; records = records.new } ≡ call_left s mode_s.now mode_ac.now memory.old draws.now noise.now output.old records.old }
+    ensures { record { ran = result; memory = memory.new; output = output.new; records = records.new } ≡ call_left s prototypes.entry.mode_s.now prototypes.entry.mode_ac.now memory.old draws.now noise.now output.old records.old }
 {
     let mut t = initial_progress(s);
     let mut rest = draws;
     loop {
-        t = step(s, t, mode_s, mode_ac, memory, rest, noise, output, records);
+        t = step(s, t, prototypes, memory, rest, noise, output, records);
         match t.last {
             LastStep::SamplesWritten => {}
             LastStep::DrawTaken => {
@@ -192,22 +201,22 @@ fn refused(s: State, q: Refusal) -> Ran
 }
 
 // A run call: refused, or its steps until one stops it. A refusal changes neither the state nor any buffer.
+#[tactic(auto, using(run_call_checks::proofs::Lengths::right_memory, crate::proofs::Refusing::buffers_refused, crate::proofs::Refusing::draw_refused, crate::proofs::Refusing::noise_refused))]
 pub fn run(
     s: State,
-    mode_s: &[f32],
-    mode_ac: &[f32],
+    prototypes: Filters,
     memory: &mut [f32],
     draws: &[u8],
     noise: &[f32],
     output: &mut [f32],
     records: &mut [u8],
 ) -> Ran
-    ensures { record { ran = result; memory = memory.new; output = output.new; records = records.new } ≡ run_left s mode_s.now mode_ac.now memory.old draws.now noise.now output.old records.old }
+    ensures { record { ran = result; memory = memory.new; output = output.new; records = records.new } ≡ run_left s prototypes.entry.mode_s.now prototypes.entry.mode_ac.now memory.old draws.now noise.now output.old records.old }
 {
     if run_call_checks::lengths_wrong(
         memory.len(),
-        mode_s.len(),
-        mode_ac.len(),
+        prototypes.mode_s.len(),
+        prototypes.mode_ac.len(),
         output.len(),
         draws.len(),
     ) {
@@ -220,5 +229,8 @@ pub fn run(
     if let Some(p) = run_call_checks::check_noise(noise) {
         return refused(s, Refusal::Noise(p));
     }
-    steps(s, mode_s, mode_ac, memory, draws, noise, output, records)
+    let Some(whole) = memory.as_mut_array::<MEMORY_LEN>() else {
+        unreachable!()
+    };
+    steps(s, prototypes, whole, draws, noise, output, records)
 }

@@ -16,7 +16,6 @@ use Rattle.settings.specs.declared.MessagesPerSecond.{MessagesPerSecond}
 use Rattle.draw.specs.Draw.{draw_at}
 use Rattle.draw.specs.Config.{time_after}
 use Rattle.draw.specs.Fault.{draw_fault, fault_at, fault_from, first_fault}
-use Rattle.run_generator.specs.Instance.{fault_of}
 use Rattle.run_call_checks.specs.ChecksModel.{jump_of, fault_read, check_generator}
 
 module _ (rates : MessagesPerSecond) (all : Distributions) where
@@ -28,12 +27,12 @@ module _ (rates : MessagesPerSecond) (all : Distributions) where
   fault_same zero k bytes = refl
   fault_same (suc n) k bytes =
       by (draw_fault rates all (draw_at bytes))
-      ∙ ap (λ (o : Option Bench.Refusal). Bench.or_else (check_generator rates all) (Bench.at_draw (check_generator rates all) k (fault_of (draw_fault rates all (draw_at bytes)))) o) (fault_same n (suc k) (drop 65 bytes))
+      ∙ ap (λ (o : Option Bench.Refusal). Bench.or_else (check_generator rates all) (Bench.at_draw (check_generator rates all) k (draw_fault rates all (draw_at bytes))) o) (fault_same n (suc k) (drop 65 bytes))
     where
       by : (f : Option ℕ) → fault_read (fault_at k f (fault_from rates all n (suc k) (drop 65 bytes)))
-          ≡ Bench.or_else (check_generator rates all) (Bench.at_draw (check_generator rates all) k (fault_of f)) (fault_read (fault_from rates all n (suc k) (drop 65 bytes)))
-      by None = unfold fault_at fault_of in refl
-      by (Some field) = unfold fault_at fault_of fault_read in refl
+          ≡ Bench.or_else (check_generator rates all) (Bench.at_draw (check_generator rates all) k f) (fault_read (fault_from rates all n (suc k) (drop 65 bytes)))
+      by None = unfold fault_at in refl
+      by (Some field) = unfold fault_at fault_read in refl
 
   module _ (time latest : Float) (draws : List ℕ) where
     abbrev refusal : Option Bench.Refusal

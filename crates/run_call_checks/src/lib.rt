@@ -37,7 +37,8 @@ fn jumps_back(time: f64, latest: f64, draws: &[u8]) -> bool
     draws.len() >= DRAW_LEN && draw::time_after(time, draws) < latest
 }
 
-// Refusal 7: a first draw that jumps back, or the first draw and field at fault.
+// Refusal 7: a first draw that jumps back, or the first draw and field at fault, as their places: the caller makes a refusal of them, here and in `check_noise`.
+#[tactic(auto, unfolding(crate::specs::ChecksModel::fault_read), using(crate::proofs::Draws::jump_refused, crate::proofs::Draws::no_jump))]
 pub fn check_draws(
     time: f64,
     latest: f64,
@@ -57,6 +58,7 @@ pub fn check_draws(
 const NOISE_LIMIT: f32 = 64.0;
 
 // The first noise value at fault.
+#[tactic(auto, using(crate::proofs::NoiseInRange::out_of_range_at, crate::proofs::NoiseInRange::out_of_range_on, crate::proofs::NoiseInRange::out_of_range_end))]
 fn first_out_of_range(noise: &[f32]) -> Option<u64>
     ensures { noise_fault_read result ≡ out_of_range_from 0 noise.now }
 {
@@ -69,6 +71,7 @@ fn first_out_of_range(noise: &[f32]) -> Option<u64>
 }
 
 // No noise value is at fault. Without an early exit the compiler can test several at once.
+#[tactic(auto, using(crate::proofs::NoiseInRange::in_range_end))]
 fn all_in_range(noise: &[f32]) -> bool
     ensures { cond result (out_of_range_from 0 noise.now) None ≡ None }
 {

@@ -7,15 +7,14 @@ use Prim.Native.Nat.{ℕ, zero, suc, ◌+◌, ◌-◌, ◌*◌, ◌%◌, ◌≤�
 use native.Mathlib.Nat.{mod-lt, mod-add-mod, suc-mod, mod-eq_of_lt, mod_self, add-zero}
 use native.Mathlib.Omega.{arith}
 use lib.Dec.{ltb}
-use lib.ListN.{length-replicate, length, length-drop, get_or, set, take, drop, replicate, length-set, take-append-drop}
-use lib.Seq.{get_or-drop, take-add, length-take-le, get_or-set_other, drop-cons, take-suc-set, drop-set-lt}
+use lib.ListN.{length, length-drop, get_or, set, take, drop, replicate, length-set, take-append-drop}
+use lib.Seq.{take-add, length-take-le, get_or-set_other, drop-cons, take-suc-set, drop-set-lt}
 use borrow.Author.Tests.{ltb-true, ltb-false}
 use Rattle.run_theory.specs.Generator.{Generator, Sample, NoisePair, silence, add, noisy}
 use Rattle.run_theory.specs.PlainBench.{pairs, flatten}
 use Rattle.run_call_model.specs.Machine.{window, rd, wr, put}
-use Rattle.run_call_model.specs.Buffers.{overwritten}
 use Rattle.run_call_model.specs.Batch.{written, cleared, mixed}
-use Rattle.run_call_model.proofs.FlatLists.{overwritten_snoc, overwritten_beyond, replicate_snoc, flatten_append, flatten_pairs, pairs_after, length_pairs}
+use Rattle.run_call_model.proofs.FlatLists.{flatten_append, flatten_pairs, pairs_after, length_pairs}
 use Rattle.run_call_model.proofs.Ring.{rd_other, length_wr}
 use Rattle.run_call_model.proofs.Batch.{written_append, cleared_add, length_cleared}
 
@@ -215,29 +214,10 @@ module _ (G : Generator) (o : G.Value) where
   mixed_snoc zero (x ∷ y ∷ xs) (v ∷ vs) h k = refl
   mixed_snoc (suc i) (x ∷ xs) (v ∷ vs) h k = ap (λ (l : List Value). plus x (scaled v) ∷ l) (mixed_snoc i xs vs (omega arith) (omega arith))
 
-  -- after i numbers of a stretch from slot p on, output overwritten from `at` on and memory blanked: the next number goes to output, and its slot in memory is blanked
-  module _ (m noise output : List Value) (p from at i : ℕ) (in_memory : p + i < length m) (in-noise : from + i < length noise) (in-output : at + i < length output) where
-    pub stretch_output : set (overwritten at (mixed G o (drop p m) (take i (drop from noise))) output) (at + i) (plus (get_or (overwritten p (replicate i nought) m) (p + i) o) (scaled (get_or noise (from + i) o)))
-        ≡ overwritten at (mixed G o (drop p m) (take (suc i) (drop from noise))) output
-    stretch_output =
-        overwritten_snoc at i (mixed G o (drop p m) (take i (drop from noise))) output (plus (get_or (overwritten p (replicate i nought) m) (p + i) o) (scaled (get_or noise (from + i) o))) len in-output
-        ∙ ap (λ (l : List Value). overwritten at l output) (ap (λ (x : Value). mixed G o (drop p m) (take i (drop from noise)) ++ (x ∷ [])) number ∙ mixed_snoc i (drop p m) (drop from noise) (omega (arith, length-drop p m)) (omega (arith, length-drop from noise)))
-      where
-        len : length (mixed G o (drop p m) (take i (drop from noise))) ≡ i
-        len = length_mixed i (drop p m) (drop from noise) (omega (arith, length-drop p m)) (omega (arith, length-drop from noise))
-
-        read : get_or (overwritten p (replicate i nought) m) (p + i) o ≡ get_or m (p + i) o
-        read =
-            ap (λ (k : ℕ). get_or (overwritten p (replicate i nought) m) k o) {x = p + i} {y = p + i + 0} (omega arith)
-            ∙ overwritten_beyond p i 0 (replicate i nought) m o (length-replicate i nought) (omega arith)
-            ∙ ap (λ (k : ℕ). get_or m k o) {x = p + i + 0} {y = p + i} (omega arith)
-
-        number : plus (get_or (overwritten p (replicate i nought) m) (p + i) o) (scaled (get_or noise (from + i) o)) ≡ plus (get_or (drop p m) i o) (scaled (get_or (drop from noise) i o))
-        number = (λ j. plus ((read ∙ sym (get_or-drop p m i o)) j) (scaled (sym (get_or-drop from noise i o) j)))
-
-  -- memory after a stretch, as overwritten
-  pub cleared_overwritten : (k j : ℕ) (m : List Value) (w : ℕ) → (w + k) % window G o + j ≤ window G o → length m ≡ 2 * window G o
-      → cleared G o m w (k + j) ≡ overwritten (2 * ((w + k) % window G o)) (replicate (2 * j) nought) (cleared G o m w k)
-  cleared_overwritten k j m w fits f =
-      cleared_more k j m w fits f
-      ∙ ap (λ (n : ℕ). take (2 * ((w + k) % window G o)) (cleared G o m w k) ++ (replicate (2 * j) nought ++ drop (2 * ((w + k) % window G o) + n) (cleared G o m w k))) (sym (length-replicate (2 * j) nought))
+  -- of memory as many numbers as of noise
+  pub mixed_take : (n : ℕ) (xs vs : List Value) → mixed G o (take n xs) (take n vs) ≡ mixed G o xs (take n vs)
+  mixed_take zero [] vs = refl
+  mixed_take zero (x ∷ xs) vs = refl
+  mixed_take (suc n) [] vs = refl
+  mixed_take (suc n) (x ∷ xs) [] = refl
+  mixed_take (suc n) (x ∷ xs) (v ∷ vs) = ap (λ (l : List Value). plus x (scaled v) ∷ l) (mixed_take n xs vs)

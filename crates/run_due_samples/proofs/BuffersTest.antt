@@ -1,13 +1,13 @@
--- The test of the buffers, from facts and to facts.
-use mathlib.Core.Bool.{Bool, true, false, ◌&&◌, false≢true}
-use mathlib.Core.List.{List}
-use mathlib.Core.Path.{◌≡◌, refl, sym, ap, ◌∙◌}
-use Prim.Native.Nat.{ℕ, ◌+◌, ◌*◌, ◌/◌, ◌≤◌}
+-- The test of the buffers, from facts, and what writing leaves where they fit.
+use mathlib.Core.Bool.{Bool, true, false, cond}
+use mathlib.Core.List.{List, ◌++◌}
+use mathlib.Core.Path.{◌≡◌, sym, ap, ◌∙◌}
+use Prim.Native.Nat.{ℕ, ◌+◌, ◌*◌, ◌/◌, ◌≤◌, ◌<◌, min}
 use native.Mathlib.Omega.{arith}
-use lib.Dec.{eqb, leb}
 use lib.Ieee.{Float}
-use lib.ListN.{length, take, drop}
-use borrow.Author.Tests.{eqb-true, leb-true, eq-eqb, le-leb}
+use lib.ListN.{length, take, drop, length-drop}
+use lib.Seq.{drop-drop, length-take-le}
+use borrow.Author.Tests.{eq-eqb, le-leb, tests}
 use Rattle.run_call_model.specs.Buffers.{overwritten}
 use Rattle.run_due_samples.specs.DueModel.{samples_of, clear_of, fits_of, DueBuffers, due_of}
 
@@ -20,27 +20,25 @@ pub fits_if : (memory noise output k n : ℕ) → Fits memory noise output k n �
 unfolding fits_of
 fits_if memory noise output k n f = sym (rw (eq-eqb memory 2252 f.memory_is, le-leb (2 * (k + n)) noise f.noise_holds, le-leb (2 * (k + n)) output f.output_holds))
 
-pub fits_for : (memory noise output k n : ℕ) → fits_of memory noise output k n ≡ true → Fits memory noise output k n
+fits_not : (memory noise output k n : ℕ) → min noise output / 2 < k + n → false ≡ fits_of memory noise output k n
 unfolding fits_of
-fits_for memory noise output k n e = go (eqb memory 2252) refl (leb (2 * (k + n)) noise) refl (leb (2 * (k + n)) output) refl e
-  where
-    go : (a : Bool) → eqb memory 2252 ≡ a → (b : Bool) → leb (2 * (k + n)) noise ≡ b → (c : Bool) → leb (2 * (k + n)) output ≡ c → a && b && c ≡ true → Fits memory noise output k n
-    go true p true q true r e = record { memory_is = eqb-true memory 2252 p; noise_holds = leb-true (2 * (k + n)) noise q; output_holds = leb-true (2 * (k + n)) output r }
-    go false p b q c r e = absurd (false≢true e)
-    go true p false q c r e = absurd (false≢true e)
-    go true p true q false r e = absurd (false≢true e)
+fits_not memory noise output k n h = grind (arith, tests)
 
--- the buffers after both cases
-pub unchanged : (noise : List Float) (w k n : ℕ) (l : DueBuffers) → false ≡ fits_of (length l.memory) (length noise) (length l.output) k n → l ≡ due_of noise w k n l
-unfolding due_of
-unchanged noise w k n l e = rw (sym e)
+-- `whole` is memory, lent as an array: what is left where n more do not fit, and where a part of b numbers is written from a of noise
+module _ (noise memory whole output : List Float) (w k n : ℕ) (same : whole ≡ memory) where
+  pub unchanged : min (length noise) (length output) / 2 < k + n → ◌≡◌ {A = DueBuffers} (record { memory = whole; output = output }) (due_of noise w k n (record { memory = memory; output = output }))
+  unfolding due_of
+  unchanged h = (λ i. record { memory = same i; output = output }) ∙ ap (λ (x : Bool). cond x (record { memory = clear_of memory w n; output = overwritten (2 * k) (samples_of memory w (take (2 * n) (drop (2 * k) noise))) output }) (record { memory = memory; output = output })) (fits_not (length memory) (length noise) (length output) k n h)
 
-half : (n : ℕ) → 2 * n / 2 ≡ n
-half n = omega arith
-
-pub changed : (noise : List Float) (w k n : ℕ) (memory output memory' output' : List Float)
-    → output' ≡ overwritten (2 * k) (samples_of memory w (take (2 * n) (drop (2 * k) noise))) output → memory' ≡ clear_of memory w (2 * n / 2)
-    → true ≡ fits_of (length memory) (length noise) (length output) k n
-    → record { memory = memory'; output = output' } ≡ due_of noise w k n (record { memory = memory; output = output })
-unfolding due_of
-changed noise w k n memory output memory' output' p q e = rw (sym e) (λ i. record { memory = (q ∙ ap (clear_of memory w) (half n)) i; output = p i })
+  pub changed : (memory' part : List Float) (a b : ℕ) → length memory ≡ 2252 → k + n ≤ min (length noise) (length output) / 2 → a ≡ 2 * n → b ≡ 2 * n → length part ≡ b
+      → part ≡ samples_of whole w (take a (drop (2 * k) noise)) → memory' ≡ clear_of whole w (length (take a (drop (2 * k) noise)) / 2)
+      → ◌≡◌ {A = DueBuffers} (record { memory = memory'; output = take (2 * k) output ++ (part ++ drop b (drop (2 * k) output)) }) (due_of noise w k n (record { memory = memory; output = output }))
+  unfolding due_of
+  changed memory' part a b m h ea eb long p q =
+      (λ i. record { memory = (q ∙ (λ j. clear_of (same j) w (half j))) i; output = take (2 * k) output ++ (part ++ (drop-drop b (2 * k) output ∙ ap (λ (j : ℕ). drop (2 * k + j) output) (sym long)) i) })
+      ∙ (λ i. record { memory = clear_of memory w n; output = overwritten (2 * k) ((p ∙ (λ j. samples_of (same j) w (take (ea j) (drop (2 * k) noise)))) i) output })
+      ∙ ap (λ (x : Bool). cond x (record { memory = clear_of memory w n; output = overwritten (2 * k) (samples_of memory w (take (2 * n) (drop (2 * k) noise))) output }) (record { memory = memory; output = output }))
+      (fits_if (length memory) (length noise) (length output) k n (record { memory_is = m; noise_holds = omega arith; output_holds = omega arith }))
+    where
+      half : length (take a (drop (2 * k) noise)) / 2 ≡ n
+      half = omega (arith, length-take-le a (drop (2 * k) noise) (omega (arith, length-drop (2 * k) noise)), ea)

@@ -1,9 +1,7 @@
 -- What the theory of calls takes from a draw in range: a gap that does not take a time back (`gap_of`), and a clock error and filter clock error within 0.1 in size, of the kind drawn (`error-of`) and of the message's (`message-error`).
-use Rattle.std.specs.Prelude.{Option, Some, None}
-use Prim.Native.Nat.{ℕ}
-use mathlib.Core.Path.{◌≡◌, refl, ap}
+use Rattle.std.specs.Prelude.{Some}
+use mathlib.Core.Path.{refl}
 use mathlib.Core.Logic.{◌≢◌}
-use native.Mathlib.Omega.{arith}
 use lib.Dec.{T}
 use lib.Ieee.{Float, binary64, fits}
 use Rattle.distributions.specs.Drawn.{error_of}
@@ -19,21 +17,14 @@ use Rattle.draw.proofs.InRange.{InRange, gap_in_range}
 use Rattle.draw.proofs.NotNegative.{NotNegative, plus, minus_zero_lem, not_negative}
 use Rattle.draw.proofs.ClockLimit.{drawn_within, filter_within}
 use Rattle.run_theory.proofs.Times.{Gap}
-use Rattle.run_generator.specs.Instance.{fault_of}
-
-pub fine_of : (x : Option ℕ) → fault_of x ≡ None → x ≡ None
-unfolding fault_of
-fine_of None e = refl
-fine_of (Some k) e = let z : ◌≡◌ {A = ℕ} 0 1 = cc in absurd (omega arith)
 
 -- ---- the gap
 gap_at : (x : Float) → NotNegative x → Gap x
 gap_at _ (plus m e) = tt
 gap_at _ (minus_zero_lem e) = refl
 
-pub gap_of : (rates : MessagesPerSecond) (all : Distributions) (d : Draw) → fault_of (draw_fault rates all d) ≢ Some 0 → Gap d.gap
-unfolding fault_of
-gap_of rates all d h = gap_at d.gap (not_negative d.gap (gap_in_range rates all d (λ e. h (ap fault_of e))))
+pub gap_of : (rates : MessagesPerSecond) (all : Distributions) (d : Draw) → draw_fault rates all d ≢ Some 0 → Gap d.gap
+gap_of rates all d h = gap_at d.gap (not_negative d.gap (gap_in_range rates all d h))
 
 -- ---- the clock error
 error_held : (c : Clock.ClockError) (x : Float) → ClockInRange c → T (fits binary64 x) → T (fits binary64 (error_of c x))

@@ -24,7 +24,6 @@ use Rattle.reply_record.specs.Record.{record_bytes}
 use Rattle.reply_record.proofs.RecordLength.{record_length_lem}
 use Rattle.settings.specs.declared.Distributions.{Distributions}
 use Rattle.draw.specs.declared.Draw.{Draw}
-use Rattle.draw.specs.Fault.{draw_fault}
 use Rattle.draw.specs.Config.{type_drawn, bytes_drawn, config_with, config_of, start_at}
 use Rattle.draw.proofs.InRange.{InRange, in_range}
 use Rattle.run_theory.specs.Generator.{from, start_from}
@@ -34,7 +33,7 @@ use Rattle.run_theory.proofs.Times.{NonNeg, GoodTime}
 use Rattle.run_call_model.proofs.FloatLaws.{DrawLaws}
 use Rattle.run_generator.specs.Instance.{pair_of, RepresentableDraw, Filters, pulse_samples, draws, instance_of}
 use Rattle.run_generator.proofs.ReplyBytes.{made_bytes}
-use Rattle.run_generator.proofs.DrawInRange.{fine_of, gap_of, message_error}
+use Rattle.run_generator.proofs.DrawInRange.{gap_of, message_error}
 use Rattle.run_generator.proofs.FiltersInRange.{FiltersInRange}
 
 pub time_in_range : (t : Float) → GoodTime t → TimeInRange t
@@ -64,7 +63,7 @@ some_limit Eight = lit< tt
 
 module _ (f : Filters) (R : FiltersInRange f) (total : ℕ) (few : total ≤ 2 ^ 52) where
   pub fields : (d : RepresentableDraw) → (draws f).fault d ≡ None → InRange f.rates f.distributions d.draw
-  fields d e = in_range f.rates f.distributions d.draw (fine_of (draw_fault f.rates f.distributions d.draw) e)
+  fields d e = in_range f.rates f.distributions d.draw e
 
   error_in_range : (t : Float) (d : RepresentableDraw) → (draws f).fault d ≡ None → ErrorInRange (config_of f.distributions t d.draw).reply.kind (config_of f.distributions t d.draw).error
   error_in_range t d e = message_error f.rates f.distributions R.distributions.clock d.draw d.held.clock (fields d e) t

@@ -1,5 +1,5 @@
 -- What the settings and filters of a run make of draws: the generator, as plain run and plain bench take it (SPECIFICATION 10).
-use Rattle.std.specs.Prelude.{Option, Some, None, ℕ, Bool, not, List, map, Float}
+use Rattle.std.specs.Prelude.{ℕ, Bool, not, List, map, Float}
 use Rattle.std.specs.Float.{binary32}
 use Rattle.std.specs.Float.Ieee.{of_bits}
 use Rattle.constants.specs.declared.SamplesPerPulse.{SamplesPerPulse}
@@ -21,10 +21,6 @@ use Rattle.reply_record.specs.Record.{record_bytes}
 
 unfoldable pub pair_of : Sample → Pair Float
 pair_of z = record { re = z.re; im = z.im }
-
-unfoldable pub fault_of : Option ℕ → Option ℕ
-fault_of None = None
-fault_of (Some field) = Some field
 
 -- Refusal 8 (SPECIFICATION 3.1): a noise value not finite or above 64 in size
 unfoldable pub out_of_range : Float → Bool
@@ -55,7 +51,7 @@ draws f = record {
   start = λ t d. start_from (start_at f.distributions f.delays t d.draw);
   adds = λ t d s. map pair_of (reply_samples (pulse_samples f) f.mode_s f.mode_ac f.delays d.draw.amplitude (config_of f.distributions t d.draw));
   entry = λ t d s n. record_bytes (config_of f.distributions t d.draw) s d.draw.kind n;
-  fault = λ d. fault_of (draw_fault f.rates f.distributions d.draw);
+  fault = λ d. draw_fault f.rates f.distributions d.draw;
   out_of_range = out_of_range;
   draw_at = λ s. record { draw = draw_at s; held = read_held s };
 }

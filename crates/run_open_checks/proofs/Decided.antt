@@ -1,5 +1,5 @@
 -- What each test of opening decides: which answer of the definitions it gives.
-use Rattle.std.specs.Prelude.{Option, Some, None, Result, Ok, Err}
+use Rattle.std.specs.Prelude.{Option, Some, None, Result, Ok, Err, is_ok}
 use Prim.Native.Nat.{ℕ}
 use mathlib.Core.Path.{◌≡◌, refl, sym, ap, ◌∙◌}
 use mathlib.Core.Bool.{Bool, true, false, ◌&&◌, cond, false≢true}
@@ -21,7 +21,7 @@ use Rattle.settings.specs.declared.Settings.{Settings}
 use Rattle.settings.specs.Settings.{settings_of}
 use Rattle.settings.specs.Accepted.{accepted_of}
 use Rattle.run_open_checks.specs.FirstCause.{Fits}
-use Rattle.run_open_checks.specs.Opening.{first_state, buffers_fit, mode_s_delay, mode_ac_delay, delays_given, delays_then, delays_of, taps_of, settings_then, opened_for, prepared_of, is_run}
+use Rattle.run_open_checks.specs.Opening.{first_state, buffers_fit, mode_s_delay, mode_ac_delay, delays_given, delays_then, delays_of, taps_of, settings_then, opened_for, prepared_of}
 
 -- the lengths, from facts and to facts
 pub fits_if : (settings mode_s mode_ac memory : ℕ) → Fits settings mode_s mode_ac memory → true ≡ buffers_fit four settings mode_s mode_ac memory
@@ -107,10 +107,9 @@ module _ (taps_s taps_ac : List Float) where
       settings_pass total all e = ap (settings_then four taps_s taps_ac s) (sym e) ∙ by_settings
 
     -- a run is opened only where the buffers fit
-    pub run_fits : (o : Result State Refusal) → o ≡ opened_for four taps_s taps_ac bytes mode_s mode_ac memory → is_run o ≡ true → Fits (length bytes) mode_s mode_ac memory
-    unfolding is_run
-    run_fits o e t = fits_for (length bytes) mode_s mode_ac memory (go (buffers_fit four (length bytes) mode_s mode_ac memory) refl)
+    pub run_fits : (state : State) → Ok state ≡ opened_for four taps_s taps_ac bytes mode_s mode_ac memory → Fits (length bytes) mode_s mode_ac memory
+    run_fits state e = fits_for (length bytes) mode_s mode_ac memory (go (buffers_fit four (length bytes) mode_s mode_ac memory) refl)
       where
         go : (b : Bool) → buffers_fit four (length bytes) mode_s mode_ac memory ≡ b → b ≡ true
         go true f = refl
-        go false f = ap is_run (buffers_refused f ∙ sym e) ∙ t
+        go false f = ap is_ok (buffers_refused f ∙ sym e)

@@ -1,5 +1,5 @@
 -- Opening a run (SPECIFICATION 8.2): its checks in order, and what it fills.
-use Rattle.std.specs.Prelude.{Option, None, Result, Ok, Err, is_ok, ℕ, Bool, false, ◌&&◌, cond, List, eqb, length, Float}
+use Rattle.std.specs.Prelude.{Option, None, Result, Ok, Err, ℕ, Bool, false, ◌&&◌, cond, List, eqb, length, Float}
 use Rattle.constants.specs.Rate.{prototype_length, working_memory}
 use Rattle.run_theory.specs.FloatGenerator.{nought}
 use Rattle.run_theory.specs.Zeros.{zeros}
@@ -82,10 +82,6 @@ module _ (sps : ℕ) (taps_s taps_ac : List Float) where
   unfoldable pub prepared_of : List ℕ → ℕ → ℕ → ℕ → Prepared
   prepared_of bytes mode_s mode_ac memory =
       record { opened = opened_for bytes mode_s mode_ac memory; mode_s = mode_s_prototype sps taps_s; mode_ac = mode_ac_prototype sps taps_ac }
-
--- whether a run is opened, and not refused
-unfoldable pub is_run : Result State Refusal.Refusal → Bool
-is_run o = is_ok o
 
 -- what opening leaves (SPECIFICATION 8.2): a refusal changes no buffer
 unfoldable pub left_by : ℕ → List Float → List Float → Result State Refusal.Refusal → OpenBuffers → OpenBuffers

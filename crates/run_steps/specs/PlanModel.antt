@@ -1,5 +1,5 @@
 -- What comes next in a run call, read as the model in `run_call_model` has it.
-use Rattle.std.specs.Prelude.{ℕ, Bool, true, false, ℤ, pos, negsuc, Float}
+use Rattle.std.specs.Prelude.{ℕ, Bool, Float, cond, ltb, Result, Ok, Err}
 use Rattle.constants.specs.Rate.{four}
 use Rattle.run_theory.specs.Generator.{Generator, start_from}
 use Rattle.run_theory.specs.PlainRun.{kind_of}
@@ -11,14 +11,11 @@ use Rattle.message_config.specs.declared.MessageConfig.{MessageConfig}
 use Rattle.message_config.specs.Config.{config_start}
 use Rattle.run_steps.specs.declared.Stop as Stop
 use Rattle.run_steps.specs.declared.Plan as Plan
+use Rattle.run_steps.specs.declared.Room.{Room}
 
 -- a run of n samples, without draws: what is due does not depend on them
 abbrev pub counted : ℕ → Generator
 counted total = generator no_draws four total
-
-abbrev pub is_negative : ℤ → Bool
-is_negative (pos n) = false
-is_negative (negsuc n) = true
 
 -- the code's stops and plans, case by case
 unfoldable pub stop_read : Stop.Stop → Bench.Stop
@@ -35,6 +32,11 @@ plan_read (Plan.TheVariants.Due n time) = Theory.due_many n time
 plan_read (Plan.TheVariants.Skip time) = Theory.ignore time
 plan_read (Plan.TheVariants.End time) = Theory.end_run time
 plan_read (Plan.TheVariants.Add time first) = Theory.add_reply time first
+
+-- of the samples due, how many can be written, or the stop where none can
+unfoldable pub writable_of : ℕ → Room → Result ℕ Stop.Stop
+writable_of due room =
+    cond (ltb 0 (Theory.batch due room.output room.noise)) (Ok (Theory.batch due room.output room.noise)) (Err (cond (ltb room.output 2) Stop.TheVariants.OutputFull Stop.TheVariants.WantsNoise))
 
 -- what comes next, from the message of the next draw, the draw bytes that are left, and the numbers left in output and noise and the bytes left for records
 unfoldable pub chosen : Bool → ℕ → ℕ → Delays → MessageConfig → ℕ → ℕ → ℕ → ℕ → Theory.Plan Float

@@ -4,21 +4,22 @@
 ghost use Rattle.std.specs.Prelude.{◌≡◌, ◌+◌, ◌-◌, ◌/◌, ◌^◌, ◌<◌, min, false, pos, if◌then◌else◌};
 ghost use Rattle.run_theory.specs.Generator.{start_from};
 ghost use Rattle.run_theory.specs.PlainRun.{kind_of};
-ghost use Rattle.run_call_model.specs.Plan.{plan_ended, plan_reply, plan_draw, stop_for, some_or, due_many};
-ghost use Rattle.run_steps.specs.PlanModel.{counted, stop_read, plan_read, chosen};
+ghost use Rattle.run_call_model.specs.Plan.{plan_ended, plan_reply, plan_draw, some_or, due_many};
+ghost use Rattle.run_steps.specs.PlanModel.{counted, plan_read, writable_of, chosen};
 ghost use Rattle.std.specs.Float.Ieee.{lt};
 ghost use Rattle.run_steps.specs.ProgressModel.{progress_after_samples, progress_after_draw, progress_after_stop, progress_after_step};
 
 use constants::{DRAW_LEN, HOLD_BACK, RECORD_LEN, REPLY_LIMIT};
 use message_config::{Delays, MessageConfig};
 
+// Why a call stops, with the numbers that C has for it.
 #[derive(Clone, Copy)]
 pub enum Stop {
-    Done,
-    OutputFull,
-    WantsNoise,
-    WantsDraws,
-    RecordsFull,
+    Done = 0,
+    OutputFull = 1,
+    WantsNoise = 2,
+    WantsDraws = 3,
+    RecordsFull = 4,
 }
 
 // What comes next: a stop; n samples after the end draw, or by the start of the next draw, at its time; or a draw at its time, ignored, ending the run, or a reply from its start on.
@@ -32,38 +33,48 @@ pub enum Plan {
     Add(f64, u64),
 }
 
-// How many of the samples due can be written; none where a stop comes first.
-fn batch(due: u64, room: usize, noise: usize) -> usize
-    ensures { result ≡ Rattle.run_call_model.specs.Plan.batch due room noise }
-{
-    due.min((room / 2).min(noise / 2) as u64) as usize
+// What is left of a call's buffers: the numbers of output and of noise, and the bytes for records.
+#[derive(Clone, Copy)]
+pub struct Room {
+    pub output: usize,
+    pub noise: usize,
+    pub records: usize,
 }
 
-// The stop where none can be written.
-#[tactic(auto, unfolding(crate::specs::PlanModel::stop_read))]
-fn stop_for(room: usize) -> Stop
-    ensures { stop_read result ≡ stop_for room }
+// How many of the samples due can be written; none where a stop comes first.
+fn batch(due: u64, room: Room) -> usize
+    ensures { result ≡ Rattle.run_call_model.specs.Plan.batch due room.output room.noise }
 {
-    if room < 2 {
-        Stop::OutputFull
+    due.min((room.output / 2).min(room.noise / 2) as u64) as usize
+}
+
+// How many can be written, or the stop where none can.
+#[tactic(auto, unfolding(crate::specs::PlanModel::writable_of))]
+fn writable(due: u64, room: Room) -> Result<usize, Stop>
+    ensures { result ≡ writable_of due room }
+{
+    let n = batch(due, room);
+    if 0 < n {
+        Ok(n)
+    } else if room.output < 2 {
+        Err(Stop::OutputFull)
     } else {
-        Stop::WantsNoise
+        Err(Stop::WantsNoise)
     }
 }
 
 // After the end draw: the samples that are left.
-#[tactic(auto, unfolding(crate::specs::PlanModel::plan_read, crate::specs::PlanModel::stop_read))]
-fn drain(written: u64, total: u64, room: usize, noise: usize) -> Plan
-    ensures { plan_read result ≡ plan_ended (counted total) written room noise }
+#[tactic(auto, unfolding(crate::specs::PlanModel::plan_read, crate::specs::PlanModel::stop_read, crate::specs::PlanModel::writable_of))]
+fn drain(written: u64, total: u64, room: Room) -> Plan
+    ensures { plan_read result ≡ plan_ended (counted total) written room.output room.noise }
 {
     if total <= written {
         return Plan::Halt(Stop::Done);
     }
-    let n = batch(total - written, room, noise);
-    if n == 0 {
-        return Plan::Halt(stop_for(room));
+    match writable(total - written, room) {
+        Ok(n) => Plan::Drain(n),
+        Err(w) => Plan::Halt(w),
     }
-    Plan::Drain(n)
 }
 
 // How many samples are due before a start, 32 of them held back.
@@ -73,44 +84,36 @@ fn due_before(first: u64, written: u64) -> u64
     first.saturating_sub(HOLD_BACK).saturating_sub(written)
 }
 
-// The samples due by the start of a draw at its time. One function for this and `drain` would take a closure, and be no plainer.
-#[tactic(auto, unfolding(crate::specs::PlanModel::plan_read))]
-fn due(n: u64, time: f64, room: usize, noise: usize) -> Plan
-    ensures { plan_read result ≡ some_or (λ k. due_many k time) (Rattle.run_call_model.specs.Plan.batch n room noise) room }
+// The samples due by the start of a draw at its time.
+#[tactic(auto, unfolding(crate::specs::PlanModel::plan_read, crate::specs::PlanModel::stop_read, crate::specs::PlanModel::writable_of))]
+fn due(n: u64, time: f64, room: Room) -> Plan
+    ensures { plan_read result ≡ some_or (λ k. due_many k time) (Rattle.run_call_model.specs.Plan.batch n room.output room.noise) room.output }
 {
-    let k = batch(n, room, noise);
-    if k == 0 {
-        return Plan::Halt(stop_for(room));
+    match writable(n, room) {
+        Ok(k) => Plan::Due(k, time),
+        Err(w) => Plan::Halt(w),
     }
-    Plan::Due(k, time)
 }
 
 // A reply that starts at a sample.
 #[tactic(auto, unfolding(crate::specs::PlanModel::plan_read, crate::specs::PlanModel::stop_read))]
-fn reply(written: u64, time: f64, first: u64, room: usize, noise: usize, bytes: usize) -> Plan
-    ensures { plan_read result ≡ plan_reply (counted 0) (first - 32 - written) time first room noise bytes }
+fn reply(written: u64, time: f64, first: u64, room: Room) -> Plan
+    ensures { plan_read result ≡ plan_reply (counted 0) (first - 32 - written) time first room.output room.noise room.records }
 {
     let n = due_before(first, written);
     if 0 < n {
-        return due(n, time, room, noise);
+        return due(n, time, room);
     }
-    if bytes < RECORD_LEN {
+    if room.records < RECORD_LEN {
         return Plan::Halt(Stop::RecordsFull);
     }
     Plan::Add(time, first)
 }
 
 // What comes of a draw with this time and start.
-fn classify(
-    written: u64,
-    total: u64,
-    time: f64,
-    start: i64,
-    room: usize,
-    noise: usize,
-    bytes: usize,
-) -> Plan
-    ensures { plan_read result ≡ plan_draw (counted total) written time (kind_of (counted total) (start_from start)) room noise bytes }
+#[tactic(auto, using(crate::proofs::Tests::negative_start, crate::proofs::Tests::skips, crate::proofs::Tests::ends_run, crate::proofs::Tests::replies))]
+fn classify(written: u64, total: u64, time: f64, start: i64, room: Room) -> Plan
+    ensures { plan_read result ≡ plan_draw (counted total) written time (kind_of (counted total) (start_from start)) room.output room.noise room.records }
 {
     let Ok(first) = u64::try_from(start) else {
         return Plan::Skip(time);
@@ -118,10 +121,11 @@ fn classify(
     if total <= first + REPLY_LIMIT {
         return Plan::End(time);
     }
-    reply(written, time, first, room, noise, bytes)
+    reply(written, time, first, room)
 }
 
 // What comes next, given the message of the next draw and how much is left of the buffers: the draw bytes, the numbers of output and noise, and the bytes for records.
+#[tactic(auto, using(crate::proofs::Tests::chose_ended, crate::proofs::Tests::chose_none, crate::proofs::Tests::chose_draw))]
 pub fn choose(
     ended: bool,
     written: u64,
@@ -129,20 +133,18 @@ pub fn choose(
     delays: Delays,
     last: MessageConfig,
     rest: usize,
-    room: usize,
-    noise: usize,
-    bytes: usize,
+    room: Room,
 ) -> Plan
-    ensures { plan_read result ≡ chosen ended written total delays last rest room noise bytes }
+    ensures { plan_read result ≡ chosen ended written total delays last rest room.output room.noise room.records }
 {
     if ended {
-        return drain(written, total, room, noise);
+        return drain(written, total, room);
     }
     if rest < DRAW_LEN {
         return Plan::Halt(Stop::WantsDraws);
     }
     let start = last.first_sample_index(delays);
-    classify(written, total, last.time, start, room, noise, bytes)
+    classify(written, total, last.time, start, room)
 }
 
 // A call so far: what of the state moves, the counts, and how the call came here. The reply samples added are counted in two halves.
@@ -190,6 +192,7 @@ fn later(a: f64, b: f64) -> f64
 }
 
 // The progress after a draw was taken at its time, with n records more and the samples that its reply added to.
+#[tactic(auto, using(crate::proofs::Joined::draw_taken_is, crate::proofs::Joined::carried_is))]
 fn after_draw(t: Progress, time: f64, ended: bool, lines: usize, count: u16) -> Progress
     ensures { result ≡ progress_after_draw t time ended lines count }
 {

@@ -13,7 +13,7 @@ use Rattle.distributions.specs.Accepted.{carrier_offset, carrier_phase, clock_er
 use Rattle.distributions.specs.declared.CarrierOffset.{CarrierOffset}
 use Rattle.distributions.specs.declared.CarrierPhase.{CarrierPhase}
 use Rattle.distributions.proofs.Refused as Refused
-use Rattle.settings_duration.specs.Duration.{pick, samples_of, most_samples, duration_of}
+use Rattle.settings_duration.specs.Duration.{samples_of, most_samples, duration_of}
 use Rattle.refusals.specs.declared.Refusal as Refusals
 use Rattle.refusals.specs.declared.Refusal.TheVariants as Refusal
 use Rattle.settings.specs.declared.Settings.{Settings}
@@ -30,7 +30,7 @@ duration_is : (sps a b : ℕ) (q : Refusals.Refusal) → duration_of sps a b ≡
 unfolding duration_of
 duration_is sps a b q = go (leb 1000000000 b) (ltb most_samples (samples_of sps a b)) (samples_of sps a b)
   where
-    go : (x y : Bool) (m : ℕ) → pick x (Err Refusal.Duration) (pick y (Err Refusal.Duration) (Ok m)) ≡ Err q → q ≡ Refusal.Duration
+    go : (x y : Bool) (m : ℕ) → cond x (Err Refusal.Duration) (cond y (Err Refusal.Duration) (Ok m)) ≡ Err q → q ≡ Refusal.Duration
     go true y m e = cc
     go false true m e = cc
     go false false m e = cc
@@ -40,7 +40,7 @@ pub lasts_for : (sps a b n : ℕ) → duration_of sps a b ≡ Ok n → (n ≡ sa
 unfolding duration_of
 lasts_for sps a b n = go (leb 1000000000 b) (ltb most_samples (samples_of sps a b)) (samples_of sps a b) refl
   where
-    go : (x y : Bool) (m : ℕ) → ltb most_samples m ≡ y → pick x (Err Refusal.Duration) (pick y (Err Refusal.Duration) (Ok m)) ≡ Ok n → (n ≡ m) × (n ≤ most_samples)
+    go : (x y : Bool) (m : ℕ) → ltb most_samples m ≡ y → cond x (Err Refusal.Duration) (cond y (Err Refusal.Duration) (Ok m)) ≡ Ok n → (n ≡ m) × (n ≤ most_samples)
     go true y m t e = let z : ◌≡◌ {A = ℕ} 0 1 = cc in absurd (omega arith)
     go false true m t e = let z : ◌≡◌ {A = ℕ} 0 1 = cc in absurd (omega arith)
     go false false m t e = let f : n ≡ m = cc in (f, omega (arith, ltb-false most_samples m t))

@@ -54,13 +54,13 @@ fn rates_at(s: &[u8], at: usize) -> MessagesPerSecond
     ensures { result ≡ rates_at s.now at }
 {
     MessagesPerSecond {
-        extended_squitter: le_read_floats::f64_at(s, at),
-        acquisition_squitter: le_read_floats::f64_at(s, at + 8),
-        short_ap: le_read_floats::f64_at(s, at + 16),
-        all_call_reply: le_read_floats::f64_at(s, at + 24),
-        long_ap: le_read_floats::f64_at(s, at + 32),
-        military_extended_squitter: le_read_floats::f64_at(s, at + 40),
-        mode_ac: le_read_floats::f64_at(s, at + 48),
+        extended_squitter: le_read_or_zero::number::<f64>(s, at),
+        acquisition_squitter: le_read_or_zero::number::<f64>(s, at + 8),
+        short_ap: le_read_or_zero::number::<f64>(s, at + 16),
+        all_call_reply: le_read_or_zero::number::<f64>(s, at + 24),
+        long_ap: le_read_or_zero::number::<f64>(s, at + 32),
+        military_extended_squitter: le_read_or_zero::number::<f64>(s, at + 40),
+        mode_ac: le_read_or_zero::number::<f64>(s, at + 48),
     }
 }
 
@@ -71,8 +71,8 @@ fn raw_distribution_at(s: &[u8], at: usize) -> RawDistribution
 {
     RawDistribution {
         kind: le_read_or_zero::byte_at(s, at),
-        first: le_read_floats::f64_at(s, at + 1),
-        second: le_read_floats::f64_at(s, at + 9),
+        first: le_read_or_zero::number::<f64>(s, at + 1),
+        second: le_read_or_zero::number::<f64>(s, at + 9),
     }
 }
 
@@ -82,13 +82,13 @@ pub fn read(s: &[u8]) -> Settings
     ensures { result ≡ settings_of s.now }
 {
     Settings {
-        seconds: le_read_or_zero::u64_at(s, 0),
-        nanoseconds: le_read_or_zero::u32_at(s, 8),
+        seconds: le_read_or_zero::number::<u64>(s, 0),
+        nanoseconds: le_read_or_zero::number::<u32>(s, 8),
         rates: rates_at(s, 12),
         carrier: raw_distribution_at(s, 68),
         phase: raw_distribution_at(s, 85),
         clock: raw_distribution_at(s, 102),
-        trigger_level: le_read_floats::f32_at(s, 119),
+        trigger_level: le_read_or_zero::number::<f32>(s, 119),
     }
 }
 

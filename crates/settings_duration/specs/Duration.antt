@@ -1,5 +1,5 @@
 -- The samples of a duration, by the samples per pulse, and what a duration answers.
-use Rattle.std.specs.Prelude.{Result, Ok, Err, ℕ, ◌+◌, ◌*◌, ◌/◌, ◌^◌, Bool, true, false, ltb, leb}
+use Rattle.std.specs.Prelude.{Result, Ok, Err, ℕ, ◌+◌, ◌*◌, ◌/◌, ◌^◌, cond, ltb, leb}
 use Rattle.refusals.specs.declared.Refusal.{Refusal}
 use Rattle.refusals.specs.declared.Refusal.TheVariants.{Duration}
 use Rattle.constants.specs.Rate.{sample_rate}
@@ -12,12 +12,8 @@ samples_of sps seconds nanoseconds = seconds * sample_rate sps + nanoseconds * s
 abbrev pub most_samples : ℕ
 most_samples = 2 ^ 52
 
-abbrev pub pick : Bool → Result ℕ Refusal → Result ℕ Refusal → Result ℕ Refusal
-pick true a b = a
-pick false a b = b
-
 -- nanoseconds 1,000,000,000 or more, or duration above 2^52 samples: refusal 1
 unfoldable pub duration_of : ℕ → ℕ → ℕ → Result ℕ Refusal
 duration_of sps seconds nanoseconds =
-    pick (leb 1000000000 nanoseconds) (Err Duration)
-    (pick (ltb most_samples (samples_of sps seconds nanoseconds)) (Err Duration) (Ok (samples_of sps seconds nanoseconds)))
+    cond (leb 1000000000 nanoseconds) (Err Duration)
+    (cond (ltb most_samples (samples_of sps seconds nanoseconds)) (Err Duration) (Ok (samples_of sps seconds nanoseconds)))

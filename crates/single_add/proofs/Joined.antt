@@ -26,17 +26,11 @@ take_blank zero n h = refl
 take_blank (suc k) zero h = absurd (omega arith)
 take_blank (suc k) (suc n) h = ap (λ (l : List Float). nought ∷ l) (take_blank k n (omega arith))
 
-pub blank_part : (sps slots n : ℕ) → slots ≡ ring_slots sps → 2 * slots ≤ n → take (2 * slots) (zeros n) ≡ zeros (working_memory sps)
-blank_part sps slots n e h = take_blank (2 * slots) n h ∙ ap (λ (k : ℕ). zeros (2 * k)) e
+pub blank_part : (sps k n : ℕ) → k ≡ working_memory sps → k ≤ n → take k (zeros n) ≡ zeros (working_memory sps)
+blank_part sps k n e h = take_blank k n h ∙ ap zeros e
 
-pub part_length : (slots n : ℕ) → 2 * slots ≤ n → length (take (2 * slots) (zeros n)) ≡ 2 * slots
-part_length slots n h = length-take-le (2 * slots) (zeros n) (omega (arith, length-replicate n nought))
-
-pub blank_length : (sps slots n : ℕ) → slots ≡ ring_slots sps → 2 * slots ≤ n → length (take (2 * slots) (zeros n)) ≡ working_memory sps
-blank_length sps slots n e h = part_length slots n h ∙ ap (λ (k : ℕ). 2 * k) e
-
-pub past_within : (slots n past : ℕ) → 2 * slots ≤ n → past ≤ slots → 2 * past ≤ length (take (2 * slots) (zeros n))
-past_within slots n past h k = omega (arith, part_length slots n h)
+pub blank_length : (sps k n : ℕ) → k ≡ working_memory sps → k ≤ n → length (take k (zeros n)) ≡ working_memory sps
+blank_length sps k n e h = length-take-le k (zeros n) (omega (arith, length-replicate n nought)) ∙ e
 
 -- a part of a buffer, of n numbers from an offset on, with others in it
 part_written : (at n : ℕ) (b ys : List Float) → at + n ≤ length b → length ys ≡ length (take (at + n - at) (drop at b)) → put_mid at (at + n - at) b ys ≡ overwritten at ys b
@@ -44,7 +38,7 @@ part_written at n b ys h l =
     ap (λ (r : List Float). take at b ++ (ys ++ r))
     (drop-drop (at + n - at) at b ∙ ap (λ (k : ℕ). drop k b) {x = at + (at + n - at)} {y = at + length ys} (omega (arith, l, length-take-le (at + n - at) (drop at b) (omega (arith, length-drop at b)))))
 
-pub through_memory : (sps at past n : ℕ) (zs : List Sample) (xs blank given memory back : List Float) → n ≡ min (length xs - at) (length blank - past) → at ≤ length xs → past ≤ length blank
+pub through_memory : (sps at past n : ℕ) (zs : List Sample) (xs blank given memory back : List Float) → n ≡ min (length xs - at) (length blank - past) → at ≤ length xs → past ≤ working_memory sps
     → blank ≡ zeros (working_memory sps) → length blank ≡ working_memory sps
     → given ≡ take (at + n - at) (drop at xs) → length given ≡ length (take (past + n - past) (drop past blank))
     → memory ≡ added_reply sps (put_mid past (past + n - past) blank given) 0 zs
@@ -54,7 +48,7 @@ unfolding windowed memory_with
 through_memory sps at past n zs xs blank given memory back k inside within b w g lg m r lr =
     part_written at n xs back (omega arith) lr
     ∙ ap (λ (l : List Float). overwritten at l xs) (r ∙ (λ i. take (same past i) (drop past (m i))))
-    ∙ ap (λ (l : List Float). overwritten at (take n (drop past (added_reply sps l 0 zs))) xs) (part_written past n blank given (omega arith) lg ∙ (λ i. overwritten past (g i) (b i)))
+    ∙ ap (λ (l : List Float). overwritten at (take n (drop past (added_reply sps l 0 zs))) xs) (part_written past n blank given (omega (arith, w)) lg ∙ (λ i. overwritten past (g i) (b i)))
     ∙ ap (λ (j : ℕ). overwritten at (take n (drop past (added_reply sps (overwritten past (take j (drop at xs)) (zeros (working_memory sps))) 0 zs))) xs) (same at)
     ∙ ap (λ (j : ℕ). overwritten at (take j (drop past (added_reply sps (overwritten past (take j (drop at xs)) (zeros (working_memory sps))) 0 zs))) xs) (k ∙ ap (λ (j : ℕ). min (length xs - at) (j - past)) w)
   where

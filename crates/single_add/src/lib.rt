@@ -5,18 +5,19 @@ ghost use Rattle.std.specs.Prelude.{◌≡◌, ◌≤◌, ◌<◌, ◌^◌, leng
 ghost use Rattle.constants.specs.Rate.{working_memory};
 ghost use Rattle.constants.specs.Setting.{per_pulse};
 ghost use Rattle.message_config.specs.Config.{config_start};
-ghost use Rattle.reply_samples.specs.Samples.{reply_samples};
+ghost use Rattle.reply_add.specs.Signal.{samples_of};
 ghost use Rattle.run_theory.specs.Zeros.{zeros};
 ghost use Rattle.single_add.specs.Stretch.{laid, first_reached, passed_over};
 ghost use Rattle.single_add.specs.StretchModel.{windowed, added_window, stretch_of};
 
-use constants::{NOISE_SCALE, SamplesPerPulse};
-use message_config::{Delays, MessageConfig};
+use constants::NOISE_SCALE;
+use reply_add::ReplySignal;
 
 // Working memory at 8 samples per pulse, in f32. At 4 a part of it is used.
 const MOST_MEMORY: usize = 4502;
 
 // Writes noise over the output, scaled.
+#[tactic(auto, unfolding(crate::specs::Stretch::laid))]
 fn lay(noise: &[f32], output: &mut [f32])
     requires { length noise.now ≡ length output.old }
     ensures { output.new ≡ laid noise.now }
@@ -26,25 +27,16 @@ fn lay(noise: &[f32], output: &mut [f32])
     }
 }
 
-// Adds a reply's samples to the output from index `at` on, the first `past` numbers of the reply passed over. The part that it reaches goes through memory, where `add_reply` adds.
-fn add_window(
-    setting: SamplesPerPulse,
-    mode_s: &[f32],
-    mode_ac: &[f32],
-    c: MessageConfig,
-    amplitude: f32,
-    delays: Delays,
-    memory: &mut [f32],
-    output: &mut [f32],
-    at: usize,
-    past: usize,
-)
-    requires { (memory.old ≡ zeros (working_memory (per_pulse setting))) × (length memory.old ≡ working_memory (per_pulse setting)) × (at ≤ length output.old) × (past ≤ length memory.old) }
-    ensures { output.new ≡ windowed (per_pulse setting) at past (reply_samples (per_pulse setting) mode_s.now mode_ac.now delays amplitude c) output.old }
+// Adds a reply's samples to the output from index `at` on, the first `past` numbers of the reply passed over. The part that it reaches goes through working memory, where `add_reply` adds.
+fn add_window(r: ReplySignal, output: &mut [f32], at: usize, past: usize)
+    requires { (at ≤ length output.old) × (past ≤ working_memory (per_pulse r.setting)) }
+    ensures { output.new ≡ windowed (per_pulse r.entry.setting) at past (samples_of r.entry) output.old }
 {
+    let mut whole = [0.0; MOST_MEMORY];
+    let memory = &mut whole[..r.setting.memory_len()];
     let len = (output.len() - at).min(memory.len() - past);
     memory[past..past + len].copy_from_slice(&output[at..at + len]);
-    reply_add::add_reply(setting, mode_s, mode_ac, c, amplitude, delays, memory, 0);
+    reply_add::add_reply(r, memory, 0);
     output[at..at + len].copy_from_slice(&memory[past..past + len]);
 }
 
@@ -65,54 +57,25 @@ fn passed_over(start: i64) -> u64
 }
 
 // Adds a reply's samples to the output from its start on.
-fn add(
-    setting: SamplesPerPulse,
-    mode_s: &[f32],
-    mode_ac: &[f32],
-    c: MessageConfig,
-    amplitude: f32,
-    delays: Delays,
-    output: &mut [f32],
-)
-    ensures { output.new ≡ added_window (per_pulse setting) (config_start delays c) (reply_samples (per_pulse setting) mode_s.now mode_ac.now delays amplitude c) output.old }
+fn add(r: ReplySignal, output: &mut [f32])
+    ensures { output.new ≡ added_window (per_pulse r.entry.setting) (config_start r.entry.delays r.entry.config) (samples_of r.entry) output.old }
 {
-    let start = c.first_sample_index(delays);
+    let start = r.config.first_sample_index(r.delays);
     let first = first_reached(start);
     let past = passed_over(start);
-    let slots = setting.ring_slots();
+    let slots = r.setting.ring_slots();
     if first < (output.len() / 2) as u64 && past <= slots as u64 {
-        let mut memory = [0.0; MOST_MEMORY];
-        add_window(
-            setting,
-            mode_s,
-            mode_ac,
-            c,
-            amplitude,
-            delays,
-            &mut memory[..2 * slots],
-            output,
-            2 * first as usize,
-            2 * past as usize,
-        );
+        add_window(r, output, 2 * first as usize, 2 * past as usize);
     }
 }
 
 // Lays noise over the output and adds a reply's samples from its start on. Noise of another length than the output leaves it.
 #[tactic(auto, unfolding(crate::specs::StretchModel::stretch_of))]
-pub fn stretch(
-    setting: SamplesPerPulse,
-    mode_s: &[f32],
-    mode_ac: &[f32],
-    c: MessageConfig,
-    amplitude: f32,
-    delays: Delays,
-    noise: &[f32],
-    output: &mut [f32],
-)
-    ensures { output.new ≡ stretch_of (per_pulse setting) (config_start delays c) (reply_samples (per_pulse setting) mode_s.now mode_ac.now delays amplitude c) noise.now output.old }
+pub fn stretch(r: ReplySignal, noise: &[f32], output: &mut [f32])
+    ensures { output.new ≡ stretch_of (per_pulse r.entry.setting) (config_start r.entry.delays r.entry.config) (samples_of r.entry) noise.now output.old }
 {
     if noise.len() == output.len() {
         lay(noise, output);
-        add(setting, mode_s, mode_ac, c, amplitude, delays, output);
+        add(r, output);
     }
 }

@@ -27,7 +27,7 @@ use Rattle.message_config.proofs.FirstClock.{first_clock_of}
 use Rattle.settings.specs.declared.Distributions.{Distributions}
 use Rattle.settings.specs.declared.MessagesPerSecond.{MessagesPerSecond}
 use Rattle.settings.specs.Settings.{settings_of}
-use Rattle.settings_duration.specs.Duration.{samples_of, pick, duration_of}
+use Rattle.settings_duration.specs.Duration.{samples_of, duration_of}
 use Rattle.draw.specs.Draw.{draw_at}
 use Rattle.draw.specs.Fault.{draw_fault, fault_at, fault_from, first_fault}
 use Rattle.draw.specs.Config.{time_after, config_with, config_of}
@@ -41,7 +41,7 @@ use Rattle.run_theory.specs.FloatGenerator.{nought}
 use Rattle.run_theory.specs.PlainBench as Bench
 use Rattle.run_theory.specs.Zeros.{zeros}
 use Rattle.run_theory.proofs.Times.{good_on}
-use Rattle.run_generator.specs.Instance.{Filters, RepresentableDraw, pulse_samples, fault_of}
+use Rattle.run_generator.specs.Instance.{Filters, RepresentableDraw, pulse_samples}
 use Rattle.run_generator.proofs.DrawInRange.{gap_of, message_error}
 use Rattle.run_generator.proofs.FiltersInRange.{FiltersInRange}
 use Rattle.run_generator.proofs.InstanceDrawLaws.{time_in_range}
@@ -79,12 +79,8 @@ module _ (f : Filters) (R : FiltersInRange f) (d : RepresentableDraw) (e : draw_
   abbrev zs : List Sample
   zs = reply_samples (pulse_samples f) f.mode_s f.mode_ac f.delays d.draw.amplitude c
 
-  no_field : fault_of (draw_fault f.rates f.distributions d.draw) ≢ Some 0
-  unfolding fault_of
-  no_field h = let n : ◌≡◌ {A = ℕ} 0 1 = none_some (sym (ap fault_of e) ∙ h) in absurd (omega arith)
-    where
-      none_some : ◌≡◌ {A = Option ℕ} None (Some 0) → ◌≡◌ {A = ℕ} 0 1
-      none_some q = ap (λ (o : Option ℕ). elim o [ None ↦ 0 | Some k ↦ 1 ]) q
+  no_field : draw_fault f.rates f.distributions d.draw ≢ Some 0
+  no_field h = let n : ◌≡◌ {A = ℕ} 0 1 = ap (λ (o : Option ℕ). elim o [ None ↦ 0 | Some k ↦ 1 ]) (sym e ∙ h) in absurd (omega arith)
 
   in_time : TimeInRange c.time
   unfolding config_of config_with time_after
@@ -155,7 +151,7 @@ short : (sps seconds nanoseconds : ℕ) → Short (duration_of sps seconds nanos
 unfolding duration_of
 short sps seconds nanoseconds = go (leb 1000000000 nanoseconds) (ltb (2 ^ 52) (samples_of sps seconds nanoseconds)) refl
   where
-    go : (a b : Bool) → ltb (2 ^ 52) (samples_of sps seconds nanoseconds) ≡ b → Short (pick a (Err Refused.Duration) (pick b (Err Refused.Duration) (Ok (samples_of sps seconds nanoseconds))))
+    go : (a b : Bool) → ltb (2 ^ 52) (samples_of sps seconds nanoseconds) ≡ b → Short (cond a (Err Refused.Duration) (cond b (Err Refused.Duration) (Ok (samples_of sps seconds nanoseconds))))
     go true b q = tt
     go false true q = tt
     go false false q = ltb-false (2 ^ 52) (samples_of sps seconds nanoseconds) q

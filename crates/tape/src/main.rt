@@ -2,8 +2,8 @@
 // What it prints is worked out by tape_run and tape_text; here it is written, and a write that fails is reported on standard error.
 #![tactic(auto)]
 
+use constants::RECORD_LEN;
 use refusals::Refusal;
-use tape_run::Output;
 use tape_sections::MAX_RECORDS_LEN;
 use tape_text::TEXT_LEN;
 use tape_verdict::Outcome;
@@ -22,30 +22,17 @@ fn print_refused(rt: &(impl Print + Eprint + Alloc), q: Refusal) {
     print(rt, &text[..n]);
 }
 
-fn print_run(
-    rt: &(impl Print + Eprint + Alloc),
-    records: [u8; MAX_RECORDS_LEN],
-    count: usize,
-    samples: u64,
-) {
+fn print_run(rt: &(impl Print + Eprint + Alloc), records: &[u8], samples: u64) {
     let mut text = [0u8; TEXT_LEN];
-    let n = tape_text::run_text(&records, count, samples, &mut text);
+    let n = tape_text::run_text(records, samples, &mut text);
     print(rt, &text[..n]);
 }
 
 fn main(rt: HostRuntime) {
     let mut records = [0u8; MAX_RECORDS_LEN];
-    let mut output = Output {
-        stdout: rt.stdout(),
-        failure: None,
-    };
-    match tape_run::run_tape(false, &mut records, &mut output) {
-        Outcome::Done(count, samples) => print_run(&rt, records, count, samples),
+    match tape_run::run_tape(&mut records, None) {
+        Outcome::Done(count, samples) => print_run(&rt, &records[..RECORD_LEN * count], samples),
         Outcome::Refused(q, _) => print_refused(&rt, q),
-        Outcome::Untaken => {
-            if let Some(e) = output.failure {
-                tape_run::fail(&rt, NOT_TAKEN, &e);
-            }
-        }
+        Outcome::Untaken(e) => tape_run::fail(&rt, NOT_TAKEN, &e),
     }
 }

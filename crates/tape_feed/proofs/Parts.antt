@@ -1,14 +1,11 @@
 -- The parts that a call is given are the rest of the draws and of the room, and what it leaves joins the records (`called`).
-use Rattle.std.specs.Prelude.{Ok, Err}
 use Rattle.std.proofs.Common.{◌≡◌, ℕ, ◌+◌, ◌-◌, ◌*◌, ◌≤◌, min, Bool, true, false, leb, List, [], ◌++◌, length, take, drop, sym, refl, ap, ◌∙◌, append-nil, arith, length-append, length-drop, length-take, take_all, drop-drop, leb-false, leb-true}
 use lib.Seq.{drop-nil, drop-length}
 use lib.Ieee.{Float}
-use Rattle.refusals.specs.declared.Refusal as Refusal
 use Rattle.run_call.specs.declared.Ran.{Ran}
-use Rattle.run_steps.specs.declared.Stop as Stop
 use Rattle.run_call.specs.CallModel.{run_left}
 use Rattle.tape_verdict.specs.declared.Feed.{Feed}
-use Rattle.tape_feed.specs.FeedModel.{Fed, feed_after, fed_after, called_of, fed_then, fed_of}
+use Rattle.tape_feed.specs.FeedModel.{feed_after, fed_after, called_of}
 
 -- ---- offsets
 module _ {A : Type 0} where
@@ -57,13 +54,3 @@ called f mode_s mode_ac memory draws noise output records {a} {b} {r} {m} {o} {y
     (λ i. record { feed = z i; memory = m; output = o; records = part_back (66 * f.records) b records ys hb i })
     ∙ ap (fed_after f records)
     (e ∙ (λ i. run_left f.state mode_s mode_ac memory (part_from (65 * f.taken) a draws ha i) noise output (part_from (66 * f.records) b records hb i)))
-
--- ---- a chunk
-module _ (mode_s mode_ac : List Float) (draws : List ℕ) (noise : List Float) (d : Fed) where
-  pub stays : (q : Refusal.Refusal) → d.feed.answer ≡ Err q → d ≡ fed_of mode_s mode_ac draws noise d
-  unfolding fed_of fed_then
-  stays q e = sym (ap (fed_then mode_s mode_ac draws noise d) e)
-
-  pub goes_on : (w : Stop.Stop) {x : Fed} → d.feed.answer ≡ Ok w → x ≡ called_of mode_s mode_ac draws noise d → x ≡ fed_of mode_s mode_ac draws noise d
-  unfolding fed_of fed_then
-  goes_on w e p = p ∙ sym (ap (fed_then mode_s mode_ac draws noise d) e)

@@ -5,6 +5,7 @@ ghost use Rattle.std.specs.Prelude.{◌≡◌, ◌*◌, min};
 ghost use Rattle.tape_feed.specs.FeedModel.{feed_after, called_of, fed_of};
 
 use constants::{DRAW_LEN, RECORD_LEN};
+use pulse_shape::Filters;
 use run_call::Ran;
 use tape_verdict::Feed;
 
@@ -31,22 +32,20 @@ fn after(f: Feed, r: Ran) -> Feed
 // One run call on a chunk of noise, given the draws that are not taken and the room behind the records.
 fn call(
     f: Feed,
-    mode_s: &[f32],
-    mode_ac: &[f32],
+    prototypes: Filters,
     memory: &mut [f32],
     draws: &[u8],
     noise: &[f32],
     output: &mut [f32],
     records: &mut [u8],
 ) -> Feed
-    ensures { record { feed = result; memory = memory.new; output = output.new; records = records.new } ≡ called_of mode_s.now mode_ac.now draws.now noise.now (record { feed = f; memory = memory.old; output = output.old; records = records.old }) }
+    ensures { record { feed = result; memory = memory.new; output = output.new; records = records.new } ≡ called_of prototypes.entry.mode_s.now prototypes.entry.mode_ac.now draws.now noise.now (record { feed = f; memory = memory.old; output = output.old; records = records.old }) }
 {
     let a = place(f.taken, DRAW_LEN, draws.len());
     let b = place(f.records, RECORD_LEN, records.len());
     let r = run_call::run(
         f.state,
-        mode_s,
-        mode_ac,
+        prototypes,
         memory,
         &draws[a..],
         noise,
@@ -57,20 +56,21 @@ fn call(
 }
 
 // The run after a chunk of noise; once refused, it stays as it is.
+// Memory, output and records are passed apart, for the reason given beside `run_call::step`.
+#[tactic(auto, unfolding(crate::specs::FeedModel::fed_of, crate::specs::FeedModel::fed_then))]
 pub fn feed_noise(
     f: Feed,
-    mode_s: &[f32],
-    mode_ac: &[f32],
+    prototypes: Filters,
     memory: &mut [f32],
     draws: &[u8],
     noise: &[f32],
     output: &mut [f32],
     records: &mut [u8],
 ) -> Feed
-    ensures { record { feed = result; memory = memory.new; output = output.new; records = records.new } ≡ fed_of mode_s.now mode_ac.now draws.now noise.now (record { feed = f; memory = memory.old; output = output.old; records = records.old }) }
+    ensures { record { feed = result; memory = memory.new; output = output.new; records = records.new } ≡ fed_of prototypes.entry.mode_s.now prototypes.entry.mode_ac.now draws.now noise.now (record { feed = f; memory = memory.old; output = output.old; records = records.old }) }
 {
     match f.answer {
         Err(_) => f,
-        Ok(_) => call(f, mode_s, mode_ac, memory, draws, noise, output, records),
+        Ok(_) => call(f, prototypes, memory, draws, noise, output, records),
     }
 }

@@ -1,4 +1,4 @@
--- A row of values, one more each step: read (`read_next`), and written (`write-next`).
+-- A row of values, one more each step: read (`read_next`), and written (`write_next`).
 use Prim.Native.Nat.{ℕ, zero, suc, ◌+◌, ◌*◌, ◌≤◌, ◌<◌}
 use mathlib.Core.Path.{◌≡◌, refl, sym, ap, ◌∙◌}
 use mathlib.Core.List.{List, [], ◌∷◌, ◌++◌, append_assoc, append-nil}
@@ -54,12 +54,14 @@ unfolding float_bytes
 bytes_of_both [] ys = refl
 bytes_of_both (x ∷ xs) ys = ap (λ (l : List ℕ). bytes_of 4 (to_bits binary32 x) ++ l) (bytes_of_both xs ys) ∙ sym (append_assoc (bytes_of 4 (to_bits binary32 x)) (float_bytes xs) (float_bytes ys))
 
-pub write_next : (v : List Float) (s d e : List ℕ) (k : ℕ) (z : Float) {at : ℕ} → at ≡ 4 * k → k < length v → 4 * k + 4 ≤ length s → d ≡ overwritten s 0 (float_bytes (take k v)) → e ≡ put 4 d at (to_bits binary32 (get_or v k z)) → e ≡ overwritten s 0 (float_bytes (take (k + 1) v))
+pub write_next : (v : List Float) (s d : List ℕ) (k : ℕ) (z : Float) → k < length v → 4 * k + 4 ≤ length s → d ≡ overwritten s 0 (float_bytes (take k v))
+    → put 4 d (4 * k) (to_bits binary32 (get_or v k z)) ≡ overwritten s 0 (float_bytes (take (k + 1) v))
 unfolding float_bytes
-write_next v s d e k z {at} r h g p q =
+write_next v s d k z h g p =
     let l : length (float_bytes (take k v)) ≡ 4 * k = length_float_bytes (take k v) ∙ ap (λ (n : ℕ). 4 * n) (length-take-le k v (omega arith)) in
-    next_put s 0 (4 * k) (float_bytes (take k v)) 4 (to_bits binary32 (get_or v k z)) d e l (omega arith) p (q ∙ ap (λ (n : ℕ). put 4 d n (to_bits binary32 (get_or v k z))) {x = at} {y = 0 + 4 * k} (omega arith))
+    let x = to_bits binary32 (get_or v k z) in
+    next_put s 0 (4 * k) (float_bytes (take k v)) 4 x d (put 4 d (4 * k) x) l (omega arith) p (ap (λ (n : ℕ). put 4 d n x) {x = 4 * k} {y = 0 + 4 * k} (omega arith))
     ∙ ap (overwritten s 0)
-    (ap (λ (m : List ℕ). float_bytes (take k v) ++ m) (sym (append-nil (bytes_of 4 (to_bits binary32 (get_or v k z)))))
+    (ap (λ (m : List ℕ). float_bytes (take k v) ++ m) (sym (append-nil (bytes_of 4 x)))
     ∙ sym (bytes_of_both (take k v) (get_or v k z ∷ []))
     ∙ ap float_bytes (sym (ap (λ (n : ℕ). take n v) (add-one k) ∙ take-suc v k z h)))

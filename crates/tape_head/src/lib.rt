@@ -7,9 +7,10 @@ ghost use Rattle.run_open_checks.specs.Opening.{prepared_of};
 ghost use Rattle.tape_head.specs.Head.{noise_then, draws_then, opened_then, taps, taps_s, taps_ac, settings_bytes, early_of, head_of};
 
 use constants::{DRAW_LEN, MODE_S_TAPS_LEN};
+use pulse_shape::Filters;
 use refusals::Refusal;
 use run_call::State;
-use run_open_checks::Prepared;
+use run_open_checks::{Lengths, Prepared};
 pub use tape_sections::head_length;
 use tape_sections::{
     DRAW_SIZE, DRAWS_COUNT_OFFSET, DRAWS_OFFSET, MAX_DRAWS, SETTINGS_SIZE, TAP_SIZE, TAPS_COUNT,
@@ -25,11 +26,14 @@ pub struct Beginning {
 }
 
 // The noise's count, behind n draws.
+#[tactic(auto, unfolding(crate::specs::Head::noise_then, le_read::specs::LeBytes::read_at))]
 fn noise_count(state: State, n: u64, tape: &[u8]) -> Result<Beginning, Refusal>
     requires { n ≤ 400 }
     ensures { result ≡ noise_then four tape.now state n }
 {
-    let noise = le_read::le_u32(tape, DRAWS_OFFSET + DRAW_LEN * n as usize).ok_or(Refusal::Tape)?;
+    let noise = le_read::le::<u32>(tape, DRAWS_OFFSET + DRAW_LEN * n as usize).ok_or(
+        Refusal::Tape,
+    )?;
     Ok(Beginning {
         state,
         draws: n,
@@ -38,6 +42,7 @@ fn noise_count(state: State, n: u64, tape: &[u8]) -> Result<Beginning, Refusal>
 }
 
 // Refusal 7 of n draws, then the noise's count.
+#[tactic(auto, using(crate::proofs::Sections::draws_good))]
 fn check_draws(state: State, n: u64, tape: &[u8]) -> Result<Beginning, Refusal>
     requires { (n ≤ 400) × (12139 + 65 * n ≤ length tape.now) }
     ensures { result ≡ draws_then four tape.now state (Some n) }
@@ -69,20 +74,18 @@ fn read_taps(tape: &[u8]) -> [f32; TAPS_LEN]
 }
 
 // What opening answers, given the taps of a tape and buffers of these lengths, and its prototypes.
-fn prepared(tape: &[u8], mode_s: usize, mode_ac: usize, memory: usize) -> Prepared
+#[tactic(auto, using(crate::proofs::Sections::settings_part, crate::proofs::Sections::taps_before, crate::proofs::Sections::taps_behind))]
+fn prepared(tape: &[u8], lengths: Lengths) -> Prepared
     requires { 12135 ≤ length tape.now }
-    ensures { result ≡ prepared_of four (taps_s four tape.now) (taps_ac four tape.now) (settings_bytes four tape.now) mode_s mode_ac memory }
+    ensures { result ≡ prepared_of four (taps_s four tape.now) (taps_ac four tape.now) (settings_bytes four tape.now) lengths.mode_s lengths.mode_ac lengths.memory }
 {
     let taps = read_taps(tape);
     let all: &[f32] = &taps;
-    run_open_checks::prepare(
-        &tape[4..TAPS_COUNT_OFFSET],
-        &all[..MODE_S_TAPS_LEN],
-        &all[MODE_S_TAPS_LEN..],
-        mode_s,
-        mode_ac,
-        memory,
-    )
+    let taps = Filters {
+        mode_s: &all[..MODE_S_TAPS_LEN],
+        mode_ac: &all[MODE_S_TAPS_LEN..],
+    };
+    run_open_checks::prepare(&tape[4..TAPS_COUNT_OFFSET], taps, lengths)
 }
 
 // What stands before the taps' values.
@@ -97,7 +100,8 @@ fn before_taps(tape: &[u8]) -> Result<(), Refusal>
     Ok(())
 }
 
-// A tape up to its noise. The prototypes and working memory are those that opening is given: a run fills them, a refusal leaves them.
+// A tape up to its noise. The prototypes and working memory are those that opening is given: a run fills them, a refusal leaves them. Three slices, for the reason given beside `run_open::fill`.
+#[tactic(auto, using(crate::proofs::Sections::passed_long, crate::proofs::Sections::head_refused, crate::proofs::Sections::behind_refused))]
 pub fn head(
     tape: &[u8],
     mode_s: &mut [f32],
@@ -107,9 +111,13 @@ pub fn head(
     ensures { record { head = result; left = record { mode_s = mode_s.new; mode_ac = mode_ac.new; memory = memory.new } } ≡ head_of four tape.now (record { mode_s = mode_s.old; mode_ac = mode_ac.old; memory = memory.old }) }
 {
     before_taps(tape)?;
-    let p = prepared(tape, mode_s.len(), mode_ac.len(), memory.len());
-    let answer = opened_then(p.opened, tape);
-    let begun = answer.is_ok();
-    run_open::fill(begun, p.mode_s, p.mode_ac, mode_s, mode_ac, memory);
-    answer
+    let lengths = Lengths {
+        mode_s: mode_s.len(),
+        mode_ac: mode_ac.len(),
+        memory: memory.len(),
+    };
+    let p = prepared(tape, lengths);
+    let begun = opened_then(p.opened, tape)?;
+    run_open::fill(p.prototypes(), mode_s, mode_ac, memory);
+    Ok(begun)
 }

@@ -2,34 +2,36 @@
 // What is read is not stated, since it is not known; that what is reported is right for some tape, is.
 #![tactic(auto)]
 
-ghost use Rattle.std.specs.Prelude.{◌≡◌, cond, length};
-ghost use Rattle.tape_theory.specs.Reported.{Reported, records_lent};
+ghost use Rattle.std.specs.Prelude.{◌≡◌, ◌≤◌, length};
+ghost use Rattle.tape_theory.specs.Reported.{Reported, records_lent, records_left, records_in};
 
 use constants::{DRAW_LEN, MEMORY_LEN, PROTOTYPE_LEN};
-use std::io::Error;
+use pulse_shape::Filters;
+use std::io::{Error, Stdout};
 use tape_sections::{DRAWS_OFFSET, LONGEST_HEAD_LEN, MAX_RECORDS_LEN};
-pub use tape_stream::Output;
 use tape_verdict::Outcome;
 
-// A copy of the bytes given for records: a run that is not done leaves those as they were.
+// A copy of the bytes given for records: a run that is not done leaves those as they were. A function, since an array passed by value tells a proof its length.
 fn copied(bytes: [u8; MAX_RECORDS_LEN]) -> [u8; MAX_RECORDS_LEN]
     ensures { (result ≡ bytes) × (records_lent ≡ length result) }
 {
     bytes
 }
 
-// Writes the bytes where they are wanted.
-fn keep(wanted: bool, bytes: [u8; MAX_RECORDS_LEN], records: &mut [u8; MAX_RECORDS_LEN])
-    ensures { records.new ≡ cond wanted bytes records.old }
+// The records of a run that is done go into the bytes given for them.
+#[tactic(auto, unfolding(tape_theory::specs::Reported::records_left))]
+fn keep(outcome: Outcome, own: [u8; MAX_RECORDS_LEN], records: &mut [u8; MAX_RECORDS_LEN])
+    ensures { records.new ≡ records_left outcome own records.old }
 {
-    if wanted {
-        *records = bytes;
+    if tape_verdict::is_done(outcome) {
+        *records = own;
     }
 }
 
-// Runs the tape. Of a run that is done the records stand at the start of the bytes given for them; on a refusal, and where the samples are not taken, those bytes are as they were.
-pub fn run_tape(samples: bool, records: &mut [u8; MAX_RECORDS_LEN], to: &mut Output) -> Outcome
-    ensures { Reported result records.old records.new }
+// Runs the tape. Of a run that is done the records stand at the start of the bytes given for them; on a refusal, and where the samples are not taken, those bytes are as they were. Of 400 draws at most come 400 records at most.
+pub fn run_tape(records: &mut [u8; MAX_RECORDS_LEN], to: Option<Stdout>) -> Outcome
+    ensures reported { Reported result records.old records.new }
+    ensures few { records_in result ≤ 400 }
 {
     let mut bytes = [0u8; LONGEST_HEAD_LEN];
     let got = tape_read::read_head(&mut bytes);
@@ -42,19 +44,21 @@ pub fn run_tape(samples: bool, records: &mut [u8; MAX_RECORDS_LEN], to: &mut Out
             let end = DRAWS_OFFSET + DRAW_LEN * b.draws as usize;
             let f = tape_verdict::start(b.state);
             let mut own = copied(*records);
+            let prototypes = Filters {
+                mode_s: &mode_s,
+                mode_ac: &mode_ac,
+            };
             let s = tape_stream::feed_section(
                 f,
                 b.noise,
-                samples,
                 &bytes[DRAWS_OFFSET..end],
-                &mode_s,
-                &mode_ac,
+                prototypes,
                 &mut memory,
                 &mut own,
                 to,
             );
-            let outcome = tape_verdict::reported(s.untaken, s.short, s.over, s.feed);
-            keep(tape_verdict::is_done(outcome), own, records);
+            let outcome = tape_verdict::reported(s.end, s.feed);
+            keep(outcome, own, records);
             outcome
         }
     }

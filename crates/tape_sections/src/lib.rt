@@ -63,10 +63,11 @@ fn fits(n: u64, least: u64, most: u64, size: u64, room: u64) -> bool
 }
 
 // The count at an offset, where it is from least to most and n values of a size lie behind it.
+#[tactic(auto, unfolding(crate::specs::Sections::section_at, crate::specs::Sections::count_then, le_read::specs::LeBytes::read_at), using(le_read::proofs::Decided::no_sum))]
 pub fn section(tape: &[u8], at: usize, least: u64, most: u64, size: u32) -> Option<u64>
     ensures { result ≡ section_at tape.now at least most size }
 {
-    let n = u64::from(le_read::le_u32(tape, at)?);
+    let n = u64::from(le_read::le::<u32>(tape, at)?);
     let room = (tape.len() - (at + 4)) as u64;
     if fits(n, least, most, u64::from(size), room) {
         Some(n)
@@ -76,6 +77,7 @@ pub fn section(tape: &[u8], at: usize, least: u64, most: u64, size: u32) -> Opti
 }
 
 // How many bytes of a tape stand before its noise, as its first 12,139 say.
+#[tactic(auto, unfolding(crate::specs::Sections::head_length, crate::specs::Sections::length_then), using(crate::proofs::Counts::at_most))]
 pub fn head_length(tape: &[u8]) -> usize
     ensures value { result ≡ head_length four tape.now }
     ensures lower_bound { (12139 ≤ result) × (result ≤ 38143) }

@@ -2,19 +2,15 @@
 // What is read and written is not stated, since it is not known; that the noise is cut as tape_theory/specs/PlainTape asks, is.
 #![tactic(auto)]
 
+ghost use Rattle.std.specs.Prelude.{◌≡◌, false};
 ghost use Rattle.tape_theory.specs.PlainTape.{FedCut};
+ghost use Rattle.tape_verdict.specs.Verdict.{is_cut_short};
 
 use constants::SAMPLE_RATE;
-use std::io::{Error, Stdout};
+use pulse_shape::Filters;
+use std::io::{Error, Stdout, Write};
 use tape_sections::{CHUNK_LEN, CHUNK_OUTPUT_LEN, CHUNK_VALUES, STDERR_FILENO, STDIN_FILENO};
-use tape_verdict::Feed;
-
-// Standard output, and why it did not take what was written to it, where a write failed.
-#[derive(Clone, Copy)]
-pub struct Output {
-    pub stdout: Stdout,
-    pub failure: Option<Error>,
-}
+use tape_verdict::{Feed, SectionEnd};
 
 // A line on standard error for each second of signal.
 fn progress(before: u64, after: u64) {
@@ -28,57 +24,58 @@ fn progress(before: u64, after: u64) {
     }
 }
 
-// Whether bytes are left over behind a section; none are looked for where it is cut short.
-fn left_over(short: bool) -> bool {
-    if short {
-        return false;
-    }
+// How a section ends whose values are all fed: whether bytes are left over behind it.
+#[tactic(auto, unfolding(tape_verdict::specs::Verdict::is_cut_short))]
+fn end_of_whole() -> SectionEnd
+    ensures { is_cut_short result ≡ false }
+{
     let mut b = [0u8; 1];
-    0 < io::read_full(STDIN_FILENO, &mut b)
+    if io::read_full(STDIN_FILENO, &mut b) == 0 {
+        SectionEnd::Whole
+    } else {
+        SectionEnd::LeftOver
+    }
 }
 
-// The samples that a call wrote, from one number of samples to the next; true where standard output does not take them.
-fn write_samples(before: u64, after: u64, output: &[f32], to: &mut Output) -> bool {
+// The samples that a call wrote, from one number of samples to the next.
+fn write_samples(mut stdout: Stdout, before: u64, after: u64, output: &[f32]) -> Result<(), Error> {
     let k = after.saturating_sub(before).min(8193) as usize;
     let n = output.len().min(2 * k);
     let mut out = [0u8; 65544];
     tape_floats::float_bytes(&output[..n], &mut out);
-    if let Err(e) = to.stdout.write_all(&out[..4 * n]) {
-        to.failure = Some(e);
-        return true;
-    }
+    stdout.write_all(&out[..4 * n])?;
     progress(before, after);
-    false
+    Ok(())
 }
 
-// Where samples are asked for, they are written; true where standard output does not take them.
-fn put_samples(asked: bool, before: u64, after: u64, output: &[f32], to: &mut Output) -> bool {
-    asked && write_samples(before, after, output, to)
+// Where there is an output for samples, they are written.
+fn put_samples(to: Option<Stdout>, before: u64, after: u64, output: &[f32]) -> Result<(), Error> {
+    match to {
+        Some(stdout) => write_samples(stdout, before, after, output),
+        None => Ok(()),
+    }
 }
 
-// A run after its noise section; whether standard output does not take its samples; whether the section was cut short, by that or since there were fewer values; and whether bytes are left over behind it.
+// A run after its noise section, and how the section ended.
 #[derive(Clone, Copy)]
 pub struct Section {
     pub feed: Feed,
-    pub untaken: bool,
-    pub short: bool,
-    pub over: bool,
+    pub end: SectionEnd,
 }
 
 // A noise section of count values, in chunks of up to 16,384; first none, so that a run of no samples is done. Of a
-// chunk that is not whole nothing is fed, and once the section is cut short no more is read.
+// chunk that is not whole nothing is fed, and once the section is cut short no more is read. Samples go to the output that is given, if any.
+// Memory and records are passed apart, for the reason given beside `run_call::step`.
 pub fn feed_section(
     first: Feed,
     count: u64,
-    samples: bool,
     draws: &[u8],
-    mode_s: &[f32],
-    mode_ac: &[f32],
+    prototypes: Filters,
     memory: &mut [f32],
     records: &mut [u8],
-    to: &mut Output,
+    to: Option<Stdout>,
 ) -> Section
-    ensures { FedCut mode_s.now mode_ac.now draws.now count (record { feed = first; memory = memory.old; records = records.old }) result.short (record { feed = result.feed; memory = memory.new; records = records.new }) }
+    ensures { FedCut prototypes.entry.mode_s.now prototypes.entry.mode_ac.now draws.now count (record { feed = first; memory = memory.old; records = records.old }) (is_cut_short result.end) (record { feed = result.feed; memory = memory.new; records = records.new }) }
 {
     let mut f = first;
     let mut left = count;
@@ -90,25 +87,26 @@ pub fn feed_section(
         let before = f.state.written;
         f = tape_feed::feed_noise(
             f,
-            mode_s,
-            mode_ac,
+            prototypes,
             memory,
             draws,
             &row[..n],
             &mut output,
             records,
         );
-        let untaken = put_samples(samples, before, f.state.written, &output, to);
-        let short = (n as u64) < want || untaken;
-        left = if short { 0 } else { left.saturating_sub(want) };
+        if let Err(e) = put_samples(to, before, f.state.written, &output) {
+            let end = SectionEnd::Untaken(e);
+            return Section { feed: f, end };
+        }
+        if (n as u64) < want {
+            let end = SectionEnd::Short;
+            return Section { feed: f, end };
+        }
+        left = left.saturating_sub(want);
         want = left.min(CHUNK_VALUES);
         if want == 0 {
-            return Section {
-                feed: f,
-                untaken,
-                short,
-                over: left_over(short),
-            };
+            let end = end_of_whole();
+            return Section { feed: f, end };
         }
     }
 }

@@ -5,13 +5,14 @@ use mathlib.Core.Bool.{Bool, true, false, cond}
 use mathlib.Core.List.{List, [], ◌∷◌, ◌++◌, append_assoc, append-nil}
 use native.Mathlib.Omega.{arith}
 use native.Mathlib.Numerals.{add-one}
-use lib.Dec.{leb}
+use lib.Dec.{eqb, leb}
 use lib.ListN.{length, get_or, take, drop, length-append, length-take, length-drop}
-use lib.Seq.{take_all, take-take, drop-drop, length-take-le}
+use lib.Seq.{take_all, take-take, drop-drop, length-take-le, get_or-take}
+use Rattle.std.proofs.lemmas.List.{drop-take}
 use borrow.Author.Tests.{eq-eqb, ne_eqb, leb-true, leb-false}
 use Rattle.io.specs.Counts.{IsPrefixLen}
 use Rattle.io.specs.Digits.{last_digits, IsDigitCount}
-use Rattle.le_read.specs.LeBytes.{le_at, number_at, overwritten}
+use Rattle.le_read.specs.LeBytes.{le_of, le_at, number_at, overwritten}
 use Rattle.settings.proofs.Inside.{number_there}
 use Rattle.reply_record.proofs.Overwritten.{none_overwritten}
 use Rattle.tape_text.specs.Text.{decimal, number, hex, hex_line, message_of, line_of, lines_of, header, samples_word, refused_word, run_text, refused_text, Put}
@@ -93,6 +94,37 @@ lines_more (suc k) r =
     ∙ sym (append_assoc (line_of r) (lines_of k (drop 66 r)) (line_of (drop (66 * k) (drop 66 r))))
     ∙ ap (λ (l : List ℕ). line_of r ++ lines_of k (drop 66 r) ++ line_of l) (drop-drop (66 * k) 66 r ∙ ap (λ (n : ℕ). drop n r) {x = 66 + 66 * k} {y = 66 * suc k} (omega arith))
 
+-- a record's line is of its 66 bytes, and so the lines of n records are of as many
+line_cut : (m : ℕ) (r : List ℕ) → 66 ≤ m → line_of (take m r) ≡ line_of r
+unfolding line_of message_of le_at
+line_cut m r h = λ i. number (le_of (part 8 40 (omega arith) i)) 32 ++ number (at 48 (omega arith) i) 32 ++ number (le_of (part 2 49 (omega arith) i)) 32 ++ hex_line (cond (eqb (at 48 (omega arith) i) 6) (at 53 (omega arith) i ∷ at 52 (omega arith) i ∷ []) (take (at 51 (omega arith) i) (part 14 52 (omega arith) i)))
+  where
+    at : (k : ℕ) → k < m → get_or (take m r) k 0 ≡ get_or r k 0
+    at k g = get_or-take m r k 0 g
+
+    part : (n k : ℕ) → k + n ≤ m → take n (drop k (take m r)) ≡ take n (drop k r)
+    part n k g =
+        let e : m ≡ k + (m - k) = omega arith in
+        ap (λ (x : ℕ). take n (drop k (take x r))) e ∙ ap (take n) (drop-take k (m - k) r) ∙ take-take n (m - k) (drop k r) (omega arith)
+
+pub lines_cut : (n m : ℕ) (r : List ℕ) → 66 * n ≤ m → lines_of n (take m r) ≡ lines_of n r
+unfolding lines_of
+lines_cut zero m r h = refl
+lines_cut (suc n) m r h =
+    let e : m ≡ 66 + (m - 66) = omega arith in
+    (λ i. line_cut m r (omega arith) i ++ lines_of n (drop 66 (take (e i) r)))
+    ∙ ap (λ (l : List ℕ). line_of r ++ lines_of n l) (drop-take 66 (m - 66) r)
+    ∙ ap (λ (l : List ℕ). line_of r ++ l) (lines_cut n (m - 66) (drop 66 r) (omega arith))
+
+-- the text of the first n records alone is that of any count that shows as many
+pub run_cut : (r : List ℕ) (n count samples : ℕ) → 66 * n ≤ length r → min n 400 ≡ min count (min (length r / 66) 400) → run_text (take (66 * n) r) (length (take (66 * n) r) / 66) samples ≡ run_text r count samples
+unfolding run_text
+run_cut r n count samples h e =
+    let l : length (take (66 * n) r) ≡ 66 * n = length-take-le (66 * n) r h in
+    let q : min (length (take (66 * n) r) / 66) (min (length (take (66 * n) r) / 66) 400) ≡ min n 400 = omega arith in
+    ap (λ (k : ℕ). header ++ lines_of k (take (66 * n) r) ++ samples_word ++ number samples 10) q
+    ∙ ap (λ (x : List ℕ). header ++ x ++ samples_word ++ number samples 10) (lines_cut (min n 400) (66 * n) r (omega arith) ∙ ap (λ (k : ℕ). lines_of k r) e)
+
 -- after k steps: the lines of k records are put
 pub record Going (records s : List ℕ) (at : ℕ) (out : List ℕ) (end k : ℕ) : Type 0 where
   pub same : length out ≡ length s
@@ -104,9 +136,9 @@ module _ (records s : List ℕ) (at : ℕ) where
   unfolding lines_of
   first = record { same = refl; text = record { held = none_overwritten s at; ends = omega arith }; bound = omega arith }
 
-  pub next_line : (n : ℕ) (out : List ℕ) (end k : ℕ) {out' : List ℕ} {end' : ℕ} → k < n → 66 * n ≤ length records → at + 92 * n ≤ length s → Going records s at out end k
+  pub next_line : (out : List ℕ) (end k : ℕ) {out' : List ℕ} {end' : ℕ} → k < length records / 66 → at + 92 * (length records / 66) ≤ length s → Going records s at out end k
       → Put (line_of (take (length records - 66 * k) (drop (66 * k) records))) out end out' end' × (end' ≤ end + 92) → Going records s at out' end' (k + 1)
-  next_line n out end k {out'} {end'} h m r g p =
+  next_line out end k {out'} {end'} h r g p =
       let g1 = g.same in
       let g3 = g.bound in
       let p0 = p.0.ends in
@@ -142,11 +174,17 @@ refused_put n {s = s} {d} {e} {a} {b} h w z p q =
     let both = then_put (omega arith) p' (subst (λ (y : ℕ). Put (number n y) d a e b) z q.0) in
     whole (omega (arith, both.ends, p'.ends, q.1)) both
 
-pub run_put : (records : List ℕ) (count samples : ℕ) {s d₁ d₂ d₃ d₄ : List ℕ} {a b c e m n x : ℕ} → 40960 ≤ length s → m ≡ min (length records / 66) 400 → n ≡ min count m → x ≡ 10 → Put header s 0 d₁ a
-    → Put (lines_of n records) d₁ a d₂ b × (b ≤ a + 92 * n) → Put samples_word d₂ b d₃ c → Put (number samples x) d₃ c d₄ e × (e ≤ c + 21) → Whole (run_text records count samples) s d₄ e
+pub run_put : (records : List ℕ) (samples : ℕ) {s d₁ d₂ d₃ d₄ : List ℕ} {a b c e n x : ℕ} → 40960 ≤ length s → n ≡ min (length records / 66) 400 → x ≡ 10 → Put header s 0 d₁ a
+    → Put (lines_of (length (take (66 * n) records) / 66) (take (66 * n) records)) d₁ a d₂ b × (b ≤ a + 92 * (length (take (66 * n) records) / 66)) → Put samples_word d₂ b d₃ c → Put (number samples x) d₃ c d₄ e × (e ≤ c + 21)
+    → Whole (run_text records (length records / 66) samples) s d₄ e
 unfolding run_text
-run_put records count samples {s} {d₁} {d₂} {d₃} {d₄} {a} {b} {c} {e} {m} {n} h k l z p q t u =
-    let q' : Put (lines_of (min count (min (length records / 66) 400)) records) d₁ a d₂ b = subst (λ (i : ℕ). Put (lines_of i records) d₁ a d₂ b) (l ∙ ap (min count) k) q.0 in
+run_put records samples {s} {d₁} {d₂} {d₃} {d₄} {a} {b} {c} {e} {n} h l z p q t u =
+    let w : length (take (66 * n) records) ≡ 66 * n = length-take-le (66 * n) records (omega arith) in
+    let k : length (take (66 * n) records) / 66 ≡ n = omega arith in
+    let m : n ≡ min (length records / 66) (min (length records / 66) 400) = omega arith in
+    let same : lines_of (length (take (66 * n) records) / 66) (take (66 * n) records) ≡ lines_of (min (length records / 66) (min (length records / 66) 400)) records =
+    ap (λ (i : ℕ). lines_of i (take (66 * n) records)) k ∙ lines_cut n (66 * n) records (omega arith) ∙ ap (λ (i : ℕ). lines_of i records) m in
+    let q' : Put (lines_of (min (length records / 66) (min (length records / 66) 400)) records) d₁ a d₂ b = subst (λ (y : List ℕ). Put y d₁ a d₂ b) same q.0 in
     let low : n ≤ 400 = omega arith in
     let p0 = p.ends in
     let t0 = t.ends in

@@ -25,7 +25,7 @@ fn hex_digit(d: u8) -> u8
     if d < 10 { 48 + d } else { 87 + d }
 }
 
-// Bytes put at an offset; where they end.
+// Bytes put at an offset; where they end. Offsets here and below, not subslices: a clause then tells of the whole buffer, and parts join by one law.
 fn put_bytes(from: &[u8], out: &mut [u8], at: usize) -> usize
     requires { at + length from.now ≤ length out.old }
     ensures { Put from.now out.old at out.new result }
@@ -106,32 +106,38 @@ fn put_line(rec: &[u8], out: &mut [u8], at: usize) -> usize
     requires { (66 ≤ length rec.now) × (at + 92 ≤ length out.old) }
     ensures { Put (line_of rec.now) out.old at out.new result × (result ≤ at + 92) }
 {
-    let a = put_number(le_read_or_zero::u64_at(rec, 40), 32, out, at);
+    let a = put_number(le_read_or_zero::number::<u64>(rec, 40), 32, out, at);
     let b = put_number(u64::from(rec[48]), 32, out, a);
-    let c = put_number(u64::from(le_read_or_zero::u16_at(rec, 49)), 32, out, b);
+    let c = put_number(
+        u64::from(le_read_or_zero::number::<u16>(rec, 49)),
+        32,
+        out,
+        b,
+    );
     put_message(rec, out, c)
 }
 
-// The lines of n records, put at an offset; where they end.
-fn put_lines(records: &[u8], n: usize, out: &mut [u8], at: usize) -> usize
-    requires { (66 * n ≤ length records.now) × (at + 92 * n ≤ length out.old) }
-    ensures { Put (lines_of n records.now) out.old at out.new result × (result ≤ at + 92 * n) }
+// The lines of records, put at an offset; where they end.
+fn put_lines(records: &[u8], out: &mut [u8], at: usize) -> usize
+    requires { at + 92 * (length records.now / 66) ≤ length out.old }
+    ensures { Put (lines_of (length records.now / 66) records.now) out.old at out.new result × (result ≤ at + 92 * (length records.now / 66)) }
 {
     let mut end = at;
-    for k in 0..n {
+    // By index: with `chunks_exact`, which was tried, the proof has no count of the lines put.
+    for k in 0..records.len() / RECORD_LEN {
         end = put_line(&records[RECORD_LEN * k..], out, end);
     }
     end
 }
 
-// What is printed of a run with its records, n of them; its length.
-pub fn run_text(records: &[u8], count: usize, samples: u64, out: &mut [u8; TEXT_LEN]) -> usize
-    ensures value { (result ≡ length (run_text records.now count samples)) × (out.new ≡ overwritten out.old 0 (run_text records.now count samples)) }
+// What is printed of a run with its records, of which 400 have lines; its length.
+pub fn run_text(records: &[u8], samples: u64, out: &mut [u8; TEXT_LEN]) -> usize
+    ensures value { (result ≡ length (run_text records.now (length records.now / 66) samples)) × (out.new ≡ overwritten out.old 0 (run_text records.now (length records.now / 66) samples)) }
     ensures prefix_len { IsPrefixLen result out.new }
 {
-    let n = count.min((records.len() / RECORD_LEN).min(MAX_LINES));
+    let n = (records.len() / RECORD_LEN).min(MAX_LINES);
     let a = put_bytes(b"first type count message\n", out, 0);
-    let b = put_lines(records, n, out, a);
+    let b = put_lines(&records[..RECORD_LEN * n], out, a);
     let c = put_bytes(b"samples ", out, b);
     put_number(samples, 10, out, c)
 }

@@ -26,12 +26,13 @@ use Rattle.tape_head.specs.declared.Beginning.{Beginning}
 use Rattle.tape_head.specs.Head.{run_of, taps_s, taps_ac, Begun, left_then, head_of}
 use Rattle.tape_head.proofs.Within.{head_within}
 use Rattle.tape_verdict.specs.declared.Feed.{Feed}
+use Rattle.tape_verdict.specs.declared.SectionEnd as SectionEnd
 use Rattle.tape_verdict.specs.declared.Outcome as Outcome
-use Rattle.tape_verdict.specs.Verdict.{start_of, verdict_of, verdict_number, judged_of, outcome_of, outcome_done}
+use Rattle.tape_verdict.specs.Verdict.{is_cut_short, start_of, verdict_of, verdict_number, judged_of, outcome_of, outcome_done}
 use Rattle.tape_theory.specs.Fed.{Held, begun}
 use Rattle.tape_theory.specs.PlainTape.{Ending, refused, ending_by, ending_text, plain_ending, fed_ending, fed_text, FedCut}
 use Rattle.tape_theory.specs.TapeText.{lent_by_program, draws_section}
-use Rattle.tape_theory.specs.Reported.{mode_s_of, mode_ac_of, head_read, memory_left, records_lent, records_left, Reported, head_refused, run, Says, outcome_text, PlainlyReported, number_refused, not_taken, cut_short, plain}
+use Rattle.tape_theory.specs.Reported.{mode_s_of, mode_ac_of, head_read, memory_left, records_lent, records_left, records_in, Reported, head_refused, run, Says, outcome_text, PlainlyReported, number_refused, not_taken, cut_short, plain}
 use Rattle.tape_theory.proofs.FedCall.{few_records}
 use Rattle.tape_theory.proofs.PlainTape.{plain_tape, section_ends}
 
@@ -77,17 +78,17 @@ module _ (tape : List ℕ) (s : State) (n count : ℕ) (mode_s mode_ac memory : 
   unfolding head_of left_then
   left_is = ap (λ (x : Begun). x.left) e ∙ ap (left_then four tape lent_by_program) head_begins
 
-  module _ (size : ℕ) (sized : size ≡ 65 * n) (first f : Feed) (starts : first ≡ start_of s) (before written records' : List ℕ) (memory' : List Float) (untaken short left : Bool) (r : Outcome.Outcome)
+  module _ (size : ℕ) (sized : size ≡ 65 * n) (first f : Feed) (starts : first ≡ start_of s) (before written records' : List ℕ) (memory' : List Float) (end : SectionEnd.SectionEnd) (r : Outcome.Outcome)
       (own : written ≡ before) (room : records_lent ≡ length written)
-      (fed : FedCut mode_s mode_ac (take size (drop 12139 bytes)) count (record { feed = first; memory = memory; records = written }) short (record { feed = f; memory = memory'; records = records' })) where
-    pub reported_run : (after : List ℕ) (wanted : Bool) → r ≡ outcome_of untaken short left f → wanted ≡ outcome_done r → after ≡ cond wanted records' before → Reported r before after
-    unfolding begun left_by draws_section records_left
-    reported_run after wanted er ew ea =
-        run tape s n count head_begins (sym (room ∙ ap length own)) (record { feed = f; memory = memory'; records = records' }) untaken short left
+      (fed : FedCut mode_s mode_ac (take size (drop 12139 bytes)) count (record { feed = first; memory = memory; records = written }) (is_cut_short end) (record { feed = f; memory = memory'; records = records' })) where
+    pub reported_run : (after : List ℕ) → r ≡ outcome_of end f → after ≡ records_left r records' before → Reported r before after
+    unfolding begun left_by draws_section
+    reported_run after er ea =
+        run tape s n count head_begins (sym (room ∙ ap length own)) (record { feed = f; memory = memory'; records = records' }) end
         (subst (λ (X : Type 0). X)
-        (λ i. FedCut (left_is i).mode_s (left_is i).mode_ac (draws i) count (record { feed = starts i; memory = (e i).left.memory; records = own i }) short (record { feed = f; memory = memory'; records = records' }))
+        (λ i. FedCut (left_is i).mode_s (left_is i).mode_ac (draws i) count (record { feed = starts i; memory = (e i).left.memory; records = own i }) (is_cut_short end) (record { feed = f; memory = memory'; records = records' }))
         fed)
-        er (ea ∙ ap (λ (b : Bool). cond b records' before) ew)
+        er ea
       where
         draws : take size (drop 12139 bytes) ≡ take (65 * n) (drop 12139 tape)
         draws = ap (λ (k : ℕ). take k (drop 12139 bytes)) sized ∙ sym (ap (λ (l : List ℕ). take (65 * n) (drop 12139 l)) first_part ∙ same_draws n got bytes (omega (arith, (head_within tape lent_by_program s n count head_begins).1, ap length first_part)))
@@ -96,7 +97,7 @@ module _ (tape : List ℕ) (s : State) (n count : ℕ) (mode_s mode_ac memory : 
 pub others_leave : (r : Outcome.Outcome) (before after : List ℕ) → outcome_done r ≡ false → Reported r before after → after ≡ before
 unfolding records_left
 others_leave r before after not_done (head_refused tape q h er ea) = ea
-others_leave r before after not_done (run tape s n count h room f untaken short left fed er ea) = ea ∙ ap (λ (b : Bool). cond b f.records before) not_done
+others_leave r before after not_done (run tape s n count h room f end fed er ea) = ea ∙ ap (λ (b : Bool). cond b f.records before) not_done
 
 -- ---- in the plain run's terms: an outcome by a verdict says the ending by it
 -- a refusal's number is not 0
@@ -140,25 +141,23 @@ unfolding draws_section
 rooms tape s n count begins before room = omega (arith, room, length-take (65 * n) (drop 12139 tape), (head_within tape lent_by_program s n count begins).0)
 
 pub reported_plainly : (r : Outcome.Outcome) (before after : List ℕ) → Reported r before after → PlainlyReported r before after
-unfolding outcome_of verdict_of verdict_number fed_ending fed_text outcome_done records_left ending_by number_of draws_section
+unfolding outcome_of is_cut_short verdict_of verdict_number fed_ending fed_text outcome_done records_left ending_by number_of draws_section
 reported_plainly r before after (head_refused tape q h er ea) = number_refused tape q h (q, 0, er, refl, ea)
-reported_plainly r before after (run tape s n count begins room f untaken short left fed er ea) = go untaken short refl refl
+reported_plainly r before after (run tape s n count begins room f end fed er ea) = go end fed er
   where
-    go : (u x : Bool) → untaken ≡ u → short ≡ x → PlainlyReported r before after
-    go true x d y = let e : r ≡ Outcome.TheVariants.Untaken = er ∙ ap (λ (b : Bool). outcome_of b short left f.feed) d in not_taken e (ea ∙ ap (λ (o : Outcome.Outcome). records_left o f.records before) e)
-    go false true d y = cut_short tape s n count begins (says_by r f before after ea (Err Tape) (er ∙ λ i. outcome_of (d i) (y i) left f.feed)).0
-    go false false d y =
-        let t = section_ends s (mode_s_of tape) (mode_ac_of tape) (memory_left tape) (draws_section tape n) (plain_tape tape lent_by_program s n count begins) before (rooms tape s n count begins before room) count f (subst (λ (b : Bool). FedCut (mode_s_of tape) (mode_ac_of tape) (draws_section tape n) count (begun s (memory_left tape) before) b f) y fed) in
-        let v = verdict_of false f.feed.answer left in
-        let q = says_by r f before after ea v (er ∙ λ i. outcome_of (d i) (y i) left f.feed) in
+    read : (left : Bool) → FedCut (mode_s_of tape) (mode_ac_of tape) (draws_section tape n) count (begun s (memory_left tape) before) false f → r ≡ judged_of (verdict_of false f.feed.answer left) f.feed → PlainlyReported r before after
+    read left whole e =
+        let t = section_ends s (mode_s_of tape) (mode_ac_of tape) (memory_left tape) (draws_section tape n) (plain_tape tape lent_by_program s n count begins) before (rooms tape s n count begins before room) count f whole in
+        let q = says_by r f before after ea (verdict_of false f.feed.answer left) e in
         plain tape s n count begins t.0 t.1 left (subst (λ (x : Ending). Says x r before after) (t.2 left).0 q.0) (q.1 ∙ (t.2 left).1)
 
--- ---- a tape has 400 draws at most, so that 26,400 bytes hold the records reported
-abbrev pub records_in : Outcome.Outcome → ℕ
-records_in (Outcome.TheVariants.Done records samples) = records
-records_in (Outcome.TheVariants.Refused q samples) = 0
-records_in Outcome.TheVariants.Untaken = 0
+    go : (x : SectionEnd.SectionEnd) → FedCut (mode_s_of tape) (mode_ac_of tape) (draws_section tape n) count (begun s (memory_left tape) before) (is_cut_short x) f → r ≡ outcome_of x f.feed → PlainlyReported r before after
+    go SectionEnd.TheVariants.Whole cut e = read false cut e
+    go SectionEnd.TheVariants.LeftOver cut e = read true cut e
+    go SectionEnd.TheVariants.Short cut e = cut_short tape s n count begins (says_by r f before after ea (Err Tape) e).0
+    go (SectionEnd.TheVariants.Untaken why) cut e = not_taken why e (ea ∙ ap (λ (o : Outcome.Outcome). records_left o f.records before) e)
 
+-- ---- a tape has 400 draws at most, so that 26,400 bytes hold the records reported
 few_said : (v : ℕ) (bytes : List ℕ) (records samples : ℕ) (r : Outcome.Outcome) (before after : List ℕ) → records ≤ 400 → Says (ending_by v bytes records samples) r before after → records_in r ≤ 400
 unfolding ending_by
 few_said zero bytes records samples r before after few q = omega (arith, ap records_in q.0)
@@ -170,7 +169,7 @@ few_reported r before after h = go (reported_plainly r before after h)
   where
     go : PlainlyReported r before after → records_in r ≤ 400
     go (number_refused tape w e q) = omega (arith, ap records_in q.2)
-    go (not_taken e q) = omega (arith, ap records_in e)
+    go (not_taken why e q) = omega (arith, ap records_in e)
     go (cut_short tape s n count e q) = omega (arith, ap records_in q.2)
     go (plain tape s n count e noise all left q text) =
         let G = gen_of s (mode_s_of tape) (mode_ac_of tape) in

@@ -11,8 +11,10 @@ use Rattle.tape_sections.specs.Sections.{most_draws}
 use Rattle.tape_text.specs.Text.{run_text, refused_text}
 use Rattle.tape_head.specs.declared.Beginning.{Beginning}
 use Rattle.tape_head.specs.Head.{run_of, taps_s, taps_ac, head_of}
+use Rattle.std.specs.declared.io.Error.{Error}
+use Rattle.tape_verdict.specs.declared.SectionEnd.{SectionEnd}
 use Rattle.tape_verdict.specs.declared.Outcome as Outcome
-use Rattle.tape_verdict.specs.Verdict.{outcome_of, outcome_done}
+use Rattle.tape_verdict.specs.Verdict.{is_cut_short, outcome_of, outcome_done}
 use Rattle.tape_theory.specs.Fed.{Held, begun}
 use Rattle.tape_theory.specs.PlainTape.{Ending, done, refused, plain_ending, plain_text, FedCut}
 use Rattle.tape_theory.specs.TapeText.{lent_by_program, draws_section}
@@ -45,10 +47,16 @@ records_left outcome written before = cond (outcome_done outcome) written before
 pub data Reported (outcome : Outcome.Outcome) (before after : List ℕ) : Type 0 where
   -- of one whose head is refused, its refusal, with no sample
   head_refused : (tape : List ℕ) (q : Refusal) → head_read tape ≡ Err q → outcome ≡ Outcome.TheVariants.Refused q 0 → after ≡ before → Reported outcome before after
-  -- of one whose head begins a run, the outcome of that run, fed noise that is cut as `FedCut` asks: as many values as the count says, unless the section is cut short; with or without bytes left over
-  run : (tape : List ℕ) (s : State) (n count : ℕ) → head_read tape ≡ run_of s n count → length before ≡ records_lent → (f : Held) (untaken short left : Bool)
-      → FedCut (mode_s_of tape) (mode_ac_of tape) (draws_section tape n) count (begun s (memory_left tape) before) short f
-      → outcome ≡ outcome_of untaken short left f.feed → after ≡ records_left outcome f.records before → Reported outcome before after
+  -- of one whose head begins a run, the outcome of that run, fed noise that is cut as `FedCut` asks: as many values as the count says, unless the section is cut short; by how the section ended
+  run : (tape : List ℕ) (s : State) (n count : ℕ) → head_read tape ≡ run_of s n count → length before ≡ records_lent → (f : Held) (end : SectionEnd)
+      → FedCut (mode_s_of tape) (mode_ac_of tape) (draws_section tape n) count (begun s (memory_left tape) before) (is_cut_short end) f
+      → outcome ≡ outcome_of end f.feed → after ≡ records_left outcome f.records before → Reported outcome before after
+
+-- how many records are reported
+abbrev pub records_in : Outcome.Outcome → ℕ
+records_in (Outcome.TheVariants.Done records samples) = records
+records_in (Outcome.TheVariants.Refused q samples) = 0
+records_in (Outcome.TheVariants.Untaken why) = 0
 
 -- ---- in the plain run's terms
 -- an outcome and record bytes that say an ending: a run that is done by its records and samples, with its record bytes; a refusal of that number, with the bytes as they were
@@ -60,13 +68,13 @@ Says (refused number) outcome before after = (q : Refusal) × (samples : ℕ) ×
 unfoldable pub outcome_text : Outcome.Outcome → List ℕ → List ℕ
 outcome_text (Outcome.TheVariants.Done records samples) bytes = run_text bytes records samples
 outcome_text (Outcome.TheVariants.Refused q samples) bytes = refused_text (number_of q)
-outcome_text Outcome.TheVariants.Untaken bytes = []
+outcome_text (Outcome.TheVariants.Untaken why) bytes = []
 
 pub data PlainlyReported (outcome : Outcome.Outcome) (before after : List ℕ) : Type 0 where
   -- of a head that is refused, its number
   number_refused : (tape : List ℕ) (q : Refusal) → head_read tape ≡ Err q → Says (refused (number_of q)) outcome before after → PlainlyReported outcome before after
-  -- that the samples are not taken
-  not_taken : outcome ≡ Outcome.TheVariants.Untaken → after ≡ before → PlainlyReported outcome before after
+  -- why the samples are not taken
+  not_taken : (why : Error) → outcome ≡ Outcome.TheVariants.Untaken why → after ≡ before → PlainlyReported outcome before after
   -- of a noise section that is cut short, 11
   cut_short : (tape : List ℕ) (s : State) (n count : ℕ) → head_read tape ≡ run_of s n count → Says (refused 11) outcome before after → PlainlyReported outcome before after
   -- else the plain run's ending and text, on the tape's draws, as many noise values as its count says, and bytes left over or not

@@ -6,6 +6,7 @@ use Rattle.refusals.specs.declared.Refusal.TheVariants.{Tape}
 use Rattle.run_call.specs.declared.State.{State}
 use Rattle.run_steps.specs.declared.Stop as Stop
 use Rattle.tape_verdict.specs.declared.Feed.{Feed}
+use Rattle.tape_verdict.specs.declared.SectionEnd as SectionEnd
 use Rattle.tape_verdict.specs.declared.Outcome as Outcome
 
 -- a run that nothing has been fed: no draw taken, no record written
@@ -37,12 +38,29 @@ unfoldable pub judged_of : (Result (Unit {0}) Refusal) → Feed → Outcome.Outc
 judged_of (Ok u) f = Outcome.TheVariants.Done f.records f.state.written
 judged_of (Err q) f = Outcome.TheVariants.Refused q f.state.written
 
--- what is reported of a tape: where its samples are not taken that alone, and no refusal
-unfoldable pub outcome_of : Bool → Bool → Bool → Feed → Outcome.Outcome
-outcome_of untaken short over f = cond untaken Outcome.TheVariants.Untaken (judged_of (verdict_of short f.answer over) f)
+-- whether a section was cut short, so that its values are not all fed
+unfoldable pub is_cut_short : SectionEnd.SectionEnd → Bool
+is_cut_short SectionEnd.TheVariants.Whole = false
+is_cut_short SectionEnd.TheVariants.LeftOver = false
+is_cut_short SectionEnd.TheVariants.Short = true
+is_cut_short (SectionEnd.TheVariants.Untaken e) = true
+
+-- whether bytes are left over behind it
+unfoldable pub is_left_over : SectionEnd.SectionEnd → Bool
+is_left_over SectionEnd.TheVariants.Whole = false
+is_left_over SectionEnd.TheVariants.LeftOver = true
+is_left_over SectionEnd.TheVariants.Short = false
+is_left_over (SectionEnd.TheVariants.Untaken e) = false
+
+-- what is reported of a tape: where its samples are not taken why not, and no refusal; else by the verdict on it
+unfoldable pub outcome_of : SectionEnd.SectionEnd → Feed → Outcome.Outcome
+outcome_of SectionEnd.TheVariants.Whole f = judged_of (verdict_of false f.answer false) f
+outcome_of SectionEnd.TheVariants.LeftOver f = judged_of (verdict_of false f.answer true) f
+outcome_of SectionEnd.TheVariants.Short f = judged_of (verdict_of true f.answer false) f
+outcome_of (SectionEnd.TheVariants.Untaken e) f = Outcome.TheVariants.Untaken e
 
 -- whether a run is done, and its records are handed out
 unfoldable pub outcome_done : Outcome.Outcome → Bool
 outcome_done (Outcome.TheVariants.Done records samples) = true
 outcome_done (Outcome.TheVariants.Refused refusal samples) = false
-outcome_done Outcome.TheVariants.Untaken = false
+outcome_done (Outcome.TheVariants.Untaken e) = false

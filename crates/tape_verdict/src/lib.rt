@@ -2,11 +2,12 @@
 #![tactic(auto)]
 
 ghost use Rattle.std.specs.Prelude.{◌≡◌};
-ghost use Rattle.tape_verdict.specs.Verdict.{start_of, verdict_of, outcome_of, outcome_done};
+ghost use Rattle.tape_verdict.specs.Verdict.{start_of, verdict_of, is_cut_short, is_left_over, judged_of, outcome_of, outcome_done};
 
 use refusals::Refusal;
 use run_call::State;
 use run_steps::Stop;
+use std::io::Error;
 
 // A run so far: its state, the draws taken, the records written, and what its last call answered.
 #[derive(Clone, Copy)]
@@ -17,12 +18,22 @@ pub struct Feed {
     pub answer: Result<Stop, Refusal>,
 }
 
-// What is reported of a tape: that its run is done, with its records and its samples; its refusal, with the samples written before it; or that standard output does not take the samples.
+// How a noise section ended: with all its values fed, and no bytes behind it or bytes left over; cut short, since there were fewer values; or cut short since its samples were not taken, and why not.
+#[derive(Clone, Copy)]
+pub enum SectionEnd {
+    Whole,
+    LeftOver,
+    Short,
+    Untaken(Error),
+}
+
+// What is reported of a tape: that its run is done, with its records and its samples; its refusal, with the samples written before it; or why its samples were not taken.
+// Three outcomes with what each reports, and no `Result`: a caller handles each by itself and passes none up.
 #[derive(Clone, Copy)]
 pub enum Outcome {
     Done(usize, u64),
     Refused(Refusal, u64),
-    Untaken,
+    Untaken(Error),
 }
 
 // A run that nothing has been fed.
@@ -39,31 +50,40 @@ pub fn start(state: State) -> Feed
 }
 
 // The verdict on a tape whose noise is read: a short section, a noise value at fault, a run not Done, bytes left over.
-#[tactic(auto, unfolding(crate::specs::Verdict::verdict_of, crate::specs::Verdict::answer_then, crate::specs::Verdict::stop_then))]
-fn verdict(short: bool, answer: Result<Stop, Refusal>, over: bool) -> Result<(), Refusal>
-    ensures { result ≡ verdict_of short answer over }
+#[tactic(auto, unfolding(crate::specs::Verdict::verdict_of, crate::specs::Verdict::answer_then, crate::specs::Verdict::stop_then, crate::specs::Verdict::is_cut_short, crate::specs::Verdict::is_left_over))]
+fn verdict(end: SectionEnd, answer: Result<Stop, Refusal>) -> Result<(), Refusal>
+    ensures { result ≡ verdict_of (is_cut_short end) answer (is_left_over end) }
 {
-    if short {
-        return Err(Refusal::Tape);
+    match (end, answer) {
+        (SectionEnd::Short | SectionEnd::Untaken(_), _) => Err(Refusal::Tape),
+        (SectionEnd::Whole | SectionEnd::LeftOver, Err(q)) => Err(q),
+        (SectionEnd::Whole, Ok(Stop::Done)) => Ok(()),
+        (SectionEnd::Whole | SectionEnd::LeftOver, Ok(_)) => Err(Refusal::Tape),
     }
-    match answer? {
-        Stop::Done if !over => Ok(()),
-        Stop::Done | Stop::OutputFull | Stop::WantsNoise | Stop::WantsDraws | Stop::RecordsFull =>
-            Err(Refusal::Tape),
+}
+
+// What is reported of a run by its verdict.
+#[tactic(auto, unfolding(crate::specs::Verdict::judged_of))]
+fn judged(verdict: Result<(), Refusal>, f: Feed) -> Outcome
+    ensures { result ≡ judged_of verdict f }
+{
+    match verdict {
+        Ok(()) => Outcome::Done(f.records, f.state.written),
+        Err(q) => Outcome::Refused(q, f.state.written),
     }
 }
 
 // What is reported of a tape whose noise is read, or whose samples are not taken.
-#[tactic(auto, unfolding(crate::specs::Verdict::outcome_of, crate::specs::Verdict::judged_of))]
-pub fn reported(untaken: bool, short: bool, over: bool, f: Feed) -> Outcome
-    ensures { result ≡ outcome_of untaken short over f }
+#[tactic(auto, unfolding(crate::specs::Verdict::outcome_of, crate::specs::Verdict::is_cut_short, crate::specs::Verdict::is_left_over))]
+pub fn reported(end: SectionEnd, f: Feed) -> Outcome
+    ensures { result ≡ outcome_of end f }
 {
-    if untaken {
-        return Outcome::Untaken;
-    }
-    match verdict(short, f.answer, over) {
-        Ok(()) => Outcome::Done(f.records, f.state.written),
-        Err(q) => Outcome::Refused(q, f.state.written),
+    match end {
+        SectionEnd::Untaken(e) => Outcome::Untaken(e),
+        SectionEnd::Whole | SectionEnd::LeftOver | SectionEnd::Short => {
+            let v = verdict(end, f.answer);
+            judged(v, f)
+        }
     }
 }
 

@@ -4,7 +4,6 @@ use Rattle.refusals.specs.declared.Refusal.{Refusal}
 use Rattle.refusals.specs.Number.{number_of}
 use Rattle.constants.specs.Rate.{four, required_samples}
 use Rattle.settings_duration.specs.Duration.{duration_of}
-use Rattle.mode_ac.specs.declared.ModeACReply.{ModeACReply}
 use Rattle.mode_ac.specs.Building.{from_data, from_digits}
 use Rattle.pulse_map.specs.ModeAC.{mode_ac_positions}
 use Rattle.mode_s.specs.Parity.{parity_of}
@@ -31,13 +30,10 @@ pub record Line : Type 0 where
 abbrev pub line : Value → Value → Line
 line g s = record { gives = g; says = s }
 
-abbrev pub of_duration : Result ℕ Refusal → Value
-of_duration (Ok n) = number n
-of_duration (Err q) = refusal (number_of q)
-
-abbrev pub of_reply : Result ModeACReply Refusal → Value
-of_reply (Ok r) = number r.«data»
-of_reply (Err q) = refusal (number_of q)
+-- an answer, by a number of it, or its refusal
+abbrev pub of_answer : {X : Type 0} → (X → ℕ) → Result X Refusal → Value
+of_answer n (Ok x) = number (n x)
+of_answer n (Err q) = refusal (number_of q)
 
 abbrev pub of_class : Option Class → Value
 of_class (Some (OfType t)) = class (type_number t)
@@ -46,10 +42,10 @@ of_class None = no_class
 
 abbrev pub durations : List Line
 durations =
-    line (of_duration (duration_of four 0 124)) (number 0) ∷
-    line (of_duration (duration_of four 0 125)) (number 1) ∷
-    line (of_duration (duration_of four 562949953 421312124)) (number (2 ^ 52)) ∷
-    line (of_duration (duration_of four 562949953 421312125)) (refusal 1) ∷
+    line (of_answer (λ n. n) (duration_of four 0 124)) (number 0) ∷
+    line (of_answer (λ n. n) (duration_of four 0 125)) (number 1) ∷
+    line (of_answer (λ n. n) (duration_of four 562949953 421312124)) (number (2 ^ 52)) ∷
+    line (of_answer (λ n. n) (duration_of four 562949953 421312125)) (refusal 1) ∷
     []
 
 abbrev pub lengths : List Line
@@ -67,10 +63,10 @@ lengths =
 
 abbrev pub replies : List Line
 replies =
-    line (of_reply (from_digits 7 0 0 0 false)) (number 3584) ∷
+    line (of_answer (λ r. r.«data») (from_digits 7 0 0 0 false)) (number 3584) ∷
     line (positions (mode_ac_positions 3584 false)) (positions (0 ∷ 6 ∷ 12 ∷ 18 ∷ 42 ∷ [])) ∷
-    line (of_reply (from_data 4095 false)) (number 4095) ∷
-    line (of_reply (from_data 4096 false)) (refusal 10) ∷
+    line (of_answer (λ r. r.«data») (from_data 4095 false)) (number 4095) ∷
+    line (of_answer (λ r. r.«data») (from_data 4096 false)) (refusal 10) ∷
     []
 
 -- ASCII 123456789

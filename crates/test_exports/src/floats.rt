@@ -1,4 +1,5 @@
 // Floats and phases under C names, for the differential harness to call: each function only calls, and promises what it calls promises.
+// A C name for each, also where a body is one call.
 ghost use Rattle.std.specs.Prelude.{◌≡◌, [], ◌∷◌};
 ghost use Rattle.std.specs.Float.Ieee.{to_unsigned};
 ghost use Rattle.float_narrow.specs.Narrow.{narrow as narrowed};

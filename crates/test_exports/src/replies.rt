@@ -22,18 +22,15 @@ fn make(n: u8, p: Picks) -> Result<Reply, u64>
     message_make::make(t, p)
 }
 
+// The numbers are this interface's own, in the order of the kinds.
 #[tactic(auto, unfolding(crate::specs::Replies::kind_number))]
 fn kind_number(k: ReplyKind) -> u8
     ensures { result ≡ kind_number k }
 {
-    match k {
-        ReplyKind::Short => 0,
-        ReplyKind::Long => 1,
-        ReplyKind::ModeAc => 2,
-    }
+    k as u8
 }
 
-// The field at fault, 0 for none; the reply's kind and its bytes.
+// The parameters are the C interface's. The field at fault, 0 for none; the reply's kind and its bytes.
 #[tactic(auto, unfolding(crate::specs::Replies::picks_of, crate::specs::Replies::field_number, crate::specs::Replies::reply_made))]
 #[unsafe(no_mangle)]
 pub extern "C" fn port_make(

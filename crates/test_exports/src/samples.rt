@@ -8,32 +8,13 @@ ghost use Rattle.test_exports.specs.Samples.{config_at};
 
 use crate::replies::kind_numbered;
 use constants::SamplesPerPulse;
-use message::{Reply, ReplyKind};
+use message::Reply;
 use message_config::{Delays, MessageConfig};
+use pulse_shape::Filters;
+use reply_add::ReplySignal;
 
-#[tactic(auto, unfolding(crate::specs::Samples::config_at))]
-fn config_at(
-    time: f64,
-    cn0: f64,
-    offset: f64,
-    phase: f64,
-    error: f64,
-    kind: ReplyKind,
-    bytes: [u8; 14],
-) -> MessageConfig
-    ensures { result ≡ config_at time cn0 offset phase error kind bytes }
-{
-    MessageConfig {
-        time,
-        cn0,
-        offset,
-        phase,
-        error,
-        reply: Reply { kind, bytes },
-    }
-}
-
-// Adds a reply of kind 0 short, 1 long, else Mode A/C, and answers its count.
+// The parameters are the C interface's. Adds a reply of kind 0 short, 1 long, else Mode A/C, and answers its count.
+#[tactic(auto, unfolding(crate::specs::Samples::config_at, reply_add::specs::Signal::samples_of, reply_add::specs::Signal::count_of))]
 #[unsafe(no_mangle)]
 pub extern "C" fn port_add_reply(
     mode_s: &[f32],
@@ -52,20 +33,25 @@ pub extern "C" fn port_add_reply(
 ) -> u16
     ensures { (memory.new ≡ added_reply four memory.old slot (reply_samples four mode_s.entry.now mode_ac.now (record { mode_s = delay_s; mode_ac = delay_ac }) amplitude (config_at time time offset phase error (kind_numbered kind) bytes.now))) × (result ≡ added_count four memory.old slot (reply_count four (record { mode_s = delay_s; mode_ac = delay_ac }) (config_at time time offset phase error (kind_numbered kind) bytes.now))) }
 {
-    let k = kind_numbered(kind);
-    let c = config_at(time, time, offset, phase, error, k, *bytes);
-    let delays = Delays {
-        mode_s: delay_s,
-        mode_ac: delay_ac,
-    };
-    reply_add::add_reply(
-        SamplesPerPulse::Four,
-        mode_s,
-        mode_ac,
-        c,
+    let r = ReplySignal {
+        setting: SamplesPerPulse::Four,
+        prototypes: Filters { mode_s, mode_ac },
+        delays: Delays {
+            mode_s: delay_s,
+            mode_ac: delay_ac,
+        },
+        config: MessageConfig {
+            time,
+            cn0: time,
+            offset,
+            phase,
+            error,
+            reply: Reply {
+                kind: kind_numbered(kind),
+                bytes: *bytes,
+            },
+        },
         amplitude,
-        delays,
-        memory,
-        slot,
-    )
+    };
+    reply_add::add_reply(r, memory, slot)
 }

@@ -5,8 +5,9 @@ ghost use Rattle.pulse_shape.specs.Prototype.{mode_s_prototype, mode_ac_prototyp
 ghost use Rattle.pulse_shape.specs.GroupDelay.{group_delay, mode_ac_group_delay};
 ghost use Rattle.test_exports.specs.Shape.{delay_number};
 
-use constants::PROTOTYPE_LEN;
+use constants::{Mode, PROTOTYPE_LEN};
 
+#[tactic(auto, unfolding(constants::specs::Setting::by_mode))]
 #[unsafe(no_mangle)]
 pub extern "C" fn port_prototypes(
     taps_s: &[f32],
@@ -16,8 +17,8 @@ pub extern "C" fn port_prototypes(
 )
     ensures { (out_s.new ≡ mode_s_prototype four taps_s.now) × (out_ac.new ≡ mode_ac_prototype four taps_ac.now) }
 {
-    *out_s = pulse_shape::mode_s_prototype(taps_s);
-    *out_ac = pulse_shape::mode_ac_prototype(taps_ac);
+    *out_s = pulse_shape::prototype(Mode::S, taps_s);
+    *out_ac = pulse_shape::prototype(Mode::Ac, taps_ac);
 }
 
 #[tactic(auto, unfolding(crate::specs::Shape::delay_number))]
@@ -28,12 +29,13 @@ fn delay_number(crossing: Option<f64>) -> f64
 }
 
 // The delays of a prototype as one of Mode S and as one of Mode A/C, or -1.0 where nothing crosses the level.
+#[tactic(auto, unfolding(constants::specs::Setting::by_mode))]
 #[unsafe(no_mangle)]
 pub extern "C" fn port_group_delays(level: f32, prototype: &[f32], out: &mut [f64; 2])
     ensures { out.new ≡ delay_number (group_delay four level prototype.now) ∷ (delay_number (mode_ac_group_delay four level prototype.now) ∷ []) }
 {
     *out = [
-        delay_number(pulse_group_delay::group_delay(level, prototype)),
-        delay_number(pulse_group_delay::mode_ac_group_delay(level, prototype)),
+        delay_number(pulse_group_delay::group_delay(Mode::S, level, prototype)),
+        delay_number(pulse_group_delay::group_delay(Mode::Ac, level, prototype)),
     ];
 }

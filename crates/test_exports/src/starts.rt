@@ -2,15 +2,15 @@
 ghost use Rattle.std.specs.Prelude.{◌≡◌, [], ◌∷◌};
 ghost use Rattle.constants.specs.Rate.{four};
 ghost use Rattle.distributions.specs.Accepted.{carrier_offset, carrier_phase, clock_error};
+ghost use Rattle.distributions.specs.Drawn.{offset_of, phase_of, error_of};
 ghost use Rattle.message_config.specs.Config.{config_start, config_clock_phase, config_clock_error, config_rate, config_phase};
-ghost use Rattle.test_exports.specs.Drawn.{raw_distribution_of, offset_drawn, phase_drawn, error_drawn};
+ghost use Rattle.test_exports.specs.Drawn.{raw_distribution_of, drawn};
 ghost use Rattle.test_exports.specs.Messages.{kind_of, message_at, delays_at};
 
 use constants::SamplesPerPulse;
-use distributions::{CarrierOffset, CarrierPhase, ClockError, RawDistribution};
+use distributions::RawDistribution;
 use message::{Reply, ReplyKind};
 use message_config::{Delays, MessageConfig};
-use refusals::Refusal;
 
 #[tactic(auto, unfolding(crate::specs::Messages::kind_of))]
 fn kind_of(mode_ac: bool) -> ReplyKind
@@ -23,24 +23,7 @@ fn kind_of(mode_ac: bool) -> ReplyKind
     }
 }
 
-#[tactic(auto, unfolding(crate::specs::Messages::message_at))]
-fn message_at(time: f64, offset: f64, phase: f64, error: f64, kind: ReplyKind) -> MessageConfig
-    ensures { result ≡ message_at time offset phase error kind }
-{
-    MessageConfig {
-        time,
-        cn0: time,
-        offset,
-        phase,
-        error,
-        reply: Reply {
-            kind,
-            bytes: [0; 14],
-        },
-    }
-}
-
-// The first sample of a message; in `out` the clock error and the clock phase of its filter, and its carrier's rate and first phase.
+// The parameters are the C interface's. The first sample of a message; in `out` the clock error and the clock phase of its filter, and its carrier's rate and first phase.
 #[unsafe(no_mangle)]
 pub extern "C" fn port_message(
     time: f64,
@@ -54,7 +37,17 @@ pub extern "C" fn port_message(
 ) -> i64
     ensures { (result ≡ config_start (delays_at delay_s delay_ac) (message_at time offset phase error (kind_of mode_ac))) × (out.new ≡ config_clock_error (message_at time offset phase error (kind_of mode_ac)) ∷ (config_clock_phase (delays_at delay_s delay_ac) (message_at time offset phase error (kind_of mode_ac)) ∷ (config_rate four (message_at time offset phase error (kind_of mode_ac)) ∷ (config_phase four (delays_at delay_s delay_ac) (message_at time offset phase error (kind_of mode_ac)) ∷ [])))) }
 {
-    let c = message_at(time, offset, phase, error, kind_of(mode_ac));
+    let c = MessageConfig {
+        time,
+        cn0: time,
+        offset,
+        phase,
+        error,
+        reply: Reply {
+            kind: kind_of(mode_ac),
+            bytes: [0; 14],
+        },
+    };
     let delays = Delays {
         mode_s: delay_s,
         mode_ac: delay_ac,
@@ -69,38 +62,8 @@ pub extern "C" fn port_message(
     c.first_sample_index(delays)
 }
 
-#[tactic(auto, unfolding(crate::specs::Drawn::offset_drawn, crate::specs::Drawn::no_number))]
-fn offset_drawn(answer: Result<CarrierOffset, Refusal>, draw: f64) -> f64
-    ensures { result ≡ offset_drawn answer draw }
-{
-    match answer {
-        Ok(d) => draw_parameters::offset_of(d, draw),
-        Err(_) => 0.0 / 0.0,
-    }
-}
-
-#[tactic(auto, unfolding(crate::specs::Drawn::phase_drawn, crate::specs::Drawn::no_number))]
-fn phase_drawn(answer: Result<CarrierPhase, Refusal>, draw: f64) -> f64
-    ensures { result ≡ phase_drawn answer draw }
-{
-    match answer {
-        Ok(d) => draw_parameters::phase_of(d, draw),
-        Err(_) => 0.0 / 0.0,
-    }
-}
-
-#[tactic(auto, unfolding(crate::specs::Drawn::error_drawn, crate::specs::Drawn::no_number))]
-fn error_drawn(answer: Result<ClockError, Refusal>, draw: f64) -> f64
-    ensures { result ≡ error_drawn answer draw }
-{
-    match answer {
-        Ok(d) => draw_parameters::error_of(d, draw),
-        Err(_) => 0.0 / 0.0,
-    }
-}
-
-// What three draws become by a distribution of each kind, a NaN where it is refused.
-#[tactic(auto, unfolding(crate::specs::Drawn::raw_distribution_of))]
+// The parameters are the C interface's. What three draws become by a distribution of each kind, a NaN where it is refused.
+#[tactic(auto, unfolding(crate::specs::Drawn::raw_distribution_of, crate::specs::Drawn::drawn, crate::specs::Drawn::no_number))]
 #[unsafe(no_mangle)]
 pub extern "C" fn port_drawn(
     kind: u8,
@@ -111,16 +74,25 @@ pub extern "C" fn port_drawn(
     clock: f64,
     out: &mut [f64; 3],
 )
-    ensures { out.new ≡ offset_drawn (carrier_offset four (raw_distribution_of kind first second)) carrier ∷ (phase_drawn (carrier_phase (raw_distribution_of kind first second)) phase ∷ (error_drawn (clock_error (raw_distribution_of kind first second)) clock ∷ [])) }
+    ensures { out.new ≡ drawn offset_of (carrier_offset four (raw_distribution_of kind first second)) carrier ∷ (drawn phase_of (carrier_phase (raw_distribution_of kind first second)) phase ∷ (drawn error_of (clock_error (raw_distribution_of kind first second)) clock ∷ [])) }
 {
     let asked = RawDistribution {
         kind,
         first,
         second,
     };
-    *out = [
-        offset_drawn(distributions::carrier_offset(asked), carrier),
-        phase_drawn(distributions::carrier_phase(asked), phase),
-        error_drawn(distributions::clock_error(asked), clock),
-    ];
+    let none = 0.0 / 0.0;
+    let offset = distributions::carrier_offset(asked).map_or(
+        none,
+        |d| draw_parameters::offset_of(d, carrier),
+    );
+    let turn = distributions::carrier_phase(asked).map_or(
+        none,
+        |d| draw_parameters::phase_of(d, phase),
+    );
+    let error = distributions::clock_error(asked).map_or(
+        none,
+        |d| draw_parameters::error_of(d, clock),
+    );
+    *out = [offset, turn, error];
 }

@@ -25,7 +25,7 @@ pub extern "C" fn port_pulse_sum(
 ) -> f32
     ensures { result ≡ padded_sum taps.now (pad_pulses (take len on.now)) index }
 {
-    let padded = filterbank_apply::pad_pulses(*on, len);
+    let padded = filterbank_apply::pad_pulses(&on[..len.min(MAX_POSITIONS)]);
     filterbank_apply::pulse_sum(*taps, &padded, index)
 }
 

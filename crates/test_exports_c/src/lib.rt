@@ -1,4 +1,4 @@
-// The functions of `test_exports` for C: each calls the one of its name, and promises what that promises.
+// The functions of `test_exports` for C: each calls the one of its name, with the parameters of the C interface, and promises what that promises.
 #![tactic(auto)]
 
 mod floats;

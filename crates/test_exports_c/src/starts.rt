@@ -2,8 +2,9 @@
 ghost use Rattle.std.specs.Prelude.{◌≡◌, [], ◌∷◌};
 ghost use Rattle.constants.specs.Rate.{four};
 ghost use Rattle.distributions.specs.Accepted.{carrier_offset, carrier_phase, clock_error};
+ghost use Rattle.distributions.specs.Drawn.{offset_of, phase_of, error_of};
 ghost use Rattle.message_config.specs.Config.{config_start, config_clock_phase, config_clock_error, config_rate, config_phase};
-ghost use Rattle.test_exports.specs.Drawn.{raw_distribution_of, offset_drawn, phase_drawn, error_drawn};
+ghost use Rattle.test_exports.specs.Drawn.{raw_distribution_of, drawn};
 ghost use Rattle.test_exports.specs.Messages.{kind_of, message_at, delays_at};
 
 // The first sample of a message; in `out` the clock error and the clock phase of its filter, and its carrier's rate and first phase.
@@ -34,7 +35,7 @@ pub extern "C" fn port_drawn(
     clock: f64,
     out: &mut [f64; 3],
 )
-    ensures { out.new ≡ offset_drawn (carrier_offset four (raw_distribution_of kind first second)) carrier ∷ (phase_drawn (carrier_phase (raw_distribution_of kind first second)) phase ∷ (error_drawn (clock_error (raw_distribution_of kind first second)) clock ∷ [])) }
+    ensures { out.new ≡ drawn offset_of (carrier_offset four (raw_distribution_of kind first second)) carrier ∷ (drawn phase_of (carrier_phase (raw_distribution_of kind first second)) phase ∷ (drawn error_of (clock_error (raw_distribution_of kind first second)) clock ∷ [])) }
 {
     test_exports::starts::port_drawn(kind, first, second, carrier, phase, clock, out);
 }

@@ -1,4 +1,4 @@
-// Reads and writes of le_bytes and le_floats, held to Rust's from_le_bytes and to_le_bytes.
+// Reads and writes of le_read, le_read_or_zero, le_read_floats and le_write, held to Rust's from_le_bytes and to_le_bytes.
 // `harness vectors` (differential/) makes the bytes of `stdin` and, by Rust's own functions, the lines of `stdout`.
 #![tactic(auto)]
 
@@ -27,7 +27,7 @@ fn digits(n: u64, width: usize) {
 fn pattern<T: LeWrite>(x: T) -> u64 {
     let mut b = [0u8; 8];
     le_write::put(&mut b, 0, x);
-    le_read_or_zero::u64_at(&b, 0)
+    le_read_or_zero::number::<u64>(&b, 0)
 }
 
 fn show_number(r: Option<u64>, width: usize) {
@@ -49,16 +49,16 @@ fn show_float(r: Result<u64, FloatFault>, width: usize) {
 fn reads(s: &[u8], at: usize) {
     text(b"read");
     digits(at as u64, 16);
-    show_number(le_read::le_u16(s, at).map(u64::from), 4);
-    show_number(le_read::le_u32(s, at).map(u64::from), 8);
-    show_number(le_read::le_u64(s, at), 16);
-    show_float(le_read_floats::le_f32(s, at).map(pattern::<f32>), 8);
-    show_float(le_read_floats::le_f64(s, at).map(pattern::<f64>), 16);
-    digits(u64::from(le_read_or_zero::u16_at(s, at)), 4);
-    digits(u64::from(le_read_or_zero::u32_at(s, at)), 8);
-    digits(le_read_or_zero::u64_at(s, at), 16);
-    digits(pattern(le_read_floats::f32_at(s, at)), 8);
-    digits(pattern(le_read_floats::f64_at(s, at)), 16);
+    show_number(le_read::le::<u16>(s, at).map(u64::from), 4);
+    show_number(le_read::le::<u32>(s, at).map(u64::from), 8);
+    show_number(le_read::le::<u64>(s, at), 16);
+    show_float(le_read_floats::float::<f32>(s, at).map(pattern::<f32>), 8);
+    show_float(le_read_floats::float::<f64>(s, at).map(pattern::<f64>), 16);
+    digits(u64::from(le_read_or_zero::number::<u16>(s, at)), 4);
+    digits(u64::from(le_read_or_zero::number::<u32>(s, at)), 8);
+    digits(le_read_or_zero::number::<u64>(s, at), 16);
+    digits(pattern(le_read_or_zero::number::<f32>(s, at)), 8);
+    digits(pattern(le_read_or_zero::number::<f64>(s, at)), 16);
     text(b"\n");
 }
 
@@ -68,8 +68,8 @@ fn wrote<F: FnOnce(&mut [u8]) -> bool>(put: F)
 {
     let mut d = [0xa5u8; 12];
     text(if put(&mut d) { b" fits" } else { b" past" });
-    digits(le_read_or_zero::u64_at(&d, 0), 16);
-    digits(u64::from(le_read_or_zero::u32_at(&d, 8)), 8);
+    digits(le_read_or_zero::number::<u64>(&d, 0), 16);
+    digits(u64::from(le_read_or_zero::number::<u32>(&d, 8)), 8);
 }
 
 // A line of the five writes at an offset, of the values read at another.
@@ -77,11 +77,11 @@ fn writes(s: &[u8], from: usize, at: usize) {
     text(b"write");
     digits(from as u64, 16);
     digits(at as u64, 16);
-    wrote(|d| le_write::put_u16(d, at, le_read_or_zero::u16_at(s, from)));
-    wrote(|d| le_write::put_u32(d, at, le_read_or_zero::u32_at(s, from)));
-    wrote(|d| le_write::put_u64(d, at, le_read_or_zero::u64_at(s, from)));
-    wrote(|d| le_write::put_f32(d, at, le_read_floats::f32_at(s, from)));
-    wrote(|d| le_write::put_f64(d, at, le_read_floats::f64_at(s, from)));
+    wrote(|d| le_write::put::<u16>(d, at, le_read_or_zero::number::<u16>(s, from)));
+    wrote(|d| le_write::put::<u32>(d, at, le_read_or_zero::number::<u32>(s, from)));
+    wrote(|d| le_write::put::<u64>(d, at, le_read_or_zero::number::<u64>(s, from)));
+    wrote(|d| le_write::put::<f32>(d, at, le_read_or_zero::number::<f32>(s, from)));
+    wrote(|d| le_write::put::<f64>(d, at, le_read_or_zero::number::<f64>(s, from)));
     text(b"\n");
 }
 

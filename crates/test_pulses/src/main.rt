@@ -105,14 +105,10 @@ fn second_map(data: u16, spi: bool) -> [bool; 240] {
 }
 
 // How many of the 4,096 maps equal the second one.
-fn equal_maps(spi: bool) -> u64 {
-    let mut n: u64 = 0;
-    for data in 0..4096 {
-        if pulse_map::mode_ac_pulses(data, spi).on == second_map(data, spi) {
-            n += 1;
-        }
-    }
-    n
+fn equal_maps(spi: bool) -> usize {
+    (0..4096)
+        .filter(|data| pulse_map::mode_ac_pulses(*data, spi).on == second_map(*data, spi))
+        .count()
 }
 
 fn digest_mode_ac(spi: bool) -> u64 {
@@ -145,20 +141,21 @@ fn digest_mode_s(long: bool) -> u64 {
 }
 
 fn durations() {
-    say_samples(settings_duration::duration_as_samples(SamplesPerPulse::Four, 0, 124));
-    say_samples(settings_duration::duration_as_samples(SamplesPerPulse::Four, 0, 125));
-    say_samples(settings_duration::duration_as_samples(
-        SamplesPerPulse::Four,
-        562_949_953,
-        421_312_124,
-    ));
-    say_samples(settings_duration::duration_as_samples(
-        SamplesPerPulse::Four,
-        562_949_953,
-        421_312_125,
-    ));
-    say_samples(settings_duration::duration_as_samples(SamplesPerPulse::Four, 12_345, 999_999_999));
-    say_samples(settings_duration::duration_as_samples(SamplesPerPulse::Four, 0, 1_000_000_000));
+    let list = [
+        (0, 124),
+        (0, 125),
+        (562_949_953, 421_312_124),
+        (562_949_953, 421_312_125),
+        (12_345, 999_999_999),
+        (0, 1_000_000_000),
+    ];
+    for (seconds, nanoseconds) in list {
+        say_samples(settings_duration::duration_as_samples(
+            SamplesPerPulse::Four,
+            seconds,
+            nanoseconds,
+        ));
+    }
 }
 
 fn lengths() {
@@ -178,7 +175,7 @@ fn replies() {
 }
 
 fn mode_ac_maps(spi: bool) {
-    io::print_decimal(STDOUT_FILENO, equal_maps(spi));
+    io::print_decimal(STDOUT_FILENO, equal_maps(spi) as u64);
     io::write_all(STDOUT_FILENO, b" ");
     say(digest_mode_ac(spi));
 }

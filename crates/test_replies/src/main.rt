@@ -3,6 +3,7 @@
 
 use message::{Picks, Reply, ReplyKind};
 use message_classify::Class;
+use test_exports::replies::kind_numbered;
 
 // The numbers that the system gives standard input and standard output.
 const STDIN_FILENO: i32 = 0;
@@ -138,17 +139,9 @@ fn make_line(r: [u8; 22]) {
     }
 }
 
-fn kind_of(n: u8) -> ReplyKind {
-    match n {
-        0 => ReplyKind::Short,
-        1 => ReplyKind::Long,
-        _ => ReplyKind::ModeAc,
-    }
-}
-
 fn class_line(r: [u8; 22]) {
     let reply = Reply {
-        kind: kind_of(r[15]),
+        kind: kind_numbered(r[15]),
         bytes: message_of(r),
     };
     io::write_all(STDOUT_FILENO, b"class ");

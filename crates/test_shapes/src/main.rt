@@ -1,34 +1,33 @@
 // Prints digests of prototypes, delays, taps and pulse sums of made-up filters. The file `stdout` holds those of the Rust: `harness vectors` (differential/) makes it.
 #![tactic(auto)]
 
-ghost use Rattle.std.specs.Prelude.{◌<◌, ◌≤◌};
+ghost use Rattle.std.specs.Prelude.{◌≤◌};
 
-use constants::SamplesPerPulse;
+use constants::{Mode, SamplesPerPulse};
 use filterbank::Clock;
+use filterbank_apply::PADDED_LEN;
 
 // The number that the system gives standard output.
 const STDOUT_FILENO: i32 = 1;
 
 const RANGE: u64 = 0x8000_0000;
 
+const DIGESTS: u64 = 0x100_0000_0000_0000;
+
+// No reply has more values.
+const MOST_VALUES: u64 = 1200;
+
 // The next number of a sequence below 2^31.
-fn next(x: u64) -> u64
-    requires { x < 0x8000_0000 }
-    ensures { result < 0x8000_0000 }
-{
-    (x * 1103515245 + 12345) % RANGE
+fn next(x: u32) -> u32 {
+    ((u64::from(x) * 1103515245 + 12345) % RANGE) as u32
 }
 
 // A tap near 0.004.
-fn tap(x: u64) -> f32
-    requires { x < 0x8000_0000 }
-{
-    (std::num::nearest_u32_to_f32((x / 128) as u32) / 8388608.0 - 1.0) * 0.002 + 0.004
+fn tap(x: u32) -> f32 {
+    (std::num::nearest_u32_to_f32(x / 128) / 8388608.0 - 1.0) * 0.002 + 0.004
 }
 
-fn lowpass(seed: u64) -> [f32; 1515]
-    requires { seed < 0x8000_0000 }
-{
+fn lowpass(seed: u32) -> [f32; 1515] {
     let mut out = [0.0f32; 1515];
     let mut x = seed;
     for value in out.iter_mut() {
@@ -38,9 +37,7 @@ fn lowpass(seed: u64) -> [f32; 1515]
     out
 }
 
-fn pulses(seed: u64) -> [bool; 240]
-    requires { seed < 0x8000_0000 }
-{
+fn pulses(seed: u32) -> [bool; 240] {
     let mut out = [false; 240];
     let mut x = seed;
     for on in out.iter_mut() {
@@ -50,25 +47,16 @@ fn pulses(seed: u64) -> [bool; 240]
     out
 }
 
-// A digest with 32 bits more.
-fn fold(digest: u64, bits: u32) -> u64
-    requires { digest < 0x100_0000_0000_0000 }
-    ensures { result < 0x100_0000_0000_0000 }
-{
-    (digest * 31 + u64::from(bits)) % 0x100_0000_0000_0000
+// A digest, a number below 2^56, with 32 bits more.
+fn fold(digest: u64, bits: u32) -> u64 {
+    (digest % DIGESTS * 31 + u64::from(bits)) % DIGESTS
 }
 
-fn fold_f32(digest: u64, x: f32) -> u64
-    requires { digest < 0x100_0000_0000_0000 }
-    ensures { result < 0x100_0000_0000_0000 }
-{
+fn fold_f32(digest: u64, x: f32) -> u64 {
     fold(digest, float_encoding::bits_of_f32(x))
 }
 
-fn values_digest(values: &[f32], start: u64) -> u64
-    requires { start < 0x100_0000_0000_0000 }
-    ensures { result < 0x100_0000_0000_0000 }
-{
+fn values_digest(values: &[f32], start: u64) -> u64 {
     let mut digest = start;
     for x in values {
         digest = fold_f32(digest, *x);
@@ -86,22 +74,34 @@ fn taps_digest(prototype: &[f32]) -> u64 {
     digest
 }
 
-// The values of a reply, at most 1,200.
-fn reply(prototype: &[f32], padded: &[bool; 252], limit: usize, first: f64, e: f64) {
-    let step = filterbank_clock::clock_step(SamplesPerPulse::Four, e);
-    let mut clock = filterbank_clock::start_clock(SamplesPerPulse::Four, first);
+// The values of a reply from a clock on, at most 1,200: their digest, and how many they are.
+fn reply_digest(
+    prototype: &[f32],
+    padded: &[bool; PADDED_LEN],
+    limit: usize,
+    first: Clock,
+    step: f64,
+) -> (u64, u64) {
+    let mut clock = first;
     let mut digest: u64 = 0;
-    let mut n: u64 = 0;
-    // A `while`, since the count is printed and no index.
-    while n < 1200 && clock.index < limit {
+    for n in 0..MOST_VALUES {
+        if clock.index >= limit {
+            return (digest, n);
+        }
         let taps = filterbank::filter_taps(SamplesPerPulse::Four, prototype, clock.phase);
         digest = fold_f32(
             digest,
             filterbank_apply::pulse_sum(taps, padded, clock.index),
         );
         clock = filterbank_clock::advance(clock, step);
-        n += 1;
     }
+    (digest, MOST_VALUES)
+}
+
+fn reply(prototype: &[f32], padded: &[bool; PADDED_LEN], limit: usize, first: f64, e: f64) {
+    let step = filterbank_clock::clock_step(SamplesPerPulse::Four, e);
+    let clock = filterbank_clock::start_clock(SamplesPerPulse::Four, first);
+    let (digest, n) = reply_digest(prototype, padded, limit, clock, step);
     io::write_all(STDOUT_FILENO, b"reply ");
     io::print_decimal(STDOUT_FILENO, n);
     line(digest);
@@ -115,16 +115,16 @@ fn line(n: u64) {
 
 fn delay(level: f32, prototype: &[f32]) {
     io::write_all(STDOUT_FILENO, b"delay");
-    match pulse_group_delay::group_delay(level, prototype) {
+    match pulse_group_delay::group_delay(Mode::S, level, prototype) {
         Some(x) => line(float_encoding::bits_of(x)),
         None => line(0),
     }
 }
 
-fn replies(prototype: &[f32], seed: u64, len: usize)
-    requires { (seed < 0x8000_0000) × (len ≤ 240) }
+fn replies(prototype: &[f32], seed: u32, len: usize)
+    requires { len ≤ 240 }
 {
-    let padded = filterbank_apply::pad_pulses(pulses(seed), len);
+    let padded = filterbank_apply::pad_pulses(&pulses(seed)[..len]);
     reply(prototype, &padded, len + 6, 0.0, 0.0);
     reply(prototype, &padded, len + 6, 1.1, -0.1);
     reply(prototype, &padded, len + 6, 0.37, 0.1);
@@ -149,8 +149,8 @@ fn both(prototype: &[f32]) {
 
 fn main() {
     let taps = lowpass(3);
-    let mode_s = pulse_shape::mode_s_prototype(&taps[..1486]);
+    let mode_s = pulse_shape::prototype(Mode::S, &taps[..1486]);
     both(&mode_s);
-    let mode_ac = pulse_shape::mode_ac_prototype(&taps);
+    let mode_ac = pulse_shape::prototype(Mode::Ac, &taps);
     both(&mode_ac);
 }

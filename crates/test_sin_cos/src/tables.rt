@@ -307,8 +307,6 @@ pub const WRAPS: [u64; 303] = [
     0xe973_274a_a679_6349,
 ];
 
-pub const WRAPS_ROWS: usize = 101;
-
 // Rows of five: a phase from -PI to PI, its sine and cosine by the steps of SPECIFICATION 6.11, and by `sin_cos`.
 pub const PHASES: [u64; 1070] = [
     0x0000_0000_0000_0000,
@@ -1383,8 +1381,6 @@ pub const PHASES: [u64; 1070] = [
     0x3ff0_0000_0000_0000,
 ];
 
-pub const PHASES_ROWS: usize = 214;
-
 // Rows of three: any other f64, its sine and cosine by the steps of SPECIFICATION 6.11.
 pub const OTHERS: [u64; 45] = [
     0x7ff8_0000_0000_0000,
@@ -1433,5 +1429,3 @@ pub const OTHERS: [u64; 45] = [
     0x7ff0_0000_0000_0000,
     0x7ff0_0000_0000_0000,
 ];
-
-pub const OTHERS_ROWS: usize = 15;

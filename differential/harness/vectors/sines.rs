@@ -122,5 +122,5 @@ fn table(name: &str, about: &str, rows: &[Vec<f64>]) -> String {
         let h = format!("{:016x}", pattern64(*x));
         text += &format!("    0x{}_{}_{}_{},\n", &h[0..4], &h[4..8], &h[8..12], &h[12..16]);
     }
-    text + &format!("];\n\npub const {name}_ROWS: usize = {};\n", rows.len())
+    text + "];\n"
 }

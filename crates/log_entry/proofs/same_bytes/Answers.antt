@@ -1,11 +1,8 @@
 -- `log_entry::same_bytes` meets its contract.
 use mathlib.Core.Path.{sym, ◌∙◌}
 use native.Mathlib.Omega.{arith}
-use Rattle.log_entry.proofs.Bytes.{same_start, same_on, same_off, same_end}
+use Rattle.log_entry.proofs.Bytes.{same_on, same_off, same_end}
 use Rattle.log_entry.proofs.same_bytes.Goals as goal
-
-pub loop-k-init : goal.loop-k-init
-loop-k-init c = let a = c.args in same_start a.s.now a.t.now a.a a.b a.n
 
 pub returns-then-byte_at : goal.returns-then-byte_at
 returns-then-byte_at c =

@@ -2,7 +2,8 @@
 use mathlib.Core.Path.{◌≡◌}
 use Prim.Native.Nat.{◌-◌, ◌/◌, ◌≤◌}
 use lib.ListN.{length}
-use Rattle.log_entry.specs.Entries.{logs, first_of}
+use Rattle.log_entry.specs.Entries.{first_of}
+use Rattle.log_entry.specs.Held.{logs_of}
 use Rattle.log_theory.specs.PairsModel.{free_in, pair_up, Past}
 use Rattle.log_pairs.proofs.pair_each.Given as goal
 
@@ -13,6 +14,6 @@ invariant-loop-i l =
       owners_kept : length l.owners ≡ length l.initial.owners;
       few : l.pairs ≤ l.i;
       marked : l.lo ≤ length l.owners;
-      past : Past (first_of l.records) l.d (free_in l.owners) l.previous l.lo;
-      same : pair_up (logs l.log l.records l.d) (length l.log / 23 - l.i) l.i (record { partners = l.partners; owners = l.owners; pairs = l.pairs }) ≡ pair_up (logs l.log l.records l.d) (length l.log / 23) 0 (record { partners = l.initial.partners; owners = l.initial.owners; pairs = 0 });
+      past : Past (first_of l.heard.records.now) l.heard.tolerance (free_in l.owners) l.previous l.lo;
+      same : pair_up (logs_of l.heard) (length l.heard.log.now / 23 - l.i) l.i (record { partners = l.partners; owners = l.owners; pairs = l.pairs }) ≡ pair_up (logs_of l.heard) (length l.heard.log.now / 23) 0 (record { partners = l.initial.partners; owners = l.initial.owners; pairs = 0 });
     }

@@ -2,7 +2,7 @@
 use mathlib.Core.Path.{◌∙◌}
 use Prim.Native.Nat.{◌/◌}
 use lib.ListN.{length}
-use Rattle.log_entry.specs.Entries.{logs}
+use Rattle.log_entry.specs.Held.{logs_of}
 use Rattle.log_theory.proofs.Turns.{from_filled}
 use Rattle.log_theory.proofs.Link.{reported}
 use native.Mathlib.Omega.{arith}
@@ -15,5 +15,5 @@ returns c =
     let f = c.fill in
     let g = c.fill-2 in
     c.pair_each.ensures
-    ∙ from_filled (logs a.log.now a.records.now a.d) (length a.log.now / 23) (length a.log.now / 23) (length a.records.now / 66) f.new.self g.new.self a.partners.now a.owners.now (f.ensures.after (λ y e. e)) (g.ensures.after (λ y e. e)) pre.0 pre.1
-    ∙ reported (logs a.log.now a.records.now a.d) (omega arith)
+    ∙ from_filled (logs_of a.heard) (length a.heard.log.now / 23) (length a.heard.log.now / 23) (length a.heard.records.now / 66) f.new.self g.new.self a.partners.now a.owners.now (f.ensures.after (λ y e. e)) (g.ensures.after (λ y e. e)) pre.0 pre.1
+    ∙ reported (logs_of a.heard) (omega arith)

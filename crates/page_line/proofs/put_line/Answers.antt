@@ -1,28 +1,15 @@
 -- `page_line::put_line` meets its contract.
-use mathlib.Core.Path.{refl, ◌∙◌}
+use mathlib.Core.Path.{refl}
 use Rattle.record_check.proofs.Accepting.{in_range}
-use Rattle.page_line.proofs.Fields.{fields_below, message_short, ends, line_put}
+use Rattle.page_line.proofs.Fields.{message_short, ends, line_put}
 use native.Mathlib.Omega.{arith}
 use Rattle.page_line.proofs.put_line.Goals as goal
-
-pub put_numbers-requires : goal.put_numbers-requires
-put_numbers-requires c =
-    let r = c.args.rec.now in
-    let i = in_range r c.requires.0 in
-    let u = c.u64_at-first.ensures in
-    let b = c.from.ensures ∙ c.byte_at-kind.ensures in
-    let v = c.from-2.ensures ∙ c.u16_at-count.ensures in
-    let q = fields_below r i u b v in
-    (q.0, q.1, q.2, omega (arith, c.requires.1))
 
 pub overflow_sub-at : goal.overflow_sub-at
 overflow_sub-at c =
     let r = c.args.rec.now in
     let i = in_range r c.requires.0 in
-    let u = c.u64_at-first.ensures in
-    let b = c.from.ensures ∙ c.byte_at-kind.ensures in
-    let v = c.from-2.ensures ∙ c.u16_at-count.ensures in
-    let e = ends r i c.args.out.now c.args.at c.requires.1 u b v c.put_numbers.ensures c.message_at-end.ensures.0 in
+    let e = ends r i c.args.out.now c.args.at c.requires.1 c.put_numbers.ensures c.message_at-end.ensures.0 in
     let m = message_short r in
     omega arith
 
@@ -30,10 +17,7 @@ pub overflow_sub-end : goal.overflow_sub-end
 overflow_sub-end c =
     let r = c.args.rec.now in
     let i = in_range r c.requires.0 in
-    let u = c.u64_at-first.ensures in
-    let b = c.from.ensures ∙ c.byte_at-kind.ensures in
-    let v = c.from-2.ensures ∙ c.u16_at-count.ensures in
-    let e = ends r i c.args.out.now c.args.at c.requires.1 u b v c.put_numbers.ensures c.message_at-end.ensures.0 in
+    let e = ends r i c.args.out.now c.args.at c.requires.1 c.put_numbers.ensures c.message_at-end.ensures.0 in
     let m = message_short r in
     omega arith
 
@@ -41,10 +25,7 @@ pub put_blanks-requires : goal.put_blanks-requires
 put_blanks-requires c =
     let r = c.args.rec.now in
     let i = in_range r c.requires.0 in
-    let u = c.u64_at-first.ensures in
-    let b = c.from.ensures ∙ c.byte_at-kind.ensures in
-    let v = c.from-2.ensures ∙ c.u16_at-count.ensures in
-    let e = ends r i c.args.out.now c.args.at c.requires.1 u b v c.put_numbers.ensures c.message_at-end.ensures.0 in
+    let e = ends r i c.args.out.now c.args.at c.requires.1 c.put_numbers.ensures c.message_at-end.ensures.0 in
     let m = message_short r in
     omega (arith, c.requires.1)
 
@@ -52,7 +33,4 @@ pub returns : goal.returns
 returns c =
     let r = c.args.rec.now in
     let i = in_range r c.requires.0 in
-    let u = c.u64_at-first.ensures in
-    let b = c.from.ensures ∙ c.byte_at-kind.ensures in
-    let v = c.from-2.ensures ∙ c.u16_at-count.ensures in
-    line_put r i c.args.out.now c.args.at c.requires.1 u b v c.put_numbers.ensures c.message_at-end.ensures.0 c.message_at-end.ensures.1 c.put_blanks.ensures refl refl
+    line_put r i c.args.out.now c.args.at c.requires.1 c.put_numbers.ensures c.message_at-end.ensures.0 c.message_at-end.ensures.1 c.put_blanks.ensures refl refl

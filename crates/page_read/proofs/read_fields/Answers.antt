@@ -1,7 +1,5 @@
 -- `page_read::read_fields` meets its contract.
-use Prim.Native.Nat.{ℕ, ◌^◌}
-use mathlib.Core.Path.{◌≡◌, ◌∙◌, ap}
-use lib.ListN.{length, take, drop, length-take, length-drop}
+use mathlib.Core.Path.{◌∙◌, ap}
 use Rattle.page_read.specs.Fields.{shown_message}
 use Rattle.page_read.proofs.Values.{fields, type_at_most_14}
 use borrow.Author.Rules.{rules}
@@ -10,11 +8,6 @@ use Rattle.page_read.proofs.read_fields.Goals as goal
 
 pub read_message-message-requires : goal.read_message-message-requires
 read_message-message-requires c = (search rules, omega (arith, c.from.ensures, c.type_length-size.ensures, type_at_most_14 c.digit-kind.result))
-
-pub overflow_cast-result : goal.overflow_cast-result
-overflow_cast-result c =
-    let e : length (take 4 (drop 19 c.args.line.now)) ≡ 4 = simp (length-take, length-drop) (omega arith) in
-    omega (arith, c.read_number-count.ensures.1, ap (λ (n : ℕ). 10 ^ n) e)
 
 pub returns : goal.returns
 returns c =

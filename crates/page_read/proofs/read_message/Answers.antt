@@ -1,7 +1,5 @@
 -- `page_read::read_message` meets its contract: after k steps k bytes are read.
-use mathlib.Core.Path.{◌≡◌, ap, ◌∙◌}
 use lib.ListN.{length-set}
-use Rattle.page_read.specs.Fields.{shown_message}
 use Rattle.page_read.proofs.Values.{no_byte, next_shown}
 use borrow.Author.Rules.{rules}
 use native.Mathlib.Omega.{arith}
@@ -15,10 +13,3 @@ loop-k-preserved c =
     let l = c.loop-k in
     let a = c.args in
     (simp length-set (search rules), next_shown a.kind a.line.now l.k l.message (omega arith) l.invariant.1 c.shown_byte.ensures c.place_of.ensures.0)
-
-pub returns : goal.returns
-returns c =
-    let l = c.loop-k in
-    let a = c.args in
-    let e : l.k ≡ a.n = omega arith in
-    l.invariant.1 ∙ ap (shown_message a.kind a.line.now) e

@@ -1,8 +1,5 @@
 -- `page_read::read_number` meets its contract: after k columns v is their number, below 10^k.
-use Prim.Native.Nat.{ℕ, ◌^◌}
-use mathlib.Core.Path.{◌≡◌, refl, ap, ◌∙◌}
-use lib.ListN.{length}
-use lib.Seq.{take_all}
+use mathlib.Core.Path.{refl, ◌∙◌}
 use Rattle.page_read.specs.Fields.{read_from, read_number}
 use Rattle.page_read.proofs.Values.{next_column, below_2_64}
 use native.Mathlib.Omega.{arith}
@@ -22,10 +19,3 @@ pub loop-c-preserved : goal.loop-c-preserved
 loop-c-preserved c =
     let l = c.loop-c in
     next_column c.args.columns.now l.c-index l.v c.from.result (omega arith) l.invariant.0 l.invariant.1 (c.from.ensures ∙ c.digit.ensures.0) (omega (arith, c.from.ensures, c.digit.ensures.1))
-
-pub returns : goal.returns
-returns c =
-    let l = c.loop-c in
-    let a = c.args in
-    let e : l.c-index ≡ length a.columns.now = omega arith in
-    (l.invariant.0 ∙ ap read_number (take_all l.c-index a.columns.now (omega arith)), omega (arith, l.invariant.1, ap (λ (n : ℕ). 10 ^ n) e))

@@ -1,8 +1,8 @@
 -- `each_fits` meets its contract: what is left decides.
 use mathlib.Core.Path.{◌≡◌}
-use lib.ListN.{drop}
+use lib.ListN.{length, drop}
 use Rattle.rack.specs.Opening.{each_fits}
 use Rattle.rack.proofs.each_fits.Given as goal
 
-abbrev pub invariant-loop-i : goal.invariant-loop-i
-invariant-loop-i l = each_fits (drop l.i l.delays) (drop l.i l.gains) ≡ each_fits l.delays l.gains
+abbrev pub invariant-loop-delay : goal.invariant-loop-delay
+invariant-loop-delay l = each_fits (drop (length l.yielded) l.delays) (drop (length l.yielded) l.gains) ≡ each_fits l.delays l.gains

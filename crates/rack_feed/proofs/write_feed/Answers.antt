@@ -2,6 +2,7 @@
 use mathlib.Core.Path.{refl, ap, ◌∙◌}
 use Prim.Native.Nat.{min}
 use lib.Ieee.{of_bits}
+use borrow.Author.Rules.{rules}
 use lib.ListN.{length}
 use Rattle.rack.specs.Feeds.{silent}
 use Rattle.rack_feed.proofs.ThreeParts.{feed_written}
@@ -11,5 +12,5 @@ pub returns : goal.returns
 unfolding silent of_bits
 returns c =
     let a = c.args in
-    feed_written a.gain a.delay a.seen a.memory.now a.samples.now a.to.now c.fill.new.self c.scale.new.to c.scale-2.new.to c.numbers-back.result c.numbers.result c.min-unseen.result c.min-held.result c.requires.0 c.requires.1 c.numbers-back.ensures c.numbers.ensures
-    (c.min-unseen.ensures ∙ ap (min (length a.samples.now)) c.saturating_sub.ensures) c.min-held.ensures (c.fill.ensures.after (λ y h. h)) c.scale.ensures c.scale-2.ensures _ refl
+    feed_written a.feed.gain a.feed.delay a.past.seen a.past.memory.now a.past.samples.now a.room.now c.fill.new.self c.scale.new.to c.scale-2.new.to c.numbers-back.result c.numbers.result c.min-unseen.result c.min-held.result (search rules) c.requires.1 c.numbers-back.ensures c.numbers.ensures
+    (c.min-unseen.ensures ∙ ap (min (length a.past.samples.now)) c.saturating_sub.ensures) c.min-held.ensures (c.fill.ensures.after (λ y h. h)) c.scale.ensures c.scale-2.ensures _ refl

@@ -1,9 +1,14 @@
 -- `add_reply` meets its contract.
-use Rattle.constants.specs.Setting.{per_pulse}
-use Rattle.reply_add.proofs.Adding.{by_kind}
+use Rattle.reply_add.proofs.Adding.{pulses_most, by_reply}
 use Rattle.reply_add.proofs.add_reply.Goals as goal
+
+pub shared_ref_as_front-pad_pulses : goal.shared_ref_as_front-pad_pulses
+shared_ref_as_front-pad_pulses c = pulses_most c.args.r.config.reply _ c.message_to_pulses-p.ensures
+
+pub wave-requires : goal.wave-requires
+wave-requires c = pulses_most c.args.r.config.reply _ c.message_to_pulses-p.ensures
 
 pub returns : goal.returns
 returns c =
     let a = c.args in
-    by_kind (per_pulse a.setting) a.mode_s.now a.mode_ac.now _ a.memory.now _ a.slot _ a.delays a.amplitude a.c c.prototype_of-prototype.ensures c.add_by.ensures
+    by_reply a.r _ _ _ _ a.memory.now _ a.slot _ c.message_to_pulses-p.ensures c.pad_pulses-padded.ensures c.prototype.ensures c.wave.ensures.0 c.add_wave.ensures

@@ -4,4 +4,4 @@ use Rattle.reply_record.proofs.put_floats.Goals as goal
 
 pub returns : goal.returns
 returns c =
-    floats_overwritten c.args.d.now c.args.at c.args.c c.requires c.put_f64.ensures.1 c.put_f64-2.ensures.1 c.put_f64-3.ensures.1 c.put_f64-4.ensures.1 c.put_f64-5.ensures.1
+    floats_overwritten c.args.d.now c.args.at c.args.c c.requires c.put.ensures.1 c.put-2.ensures.1 c.put-3.ensures.1 c.put-4.ensures.1 c.put-5.ensures.1

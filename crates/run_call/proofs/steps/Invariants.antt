@@ -5,7 +5,7 @@ use Rattle.run_call.proofs.steps.Given as goal
 
 abbrev pub invariant-loop-t : goal.invariant-loop-t
 invariant-loop-t l =
-    Going l.s l.mode_s l.mode_ac l.initial.memory l.draws l.noise l.initial.output l.initial.records l.memory l.output l.records l.t l.rest
+    Going l.s l.prototypes.mode_s.now l.prototypes.mode_ac.now l.initial.memory l.draws l.noise l.initial.output l.initial.records l.memory l.output l.records l.t l.rest
 
 abbrev pub decreases-loop-t : goal.decreases-loop-t
 decreases-loop-t l =

@@ -1,10 +1,10 @@
--- `write_all` meets its contract: each step writes one stretch more (`Writing`).
-use Prim.Native.Nat.{◌-◌}
+-- `write_all`: each step writes one stretch more (`Writing`).
+use Rattle.std.proofs.Common.{length, ◌-◌}
 use Rattle.run_due_samples.proofs.Stretches.{Writing}
 use Rattle.run_due_samples.proofs.write_all.Given as goal
 
 abbrev pub invariant-loop-done : goal.invariant-loop-done
-invariant-loop-done l = Writing l.initial.memory l.noise l.initial.output l.written l.from l.at l.values l.memory l.output l.p l.done
+invariant-loop-done l = Writing l.initial.memory l.noise l.written l.memory l.output l.p l.done
 
 abbrev pub decreases-loop-done : goal.decreases-loop-done
-decreases-loop-done l = l.values - l.done
+decreases-loop-done l = length l.noise - l.done

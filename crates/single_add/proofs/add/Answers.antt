@@ -1,20 +1,11 @@
 -- `add` meets its contract.
 use Rattle.std.proofs.Common.{w64}
 use mathlib.Core.Path.{ap, ◌∙◌}
-use lib.Ieee.{of_bits}
 use mir.Facts.{to_z-of_z}
-use borrow.Author.Rules.{rules}
 use Rattle.single_add.specs.Stretch.{first_reached, passed_over}
-use Rattle.single_add.proofs.Joined.{blank_part, blank_length, past_within, past_the_end, all_before, in_window}
+use Rattle.single_add.proofs.Joined.{past_the_end, all_before, in_window}
 use Rattle.single_add.proofs.add.Goals as goal
 use Rattle.single_add.proofs.add.Goals.{else-first-output-via-then-first-output+else-past-slots, else-first-output-via-else-first-output}
-
-pub add_window-requires : goal.add_window-requires
-unfolding of_bits
-add_window-requires c =
-    let slots = c.ring_slots-slots.result in
-    let is = c.ring_slots-slots.ensures.0 in
-    (blank_part _ slots 4502 is (search rules), blank_length _ slots 4502 is (search rules), search rules, past_within slots 4502 _ (search rules) c.if-past-slots.true)
 
 pub returns-then-past-slots : goal.returns-then-past-slots
 returns-then-past-slots c =

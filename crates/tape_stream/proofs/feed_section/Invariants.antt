@@ -7,11 +7,11 @@ use lib.ListN.{length}
 use Rattle.tape_theory.proofs.Section.{Going}
 use Rattle.tape_stream.proofs.feed_section.Given as goal
 
-abbrev pub invariant-loop-want : goal.invariant-loop-want
-invariant-loop-want l =
+abbrev pub invariant-loop-e : goal.invariant-loop-e
+invariant-loop-e l =
     (l.want ≤ l.left) × (l.want ≤ 16384) × (length l.memory ≡ length l.initial.memory) × (length l.records ≡ length l.initial.records) × ((l.want ≡ 0) ⊎ (l.want ≡ min l.left 16384))
-    × Going l.mode_s l.mode_ac l.draws (record { feed = l.initial.f; memory = l.initial.memory; records = l.initial.records }) l.count 1 l.left false (record { feed = l.f; memory = l.memory; records = l.records })
+    × Going l.prototypes.mode_s.now l.prototypes.mode_ac.now l.draws (record { feed = l.initial.f; memory = l.initial.memory; records = l.initial.records }) l.count 1 l.left false (record { feed = l.f; memory = l.memory; records = l.records })
 
-abbrev pub decreases-loop-want : goal.decreases-loop-want
-decreases-loop-want l =
+abbrev pub decreases-loop-e : goal.decreases-loop-e
+decreases-loop-e l =
     2 * l.left + (1 - l.want)

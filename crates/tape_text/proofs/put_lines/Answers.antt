@@ -11,7 +11,7 @@ pub put_line-end-requires : goal.put_line-end-requires
 put_line-end-requires c = (simp (length-take, length-drop) (omega arith), omega arith)
 
 pub loop-k-preserved : goal.loop-k-preserved
-loop-k-preserved c = next_line _ _ _ _ _ _ _ (omega arith) c.requires.0 c.requires.1 c.loop-k.invariant c.put_line-end.ensures
+loop-k-preserved c = next_line _ _ _ _ _ _ (omega arith) c.requires c.loop-k.invariant c.put_line-end.ensures
 
 pub returns : goal.returns
 returns c = last_line _ _ _ _ _ _ _ (omega arith) c.loop-k.invariant
