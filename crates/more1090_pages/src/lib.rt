@@ -17,7 +17,7 @@ pub struct FlatPages {
     pub pages: u64,
 }
 
-// The fields of a line but its message; found is 0 where the bytes are no record's line.
+// The fields of a line but its message; found is 0 where the bytes are no record's line: C has no `Option`.
 #[repr(C)]
 #[derive(Clone, Copy)]
 pub struct FlatLine {

@@ -1,7 +1,7 @@
 // A line of the record on paper, of 72 bytes and a line feed (SPECIFICATION 11.5). Each public function is equal to a definition of specs/ on every input.
 #![tactic(auto)]
 
-ghost use Rattle.std.specs.Prelude.{◌≡◌, true, [], ◌∷◌, ◌++◌, ◌+◌, ◌*◌, ◌^◌, ◌≤◌, ◌<◌, length, replicate};
+ghost use Rattle.std.specs.Prelude.{◌≡◌, true, [], ◌∷◌, ◌++◌, ◌+◌, ◌*◌, ◌-◌, ◌^◌, ◌≤◌, ◌<◌, length, replicate};
 ghost use Rattle.le_read.specs.LeBytes.{inside, overwritten};
 ghost use Rattle.record_check.specs.Accepted.{accepted, first_sample, type_of, count_of};
 ghost use Rattle.page_line.specs.Line.{number_field, numbers, page_line, with_feed, line_fits, line_at, blank_at};
@@ -75,6 +75,14 @@ fn put_blanks(n: usize, out: &mut [u8], at: usize)
     out[at + n] = LINE_FEED;
 }
 
+// The blanks behind a message that ends at `end`, where a line feed stands for one more.
+fn blanks_behind(at: usize, end: usize) -> usize
+    requires { (end ≤ at + 73) × (at + 73 < 2 ^ 64) }
+    ensures { result ≡ at + 73 - end }
+{
+    at + LINE_LEN - end
+}
+
 // The line of an accepted record, and its line feed. The message is put as the tape program prints it; blanks go over its line feed.
 fn put_line(rec: &[u8], out: &mut [u8], at: usize)
     requires { (accepted rec.now ≡ true) × (at + 73 ≤ length out.old) }
@@ -82,7 +90,8 @@ fn put_line(rec: &[u8], out: &mut [u8], at: usize)
 {
     put_numbers(rec, out, at);
     let end = tape_text::message_at(rec, out, at + NUMBERS_WIDTH);
-    put_blanks(at + LINE_LEN - end, out, end - 1);
+    let blanks = blanks_behind(at, end);
+    put_blanks(blanks, out, end - 1);
 }
 
 // The line of an accepted record and its line feed, put at an offset. False where the record is not accepted or 73 bytes run past the end: then nothing is put.

@@ -5,13 +5,13 @@ use Rattle.page_line.proofs.Fields.{message_short, ends, line_put}
 use native.Mathlib.Omega.{arith}
 use Rattle.page_line.proofs.put_line.Goals as goal
 
-pub overflow_sub-at : goal.overflow_sub-at
-overflow_sub-at c =
+pub blanks_behind-blanks-requires : goal.blanks_behind-blanks-requires
+blanks_behind-blanks-requires c =
     let r = c.args.rec.now in
     let i = in_range r c.requires.0 in
     let e = ends r i c.args.out.now c.args.at c.requires.1 c.put_numbers.ensures c.message_at-end.ensures.0 in
     let m = message_short r in
-    omega arith
+    (omega arith, omega arith)
 
 pub overflow_sub-end : goal.overflow_sub-end
 overflow_sub-end c =
@@ -33,4 +33,4 @@ pub returns : goal.returns
 returns c =
     let r = c.args.rec.now in
     let i = in_range r c.requires.0 in
-    line_put r i c.args.out.now c.args.at c.requires.1 c.put_numbers.ensures c.message_at-end.ensures.0 c.message_at-end.ensures.1 c.put_blanks.ensures refl refl
+    line_put r i c.args.out.now c.args.at c.requires.1 c.put_numbers.ensures c.message_at-end.ensures.0 c.message_at-end.ensures.1 c.put_blanks.ensures c.blanks_behind-blanks.ensures refl
