@@ -85,7 +85,8 @@ echo before | tee "$file" >"$lines"
 left() { [ "$(cat "$file" "$lines")" = "before
 before" ] && [ "$(ls -A "$scratch/files" | wc -l)" = 2 ]; }
 for signal in TERM HUP; do
-    "$program" random 100000 4000 1 "$file" "$lines" 2>/dev/null &
+    # A gate under `nohup` has HUP ignored, and what it starts would too.
+    env --default-signal=$signal "$program" random 100000 4000 1 "$file" "$lines" 2>/dev/null &
     running=$!
     for _ in $(seq 100); do
         if [ "$(ls -A "$scratch/files" | wc -l)" = 4 ]; then break; fi
