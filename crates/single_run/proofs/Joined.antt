@@ -24,7 +24,8 @@ use Rattle.run_open_checks.specs.Opening.{prepared_of}
 use Rattle.single_add.specs.StretchModel.{stretch_of}
 use Rattle.single_theory.specs.Single.{checked_of, single_run, left_in, single_output}
 use Rattle.single_theory.proofs.Count.{accepted_is}
-use Rattle.single_run.specs.Answer.{answer_of, made_by}
+use Rattle.single_run.specs.Answer.{answer_of}
+use Rattle.single_run.specs.MakeModel.{made_by}
 
 -- ---- the reply of a draw
 pub made : (state : State) (mode_s mode_ac : List Float) (draw : List ℕ) (noise output : List Float) (p : MessageConfig) (kind : ℕ) (amplitude : Float) (picks : Picks) (c : MessageConfig) (out : List Float)

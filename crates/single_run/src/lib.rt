@@ -3,7 +3,8 @@
 
 ghost use Rattle.std.specs.Prelude.{◌≡◌, length};
 ghost use Rattle.single_theory.specs.Single.{single_run, single_output};
-ghost use Rattle.single_run.specs.Answer.{answer_of, made_by};
+ghost use Rattle.single_run.specs.Answer.{answer_of};
+ghost use Rattle.single_run.specs.MakeModel.{made_by};
 
 use constants::SamplesPerPulse;
 use pulse_shape::Filters;
