@@ -2,11 +2,11 @@
 use mathlib.Core.Path.{◌≡◌, sym, ap, ◌∙◌, subst}
 use mathlib.Core.Bool.{Bool, not}
 use Prim.Native.Nat.{ℕ, ◌+◌, ◌*◌, ◌/◌, ◌%◌, ◌^◌, ◌≤◌, ◌<◌}
-use native.Mathlib.Nat.{le_trans, le_of_eq, lt_of_lt_of_le, mod-lt, mul-one, mul-le-mul_left, mul-pos, one-le-pow, pow-le-pow_right}
+use native.Mathlib.Nat.{le_trans, le_of_eq, mod-lt, mul-one, mul-le-mul_left, one-le-pow, pow-le-pow_right}
 use native.Mathlib.Omega.{arith}
 use lib.Dec.{T, lit<}
 use lib.Arith.{le→nltb}
-use lib.Pow.{pow_pos, shl_exact}
+use lib.Pow.{shl_exact}
 use lib.Ieee.{binary32, of_bits, nan_bits}
 use lib.Ieee.Bits.{nan_bits_above}
 use lib.Ieee.Nearest.{closest}
@@ -41,12 +41,6 @@ product_of m x y M X Y =
 
 pub shifted : (e : ℕ) → e ≤ 28 → 125 * 2 ^ e % 18446744073709551616 ≡ 125 * 2 ^ e
 shifted e h = shl_exact {a = 125} 7 e 64 (lit< tt) (omega arith)
-
-pub divisor : (e : ℕ) → e ≤ 28 → 0 < 125 * 2 ^ e % 18446744073709551616
-divisor e h = lt_of_lt_of_le (mul-pos P (pow_pos e)) (le_of_eq (sym (shifted e h)))
-  where
-    P : 0 < 125
-    P = lit< tt
 
 module _ (m x y e q : ℕ) (M : m ≤ 2000) (X : x ≡ entry_of (m % 200)) (Y : y ≡ 5 ^ (m / 200)) (E : (e ≤ 28) × (8388608 * 2 ^ e ≤ x * y / 125) × (x * y / 125 < 16777216 * 2 ^ e)) (Q : q ≡ closest (x * y) (125 * 2 ^ e % 18446744073709551616)) where
   lo : 8388608 * (125 * 2 ^ e) ≤ x * y

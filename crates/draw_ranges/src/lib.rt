@@ -70,6 +70,7 @@ fn parameter_fault(all: Distributions, d: Draw) -> Option<u64>
 }
 
 // The first field of a draw that is out of range.
+// A place and no refusal, since a fault is what is searched for; which refusal it is, its caller says.
 #[tactic(auto, unfolding(draw::specs::Fault::draw_fault))]
 pub fn field_fault(rates: MessagesPerSecond, all: Distributions, d: Draw) -> Option<u64>
     ensures { result ≡ draw_fault rates all d }

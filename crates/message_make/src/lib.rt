@@ -164,6 +164,7 @@ fn reply_of(t: MessageType, p: Picks) -> Reply
 }
 
 // The reply of a type, or the first field at fault, by its place among a draw's fields.
+// A place and no refusal: which refusal it is, a caller says.
 #[tactic(auto, unfolding(message::specs::Making::made, message::specs::Making::made_where))]
 pub fn make(t: MessageType, p: Picks) -> Result<Reply, u64>
     ensures { result ≡ made t p }

@@ -1,4 +1,5 @@
 // Parity, flipped bits, classing and interrogators under C names.
+// A C name for each function, also where a body is one call.
 #![tactic(auto)]
 
 ghost use Rattle.std.specs.Prelude.{◌≡◌};

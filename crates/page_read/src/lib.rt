@@ -21,9 +21,11 @@ const COUNT_WIDTH: usize = 4;
 const MODE_AC: u8 = 6;
 
 // What a record's line shows.
+// The message stands in an array with its size beside it: fixed memory, as a record has it.
 #[derive(Clone, Copy)]
 pub struct LineFields {
     pub first: u64,
+    // The byte of a record, as C and the line give it, which may name no kind.
     pub kind: u8,
     pub count: u16,
     pub size: u8,

@@ -62,6 +62,7 @@ fn each_fits(delays: &[u64], gains: &[f32]) -> bool
 }
 
 // What these settings and this length of the memory are refused with.
+// The parameters are those of the C interface, whose delays and gains stand apart.
 #[tactic(auto, unfolding(crate::specs::Opening::checked, crate::specs::Opening::wrong_lengths, crate::specs::Opening::wrong_feeds))]
 fn check(memory: usize, delays: &[u64], gains: &[f32]) -> Result<(), Refusal>
     ensures { result ≡ checked memory delays.now gains.now }

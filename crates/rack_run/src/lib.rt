@@ -48,6 +48,7 @@ fn feed_count(feeds: u64) -> usize
 }
 
 // A call on a rack. Refused, it changes no buffer, and the rack goes on as it is.
+// Memory, samples and room are passed apart, as C lends them.
 #[tactic(auto, unfolding(crate::specs::Calls::run_left, crate::specs::Calls::lengths_fit, crate::specs::Calls::rack_after, crate::specs::Calls::feed_count))]
 pub fn run(
     rack: Rack,

@@ -1,4 +1,5 @@
 // Samples that are due, written at once from working memory: the memory's numbers with their noise go to output, and their slots are cleared.
+// Memory, noise and output are passed apart, for the reason given beside `run_call::step`.
 #![tactic(auto)]
 
 ghost use Rattle.std.specs.Prelude.{◌≡◌, ◌+◌, ◌*◌, ◌/◌, ◌%◌, length};

@@ -13,7 +13,8 @@ use reply_add::ReplySignal;
 use run_call::State;
 use run_open_checks::Lengths;
 
-// Writes the samples of the reply of the draw at the start of the bytes, its gap being its time. The draw, the noise and the output are what C lends, each by itself.
+// Writes the samples of the reply of the draw at the start of the bytes, its gap being its time.
+// The draw, the noise and the output are passed apart, as C lends them, for the reason given beside `run_call::step`.
 fn make(state: State, prototypes: Filters, draw: &[u8], noise: &[f32], output: &mut [f32])
     ensures { output.new ≡ made_by state prototypes.entry.mode_s.now prototypes.entry.mode_ac.now draw.now noise.now output.old }
 {

@@ -82,19 +82,11 @@ pub fn feed_section(
     let mut want: u64 = 0;
     loop {
         let mut row = [0.0f32; CHUNK_LEN];
-        let mut output = [0.0f32; CHUNK_OUTPUT_LEN];
+        let mut out = [0.0f32; CHUNK_OUTPUT_LEN];
         let n = tape_read::read_values(want as usize, &mut row);
         let before = f.state.written;
-        f = tape_feed::feed_noise(
-            f,
-            prototypes,
-            memory,
-            draws,
-            &row[..n],
-            &mut output,
-            records,
-        );
-        if let Err(e) = put_samples(to, before, f.state.written, &output) {
+        f = tape_feed::feed_noise(f, prototypes, memory, draws, &row[..n], &mut out, records);
+        if let Err(e) = put_samples(to, before, f.state.written, &out) {
             let end = SectionEnd::Untaken(e);
             return Section { feed: f, end };
         }

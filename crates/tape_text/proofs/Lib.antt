@@ -2,4 +2,3 @@ pub mod Puts
 pub mod Decimal
 pub mod Lines
 pub mod RecordMessage
-pub mod MessageAt

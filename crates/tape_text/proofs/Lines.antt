@@ -10,7 +10,6 @@ use lib.ListN.{length, get_or, take, drop, length-append, length-take, length-dr
 use lib.Seq.{take_all, take-take, drop-drop, length-take-le, get_or-take}
 use Rattle.std.proofs.lemmas.List.{drop-take}
 use borrow.Author.Tests.{eq-eqb, ne_eqb, leb-true, leb-false}
-use Rattle.io.specs.Counts.{IsPrefixLen}
 use Rattle.io.specs.Digits.{last_digits, IsDigitCount}
 use Rattle.le_read.specs.LeBytes.{le_of, le_at, number_at, overwritten}
 use Rattle.settings.proofs.Inside.{number_there}
@@ -153,26 +152,19 @@ module _ (records s : List ℕ) (at : ℕ) where
         bound = omega arith;
       }
 
-  pub last_line : (n : ℕ) (out : List ℕ) (end k : ℕ) → k ≡ n → Going records s at out end k → Put (lines_of n records) s at out end × (end ≤ at + 92 * n)
-  last_line n out end k e g = subst (λ (m : ℕ). Put (lines_of m records) s at out end × (end ≤ at + 92 * m)) e (g.text, g.bound)
-
 -- text put at the start of a buffer
 abbrev pub Whole : List ℕ → List ℕ → List ℕ → ℕ → Type 0
-Whole text s d r = ((r ≡ length text) × (d ≡ overwritten s 0 text)) × IsPrefixLen r d
+Whole text s d r = (r ≡ length text) × (d ≡ overwritten s 0 text)
 
-whole : {text s d : List ℕ} {r : ℕ} → length text ≤ length s → Put text s 0 d r → Whole text s d r
-whole {text} {s} {d} {r} h p =
-    let e : r ≡ length text = omega (arith, p.ends) in
-    let l : length d ≡ length s = put_length (omega arith) p in
-    let g : r ≤ length d = omega arith in
-    ((e, p.held), (g, sym (length-take-le r d g)))
+whole : {text s d : List ℕ} {r : ℕ} → Put text s 0 d r → Whole text s d r
+whole p = (omega (arith, p.ends), p.held)
 
 pub refused_put : (n : ℕ) {word s d e : List ℕ} {a b x : ℕ} → 40960 ≤ length s → word ≡ refused_word → x ≡ 10 → Put word s 0 d a → Put (number n x) d a e b × (b ≤ a + 21) → Whole (refused_text n) s e b
 unfolding refused_text
 refused_put n {s = s} {d} {e} {a} {b} h w z p q =
     let p' : Put refused_word s 0 d a = subst (λ (l : List ℕ). Put l s 0 d a) w p in
     let both = then_put (omega arith) p' (subst (λ (y : ℕ). Put (number n y) d a e b) z q.0) in
-    whole (omega (arith, both.ends, p'.ends, q.1)) both
+    whole both
 
 pub run_put : (records : List ℕ) (samples : ℕ) {s d₁ d₂ d₃ d₄ : List ℕ} {a b c e n x : ℕ} → 40960 ≤ length s → n ≡ min (length records / 66) 400 → x ≡ 10 → Put header s 0 d₁ a
     → Put (lines_of (length (take (66 * n) records) / 66) (take (66 * n) records)) d₁ a d₂ b × (b ≤ a + 92 * (length (take (66 * n) records) / 66)) → Put samples_word d₂ b d₃ c → Put (number samples x) d₃ c d₄ e × (e ≤ c + 21)
@@ -191,4 +183,4 @@ run_put records samples {s} {d₁} {d₂} {d₃} {d₄} {a} {b} {c} {e} {n} h l 
     let one = then_put (omega arith) p q' in
     let two = then_put (omega (arith, one.ends, q.1)) one t in
     let all = then_put (omega (arith, two.ends, q.1)) two (subst (λ (y : ℕ). Put (number samples y) d₃ c d₄ e) z u.0) in
-    whole (omega (arith, all.ends, q.1, u.1)) all
+    whole all

@@ -143,6 +143,7 @@ pub fn run_text(records: &[u8], samples: u64, out: &mut [u8; TEXT_LEN]) -> usize
 }
 
 // What is printed of a refusal with its number; its length.
+// A number, and not a `Refusal`: the tape program prints the number.
 pub fn refused_text(refusal: u64, out: &mut [u8; TEXT_LEN]) -> usize
     ensures value { (result ≡ length (refused_text refusal)) × (out.new ≡ overwritten out.old 0 (refused_text refusal)) }
     ensures prefix_len { IsPrefixLen result out.new }

@@ -7,6 +7,7 @@ ghost use Rattle.test_exports.specs.Replies.{kind_number, kind_numbered, picks_o
 
 use message::{Picks, Reply, ReplyKind};
 
+// A C name of its own, although it is but one call.
 #[unsafe(no_mangle)]
 pub extern "C" fn port_parity(bytes: &[u8]) -> u32
     ensures { result ≡ parity_of bytes.now }
@@ -75,6 +76,7 @@ pub extern "C" fn port_make(
 }
 
 // Kind 0 short, 1 long, else Mode A/C.
+// By hand, since the numbers are the specification's, of which not every one is a case.
 #[tactic(auto, unfolding(crate::specs::Replies::kind_numbered))]
 pub fn kind_numbered(n: u8) -> ReplyKind
     ensures { result ≡ kind_numbered n }

@@ -1,4 +1,5 @@
 // Floats and phases for C.
+// A C name for each, although their bodies are alike: a static library exports its own functions alone.
 ghost use Rattle.std.specs.Prelude.{◌≡◌, [], ◌∷◌};
 ghost use Rattle.std.specs.Float.Ieee.{to_unsigned};
 ghost use Rattle.float_narrow.specs.Narrow.{narrow as narrowed};

@@ -1,4 +1,5 @@
 // Parity, making and classing for C.
+// A C name for each, although `port_parity` is but one call: a static library exports its own functions alone.
 ghost use Rattle.std.specs.Prelude.{◌≡◌};
 ghost use Rattle.mode_s.specs.Parity.{parity_of};
 ghost use Rattle.message.specs.Types.{type_numbered};

@@ -1,6 +1,6 @@
 -- `draw_level::amplitude` meets its contract.
 use Prim.Native.Nat.{◌+◌, ◌*◌, ◌/◌}
-use Rattle.draw_level.proofs.Significand.{five_fits, product_of, divisor, q_small, made, no_nan}
+use Rattle.draw_level.proofs.Significand.{five_fits, product_of, q_small, made, no_nan}
 use native.Mathlib.Omega.{arith}
 use Rattle.draw_level.proofs.amplitude.Goals as goal
 
@@ -14,14 +14,6 @@ pub halvings-e-requires : goal.halvings-e-requires
 halvings-e-requires c =
     let p = product_of c.args.tenths c.entry.result c.pow.result (omega arith) c.entry.ensures c.pow.ensures in
     omega (arith, p.least, p.most)
-
-pub nearest_even-significand-requires : goal.nearest_even-significand-requires
-nearest_even-significand-requires c =
-    let p = product_of c.args.tenths c.entry.result c.pow.result (omega arith) c.entry.ensures c.pow.ensures in
-    (divisor c.halvings-e.result c.halvings-e.ensures.0, omega (arith, p.most))
-
-pub overflow_add-result-3 : goal.overflow_add-result-3
-overflow_add-result-3 c = omega (arith, q_small c.args.tenths c.entry.result c.pow.result c.halvings-e.result c.nearest_even-significand.result (omega arith) c.entry.ensures c.pow.ensures c.halvings-e.ensures c.nearest_even-significand.ensures, c.halvings-e.ensures.0)
 
 pub overflow_cast-result : goal.overflow_cast-result
 overflow_cast-result c = omega (arith, q_small c.args.tenths c.entry.result c.pow.result c.halvings-e.result c.nearest_even-significand.result (omega arith) c.entry.ensures c.pow.ensures c.halvings-e.ensures c.nearest_even-significand.ensures, c.halvings-e.ensures.0)

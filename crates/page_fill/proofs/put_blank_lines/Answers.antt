@@ -1,7 +1,4 @@
 -- `page_fill::put_blank_lines` meets its contract: after k steps k lines are put.
-use mathlib.Core.Path.{ap, ◌∙◌}
-use Prim.Native.Nat.{ℕ}
-use Rattle.le_read.specs.LeBytes.{overwritten}
 use Rattle.reply_record.proofs.Overwritten.{none_overwritten}
 use Rattle.page_fill.specs.Pages.{blank_lines}
 use Rattle.page_fill.proofs.Filled.{one_blank}
@@ -17,6 +14,3 @@ loop-k-preserved c =
     let a = c.args in
     let l = c.loop-k in
     one_blank a.n a.out.now a.start c.requires l.out l.k l.invariant (omega arith) c.put_blank.ensures.1
-
-pub returns : goal.returns
-returns c = let a = c.args in let l = c.loop-k in l.invariant ∙ ap (λ (k : ℕ). overwritten a.out.now a.start (blank_lines k)) {x = l.k} {y = a.n} (omega arith)

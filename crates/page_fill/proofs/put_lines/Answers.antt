@@ -1,8 +1,4 @@
 -- `page_fill::put_lines` meets its contract: after k steps the lines of k records are put.
-use mathlib.Core.Path.{ap, ◌∙◌}
-use Prim.Native.Nat.{ℕ, ◌/◌}
-use lib.ListN.{length}
-use Rattle.le_read.specs.LeBytes.{overwritten}
 use Rattle.reply_record.proofs.Overwritten.{none_overwritten}
 use Rattle.page_fill.specs.Pages.{record_lines}
 use Rattle.page_fill.proofs.Filled.{one_filled}
@@ -18,9 +14,3 @@ loop-k-preserved c =
     let a = c.args in
     let l = c.loop-k in
     one_filled a.records.now c.requires.0 a.out.now c.requires.1 l.out l.k l.invariant (omega arith) c.put.ensures.1
-
-pub returns : goal.returns
-returns c =
-    let a = c.args in
-    let l = c.loop-k in
-    l.invariant ∙ ap (λ (k : ℕ). overwritten a.out.now 0 (record_lines k a.records.now)) {x = l.k} {y = length a.records.now / 66} (omega arith)

@@ -1,5 +1,5 @@
 -- `pulse_map::mode_ac_pulses` meets its contract: at every step, marking what is left gives what marking all gives.
-use mathlib.Core.Path.{refl, sym, ap, ◌∙◌}
+use mathlib.Core.Path.{sym, ap, ◌∙◌}
 use mathlib.Core.Bool.{Bool, true}
 use mathlib.Core.List.{List}
 use Prim.Native.Nat.{ℕ, ◌+◌, ◌-◌}
@@ -11,9 +11,6 @@ use Rattle.pulse_map.proofs.ModeACLoop.{step_set, step_clear, end, whole_spi, wh
 use native.Mathlib.Omega.{arith}
 use Rattle.pulse_map.proofs.mode_ac_pulses.Goals as goal
 use Rattle.pulse_map.proofs.mode_ac_pulses.Goals.{then-bit_of, else-bit_of}
-
-pub loop-n-init : goal.loop-n-init
-loop-n-init c = (refl, refl)
 
 pub bounds-on-position_of : goal.bounds-on-position_of
 bounds-on-position_of c = omega (arith, position_below c.loop-n.n c.loop-n-test.true)

@@ -1,7 +1,6 @@
 -- `pulse_map::mode_s_pulses` meets its contract: at every step, marking what is left gives what marking all gives.
-use mathlib.Core.Path.{refl, sym, ap, ◌∙◌}
+use mathlib.Core.Path.{sym, ap, ◌∙◌}
 use Prim.Native.Nat.{ℕ, ◌+◌, ◌-◌, ◌*◌}
-use native.Mathlib.Nat.{sub-zero}
 use mathlib.Core.Bool.{true}
 use lib.ListN.{set, length-set}
 use Rattle.pulse_map.specs.ModeS.{bit_of, pair_position, bit_positions, mode_s_length}
@@ -9,11 +8,6 @@ use Rattle.pulse_map.proofs.Marked.{mark}
 use Rattle.pulse_map.proofs.ModeSLoop.{pair_position_lem, turn, end, preambled, whole}
 use borrow.Author.Rules.{rules}
 use Rattle.pulse_map.proofs.mode_s_pulses.Goals as goal
-
-pub loop-n-init : goal.loop-n-init
-loop-n-init c =
-    let bits = c.num_bits-bits.result in
-    (refl, ap (λ (k : ℕ). mark (bit_positions c.args.bytes k 0) preambled) {x = bits - 0} {y = bits} (sub-zero bits))
 
 pub loop-n-preserved : goal.loop-n-preserved
 unfolding bit_of

@@ -5,9 +5,6 @@ use Rattle.reply_add.proofs.add_reply.Goals as goal
 pub shared_ref_as_front-pad_pulses : goal.shared_ref_as_front-pad_pulses
 shared_ref_as_front-pad_pulses c = pulses_most c.args.r.config.reply _ c.message_to_pulses-p.ensures
 
-pub wave-requires : goal.wave-requires
-wave-requires c = pulses_most c.args.r.config.reply _ c.message_to_pulses-p.ensures
-
 pub returns : goal.returns
 returns c =
     let a = c.args in

@@ -1,12 +1,7 @@
 -- `tape_text::put_hex` meets its contract: after k steps the first k bytes are there in hexadecimal.
 use borrow.Author.Rules.{rules}
-use Prim.Native.Nat.{ℕ}
-use mathlib.Core.Path.{ap, ◌∙◌}
-use mathlib.Core.List.{List}
 use native.Mathlib.Omega.{arith}
 use lib.ListN.{length}
-use lib.Seq.{take_all}
-use Rattle.le_read.specs.LeBytes.{overwritten}
 use Rattle.reply_record.proofs.Overwritten.{none_overwritten}
 use Rattle.tape_text.specs.Text.{hex}
 use Rattle.tape_text.proofs.Puts.{hex_of_first}
@@ -21,9 +16,3 @@ loop-k-preserved c =
     let l = c.loop-k in
     let a = c.args in
     (search rules, hex_of_first a.out.now a.at a.bytes.now (length a.bytes.now) l.k l.out _ c.loop-k-test.true (omega arith) c.requires l.invariant.1 c.put_hex_byte.ensures)
-
-pub returns : goal.returns
-returns c =
-    let l = c.loop-k in
-    let a = c.args in
-    l.invariant.1 ∙ ap (λ (b : List ℕ). overwritten a.out.now a.at (hex b)) (take_all l.k a.bytes.now c.loop-k-test.false)

@@ -6,14 +6,5 @@ use Rattle.tape_text.proofs.Decimal.{few_digits}
 use Rattle.tape_text.proofs.Lines.{number_put}
 use Rattle.tape_text.proofs.put_number.Goals as goal
 
-pub put_bytes-end-requires : goal.put_bytes-end-requires
-put_bytes-end-requires c = omega (arith, few_digits _ _ c.ranges.n.fits c.decimal-k.ensures.len, c.decimal-k.ensures.in_bounds.1)
-
-pub bounds-out-end : goal.bounds-out-end
-bounds-out-end c = omega (arith, few_digits _ _ c.ranges.n.fits c.decimal-k.ensures.len, c.decimal-k.ensures.in_bounds.1, c.put_bytes-end.ensures.ends)
-
-pub overflow_add-result : goal.overflow_add-result
-overflow_add-result c = omega (arith, few_digits _ _ c.ranges.n.fits c.decimal-k.ensures.len, c.decimal-k.ensures.in_bounds.1, c.put_bytes-end.ensures.ends)
-
 pub returns : goal.returns
 returns c = number_put _ _ _ _ c.ranges.n.fits c.decimal-k.ensures.len c.decimal-k.ensures.digits c.requires c.put_bytes-end.ensures (overwritten_one _ _ _ (omega (arith, few_digits _ _ c.ranges.n.fits c.decimal-k.ensures.len, c.decimal-k.ensures.in_bounds.1, c.put_bytes-end.ensures.ends))) (search rules)

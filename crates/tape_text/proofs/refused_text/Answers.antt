@@ -4,6 +4,5 @@ use mathlib.Core.Path.{refl}
 use Rattle.tape_text.proofs.Lines.{refused_put}
 use Rattle.tape_text.proofs.refused_text.Goals as goal
 
-pub returns : goal.returns
-returns c =
-    let p = refused_put _ (search rules) refl (search rules) c.put_bytes-a.ensures c.put_number.ensures in record { value = p.0; prefix_len = p.1 }
+pub returns-clause-value : goal.returns-clause-value
+returns-clause-value c = refused_put _ (search rules) refl (search rules) c.put_bytes-a.ensures c.put_number.ensures
