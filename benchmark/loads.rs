@@ -1,9 +1,7 @@
 //! What both are fed: settings, taps, draws and noise, from one seed.
 
+use crate::ours::SamplesPerPulse;
 use lent::{Draw, NOISE};
-
-pub const MODE_S_TAPS: usize = 1486;
-const MODE_AC_TAPS: usize = 1515;
 
 /// The Rust's weights of the message types, and its distributions of carrier and clock.
 const WEIGHTS: [f64; 7] = [0.45, 0.17, 0.109, 0.059, 0.108, 0.004, 0.1];
@@ -11,10 +9,11 @@ pub const CARRIER_SIGMA: f64 = 100e3;
 pub const CARRIER_MAX: f64 = 1e6;
 pub const CLOCK_MAX: f64 = 50e-6;
 
-/// No start lies before an earlier one, where gaps are at least this: a Rust of small batches panics otherwise.
-const LEAST_GAP: f64 = 4.0;
+/// No start lies before an earlier one, where gaps are at least so many pulses: a Rust of small batches panics otherwise.
+const LEAST_GAP: f64 = 1.0;
 
 pub struct Load {
+    pub setting: SamplesPerPulse,
     pub rate: f64,
     pub seconds: usize,
     pub rates: [f64; 7],
@@ -117,21 +116,24 @@ fn bytes(d: &Draw) -> Vec<u8> {
 }
 
 impl Load {
-    pub fn new(rate: f64, seconds: usize) -> Load {
+    pub fn new(setting: SamplesPerPulse, rate: f64, seconds: usize) -> Load {
         let mut random = Random(1);
-        let samples = 8e6 * seconds as f64;
+        let (per_pulse, per_second) = (f64::from(setting as u8), setting.sample_rate() as f64);
+        let (samples, least_gap) = (per_second * seconds as f64, LEAST_GAP * per_pulse);
         let mut draws = Vec::new();
         let mut time = 0.0;
         while rate > 0.0 && time < samples {
-            let gap = LEAST_GAP + (8e6 / rate - LEAST_GAP) * -(1.0 - random.unit()).ln();
+            let gap = least_gap + (per_second / rate - least_gap) * -(1.0 - random.unit()).ln();
             time += gap;
             draws.push(random.draw(gap));
         }
         draws.push(random.draw(2.0 * samples));
-        let mut taps = lowpass(MODE_S_TAPS, 1.0 / 64.0);
-        taps.extend(lowpass(MODE_AC_TAPS, 1.0 / 64.0));
+        let cutoff = 1.0 / 16.0 / per_pulse;
+        let mut taps = lowpass(setting.mode_s_taps_len(), cutoff);
+        taps.extend(lowpass(setting.mode_ac_taps_len(), cutoff));
         let noise: Vec<f32> = (0..NOISE).map(|_| random.normal() as f32).collect();
         Load {
+            setting,
             rate,
             seconds,
             rates: WEIGHTS.map(|w| w * rate.max(1.0)),
@@ -143,7 +145,7 @@ impl Load {
     }
 
     pub fn samples(&self) -> usize {
-        8_000_000 * self.seconds
+        self.setting.sample_rate() as usize * self.seconds
     }
 
     /// The settings as the port reads them.
@@ -161,6 +163,7 @@ impl Load {
         }
         // the Rust's trigger level
         b.extend(0.5f32.to_le_bytes());
+        b.push(self.setting as u8);
         b
     }
 }

@@ -3,14 +3,15 @@
 #[path = "../hosts/rust/more1090_generator.rs"]
 mod more1090_generator;
 
-use crate::loads::{Load, MODE_S_TAPS};
+use crate::loads::Load;
 use crate::{Given, summed, timed};
 use lent::NOISE;
+pub use more1090_generator::SamplesPerPulse;
 use more1090_generator::{DRAW_LEN, RECORD_LEN, Rack, Run, STOP_DONE};
 use std::hint::black_box;
 
 fn opened(load: &Load) -> Run {
-    let (s, ac) = load.taps.split_at(MODE_S_TAPS);
+    let (s, ac) = load.taps.split_at(load.setting.mode_s_taps_len());
     Run::open(&load.settings(), s, ac).expect("settings and taps in range")
 }
 
@@ -28,7 +29,7 @@ pub fn run(load: &Load, call: usize, check: bool) -> (Given, f64) {
 /// output is full, it is called again for the rest.
 fn calls(run: &mut Run, load: &Load, call: usize, check: bool) -> Given {
     let mut given = Given::default();
-    let window = DRAW_LEN * (2 + (1.1 * call as f64 * load.rate / 8e6) as usize);
+    let window = DRAW_LEN * (2 + (1.1 * call as f64 * load.rate / load.setting.sample_rate() as f64) as usize);
     let mut output = vec![0.0; 2 * call];
     let mut records = vec![0; RECORD_LEN * window / DRAW_LEN];
     let (mut taken, mut used, mut full) = (0, 0, 0);

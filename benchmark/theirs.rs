@@ -1,11 +1,12 @@
-//! The published Rust: `Simulation::run` with the draws, taps and noise of a load.
+// The published Rust: `Simulation::run` with the draws, taps and noise of a load. The driver includes this in two modules, in which
+// `published` is the reference at 4 and at 8 samples per pulse.
 
 use crate::loads::{CARRIER_MAX, CARRIER_SIGMA, CLOCK_MAX, Load};
 use crate::{Given, summed, timed};
 use num::complex::Complex32;
-use reference::io::WriteComplex32;
-use reference::simulation::distributions::*;
-use reference::simulation::{MessagesPerSecond, Simulation, pulse_shape};
+use published::io::WriteComplex32;
+use published::simulation::distributions::*;
+use published::simulation::{MessagesPerSecond, Simulation, pulse_shape};
 use std::hint::black_box;
 
 /// Takes the samples where they are, as the port's output is.

@@ -1,10 +1,12 @@
 /* The reply generator for C and C++: opening a run, and run calls; what a run will use; the parity of messages; and levels in
  * decibels. Link libmore1090.a and -lm (tools/library makes it).
  *
- * A run makes the samples of transponder replies at 8,000,000 a second, each a pair of floats, real part first, and a record
- * of every reply. The caller lends everything: settings, filter taps, draws (one for each reply) and noise to read;
- * prototypes, working memory, output and records to write. No call allocates, keeps a pointer, or reads or writes anything
- * else; the same arguments give the same answer and the same bytes.
+ * A run makes the samples of transponder replies, each a pair of floats, real part first, and a record of every reply. Its
+ * settings say how many samples a pulse of 500 ns has: 4, which is 8,000,000 a second, or 8, which is 16,000,000. The caller
+ * lends everything: settings, filter taps, draws (one for each reply) and noise to read; prototypes, working memory, output
+ * and records to write. No call allocates, keeps a pointer, or reads or writes anything else; the same arguments give the
+ * same answer and the same bytes. Opening takes some 180 kB of stack, a booking 125 kB and one reply alone 155 kB, at 4
+ * samples per pulse as at 8.
  *
  * What is said of each call here is proved of its source, for every input, refused ones too (crates/more1090_generator, and
  * its specs/OpenedCalls.antt for lists of calls). Asked of the caller, since no proof can see it: a pointer is aligned to its
@@ -18,11 +20,11 @@
  * Lengths count values of the pointer's type: floats or bytes. Places and draws are counted from 0 in what is lent to that
  * call. Settings, draws and records are packed and little-endian, as on a tape (docs/SPECIFICATION.md, 4):
  *
- * Settings, 123 bytes: seconds u64; nanoseconds u32; seven rates f64, by type, in replies a second; three distributions,
- *   each a kind u8 and two numbers f64. Carrier offset: 0 constant (Hz, at most 4,000,000 in size), 1 normal with sigma and
- *   max (Hz). Phase: 0 constant (radians), 1 uniform. Clock error: 0 constant (parts of one, at most 0.1 in size), 1 uniform
- *   with a max. Then the trigger level f32, 0.1 to 0.9 (the nearest floats, both allowed): the part of a pulse's height at which
- *   a reply's time is taken, 0.5 for the middle of its rise.
+ * Settings, 124 bytes: seconds u64; nanoseconds u32; seven rates f64, by type, in replies a second; three distributions,
+ *   each a kind u8 and two numbers f64. Carrier offset: 0 constant (Hz, at most half the sample rate in size), 1 normal with
+ *   sigma and max (Hz, the same limit). Phase: 0 constant (radians), 1 uniform. Clock error: 0 constant (parts of one, at most
+ *   0.1 in size), 1 uniform with a max. Then the trigger level f32, 0.1 to 0.9 (the nearest floats, both allowed): the part of a
+ *   pulse's height at which a reply's time is taken, 0.5 for the middle of its rise. Last the samples per pulse u8, 4 or 8.
  * Types: 0 extended squitter, 1 acquisition squitter, 2 short with address parity, 3 all-call reply, 4 long with address
  *   parity, 5 military extended squitter, 6 Mode A/C.
  * Draw, 65 bytes, its fields: 0 gap f64, samples after the last draw, finite, not negative; 1 type u8, its rate above 0;
@@ -45,17 +47,22 @@ extern "C" {
 
 /* The version of this interface, as VERSION has it. */
 #define MORE1090_VERSION_MAJOR 0
-#define MORE1090_VERSION_MINOR 1
+#define MORE1090_VERSION_MINOR 2
 #define MORE1090_VERSION_PATCH 0
 
-#define MORE1090_SAMPLE_RATE 8000000 /* samples a second */
-#define MORE1090_SETTINGS_LEN 123
-#define MORE1090_MODE_S_TAPS_LEN 1486  /* floats: a lowpass at 512,000,000 taps a second */
-#define MORE1090_MODE_AC_TAPS_LEN 1515 /* floats: a lowpass at 512,000,000 * 1500 / 1450 taps a second */
-#define MORE1090_PROTOTYPE_LEN 1792    /* floats: each of the two prototypes */
-#define MORE1090_MEMORY_LEN 2252       /* floats: working memory */
+#define MORE1090_SETTINGS_LEN 124
 #define MORE1090_DRAW_LEN 65
 #define MORE1090_RECORD_LEN 66
+
+/* What follows from the samples per pulse of a run, spp: constants where it is one, so that an array may have such a length.
+ * A program that runs at both has room for 8, and lends as much of it as the run's spp asks for. Any other number than 8 gives
+ * what 4 does. A tap stands for 1 / 64 of a sample, for Mode A/C 1450 / 1500 of that. */
+#define MORE1090_SAMPLE_RATE(spp) ((spp) == 8 ? 16000000 : 8000000) /* samples a second */
+#define MORE1090_MODE_S_TAPS_LEN(spp) ((spp) == 8 ? 2971 : 1486)    /* floats: the lowpass of Mode S */
+#define MORE1090_MODE_AC_TAPS_LEN(spp) ((spp) == 8 ? 3029 : 1515)   /* floats: the lowpass of Mode A/C */
+#define MORE1090_PROTOTYPE_LEN(spp) ((spp) == 8 ? 3584 : 1792)      /* floats: each of the two prototypes */
+#define MORE1090_MEMORY_LEN(spp) ((spp) == 8 ? 4502 : 2252)         /* floats: working memory */
+#define MORE1090_REPLY_LIMIT(spp) ((spp) == 8 ? 2187 : 1094)        /* samples: the most that a reply adds to */
 
 /* Refusals: the numbers of SPECIFICATION 3.1, with what `value` and `field` hold; they are 0 where nothing is said. */
 enum {
@@ -74,6 +81,7 @@ enum {
     MORE1090_ERR_STRETCH_LENGTH = 12, /* output or noise that is not two floats a sample, by more1090_single alone */
     MORE1090_ERR_LEVEL = 13,    /* a level above 200.0 dB, by more1090_level alone */
     MORE1090_ERR_TRIGGER_LEVEL = 14, /* a trigger level below 0.1 or above 0.9, or a NaN */
+    MORE1090_ERR_SAMPLES_PER_PULSE = 15, /* samples per pulse other than 4 or 8 */
     MORE1090_ERR_LOG = 16,      /* a log out of order, or a message length in it other than 2, 7 or 14, by more1090_compare_log */
     MORE1090_ERR_FEEDS = 17,    /* no feed or more than 16, or a delay or gain out of range, by more1090_rack_open */
     MORE1090_ERR_RECORD = 18    /* a record that no run writes: first sample above 2^52, type above 6, count above 9,999, or a
@@ -85,7 +93,8 @@ enum {
     MORE1090_STOP_DONE = 0,         /* every sample is written: the run is over, and further calls write nothing */
     MORE1090_STOP_OUTPUT_FULL = 1,  /* lend output */
     MORE1090_STOP_WANTS_NOISE = 2,  /* lend two noise values or more */
-    MORE1090_STOP_WANTS_DRAWS = 3,  /* lend draws; the one that would start within 1,094 samples of the end, or later, ends the run */
+    MORE1090_STOP_WANTS_DRAWS = 3,  /* lend draws; the one that would start within MORE1090_REPLY_LIMIT samples of the end, or
+                                     * later, ends the run */
     MORE1090_STOP_RECORDS_FULL = 4, /* lend 66 bytes or more of records */
     MORE1090_STOP_REFUSED = 5
 };
@@ -99,7 +108,8 @@ typedef struct more1090_distribution {
 /* A run between two calls: plain data with no pointers and no padding. To store a run and take it up again, keep the state,
  * the prototypes that opening filled and the working memory as the last call left it, all three: a state with memory opened
  * anew gives another run, and nothing refuses it. Any bytes are taken as a state: a kind or `ended` that is not 0 is read as
- * 1, and a number that its kind does not use is ignored; such a state comes back with 1 and 0.0. */
+ * 1, `samples_per_pulse` that is not 8 as 4, and a number that its kind does not use is ignored; such a state comes back with
+ * 1, 4 and 0.0. */
 typedef struct more1090_state {
     uint64_t written;    /* samples written so far */
     uint64_t total;      /* samples of the run */
@@ -113,11 +123,12 @@ typedef struct more1090_state {
     more1090_distribution phase;
     more1090_distribution clock;
     uint64_t ended; /* 1 once the draw that ends the run is taken, else 0 */
+    uint64_t samples_per_pulse; /* 4 or 8 */
 } more1090_state;
 
 typedef struct more1090_open_result {
     more1090_state state;
-    uint64_t refusal; /* 0, or 1 to 6, 9 or 14 */
+    uint64_t refusal; /* 0, or 1 to 6, 9, 14 or 15 */
     uint64_t value;
 } more1090_open_result;
 
@@ -135,9 +146,10 @@ typedef struct more1090_run_result {
     uint64_t samples_added_low;
 } more1090_run_result;
 
-/* Opens a run. Checks 9 (settings, mode_s, mode_ac, memory), then 1 to 4, 14, 5 and 6, and answers the first that fails: state is then
- * all zero, and nothing lent is changed. Else the refusal is 0, state is the run's before its first call, mode_s and mode_ac
- * hold the prototypes and memory is all 0.0. Settings and taps are not needed any more. */
+/* Opens a run. Checks 15, 9 (mode_s, mode_ac, memory), 1 to 4, 14, 5 and 6, in this order, and answers the first that fails:
+ * state is then all zero, and nothing lent is changed. Settings of another length have no samples per pulse, and are 9. Else
+ * the refusal is 0, state is the run's before its first call, mode_s and mode_ac hold the prototypes and memory is all 0.0.
+ * Settings and taps are not needed any more. */
 more1090_open_result more1090_open(const uint8_t *settings, size_t settings_length,
                               const float *taps_s, size_t taps_s_length,
                               const float *taps_ac, size_t taps_ac_length,
@@ -145,12 +157,12 @@ more1090_open_result more1090_open(const uint8_t *settings, size_t settings_leng
                               float *mode_ac, size_t mode_ac_length,
                               float *memory, size_t memory_length);
 
-/* A run call. Checks 9, then 7 of every draw, then 8 of every noise value, before any work, and answers the first that
+/* A run call; the lengths are those of the state's samples per pulse. Checks 9, then 7 of every draw, then 8 of every noise value, before any work, and answers the first that
  * fails: counts are then 0, state is the one given, and nothing lent is changed. Else it takes draws and writes samples and
  * records until one of the five stops; memory goes on to the next call, and output and records past what was written are
  * unchanged. Sample n of the run is what the replies add there, in the order of their draws, plus noise values 2n and 2n + 1
  * times 2^-10, counted from the run's start; a record stands for each reply, in the order of the draws. samples_added is the
- * sum of the counts in the records that this call wrote, each at most 1,094: a reply's whole count belongs to the call that
+ * sum of the counts in the records that this call wrote, each at most MORE1090_REPLY_LIMIT: a reply's whole count belongs to the call that
  * takes its draw, not to those that write its samples. (A draw that would start before sample 0 is taken and ignored, but
  * its gap counts.) So lend the draws that were not taken and the noise that was not used again, ahead of new ones: how a run
  * is cut into calls then changes no sample, no record and no total of samples added. From an opened run every number of a
@@ -174,14 +186,14 @@ typedef struct more1090_booking_result {
     uint64_t ended;
     uint64_t draw;
     double time;      /* where draws ran out, else 0.0 */
-    uint64_t refusal; /* 0, or 1 to 7, 9 or 14; the figures are then 0 */
+    uint64_t refusal; /* 0, or 1 to 7, 9, 14 or 15; the figures are then 0 */
     uint64_t value;
     uint64_t field;
 } more1090_booking_result;
 
-/* What a run of these settings, filters and draws will use; no sample is made, and nothing is written. Checks 9 (settings, and
- * draws no multiple of 65), then 1 to 4, 14, 5 and 6 as opening does, then 7 of every draw, also of ignored ones and those behind the one
- * that ends the run. No number of draws is too large. A run that calls of more1090_run bring to Done takes exactly these
+/* What a run of these settings, filters and draws will use; no sample is made, and nothing is written. Checks 15, 9 (draws no
+ * multiple of 65), 1 to 4, 14, 5 and 6 as opening does, settings of another length 9 too, then 7 of every draw, also of ignored
+ * ones and those behind the one that ends the run. No number of draws is too large. A run that calls of more1090_run bring to Done takes exactly these
  * draws and has exactly these counts in all, whatever draws in range are put after them. (crates/more1090_booking; proved
  * there of lists of calls: crates/run_booking_theorem) */
 more1090_booking_result more1090_booking(const uint8_t *settings, size_t settings_length,
@@ -199,7 +211,7 @@ more1090_booking_result more1090_booking_part(double time,
                               const uint8_t *draws, size_t draws_length);
 
 typedef struct more1090_single_result {
-    uint64_t refusal; /* 0, or 1 to 9, 12 or 14 */
+    uint64_t refusal; /* 0, or 1 to 9, 12, 14 or 15 */
     uint64_t value;
     uint64_t field;
 } more1090_single_result;
@@ -209,10 +221,10 @@ typedef struct more1090_single_result {
  * times 2^-10, and what the reply adds there, added to it. A reply that starts before sample 0 or runs past the end is
  * trimmed: its samples before sample 0 are passed over, its clock and carrier running through them. No draw is ignored and
  * none ends the run; a start far past the end gives noise alone.
- * Checks 9 (settings or draw of another length, output of odd length, or empty though the duration has samples), then 1, then
- * 12 (output or noise that is not two floats a sample), then 2, 3, 4, 14, 5 and 6 as opening does, then 7 (value 0, field)
- * and 8, and answers the first that fails; output is then unchanged. It is passed no prototypes and no working memory: they are
- * on its stack, some 52 kB. (crates/more1090_single) */
+ * Checks 15, 9 (a draw of another length, output of odd length, or empty though the duration has samples), 1, 12 (output or
+ * noise that is not two floats a sample), 2, 3, 4, 14, 5 and 6 as opening does, then 7 (value 0, field) and 8, and answers the
+ * first that fails; output is then unchanged. Settings of another length are 9. It is passed no prototypes and no working
+ * memory: they are on its stack. (crates/more1090_single) */
 more1090_single_result more1090_single(const uint8_t *settings, size_t settings_length,
                                        const float *taps_s, size_t taps_s_length,
                                        const float *taps_ac, size_t taps_ac_length,
@@ -255,7 +267,8 @@ uint32_t more1090_interrogator(const uint8_t *message, size_t message_length, ui
 /* The amplitude of a level in tenths of a decibel, for a draw's field 3: 10^(tenths / 200) / 2,048,000, which is the reference's
  * amplitude of a C/N0 of as many tenths of a dB Hz. It is within one part in 2^22 of that, and the nearest f32, ties to even, to
  * a table's entry times a power of ten (SPECIFICATION 6.15). Answers MORE1090_OK and writes *amplitude; or MORE1090_ERR_LEVEL for
- * tenths above 2000, whatever their size, and leaves it. amplitude must point to a float. (crates/more1090_level) */
+ * tenths above 2000, whatever their size, and leaves it. amplitude must point to a float. Levels are those of 4 samples per
+ * pulse: in a run at 8 the same amplitude has 3.01 dB Hz more. (crates/more1090_level) */
 uint64_t more1090_level(uint64_t tenths, float *amplitude);
 
 #define MORE1090_LINE_LEN 72
@@ -302,7 +315,7 @@ typedef struct more1090_log_result {
  * message u8[14], in rising order of sample, equal ones allowed. An entry may be paired with a record whose message has the same
  * length and the same bytes up to it, and whose first sample differs by at most `tolerance` samples, any number. Each entry, in
  * the log's order, gets the record still free and allowed that has the lowest first sample, of equal ones the first in
- * `records`. No pairing has more pairs. Records may be in any order; where first samples fall by at most 32, as a run writes
+ * `records`. No pairing has more pairs. Records may be in any order; where first samples fall by at most 64, as a run writes
  * them, the time is in proportion to entries and records, times those that lie within the tolerance of one entry.
  *
  * Writes to `partners` each entry's record and to `owners` each record's entry, by their indices from 0, or MORE1090_NOBODY.
@@ -354,10 +367,11 @@ more1090_rack_result more1090_rack_run(more1090_rack rack,
 #else
 #define MORE1090_ASSERT(holds) _Static_assert(holds, "layout")
 #endif
-MORE1090_ASSERT(sizeof(more1090_state) == 184 && offsetof(more1090_state, ended) == 176);
-MORE1090_ASSERT(sizeof(more1090_open_result) == 200 && offsetof(more1090_open_result, refusal) == 184);
-MORE1090_ASSERT(sizeof(more1090_run_result) == 264 && offsetof(more1090_run_result, draws_taken) == 184);
-MORE1090_ASSERT(offsetof(more1090_run_result, samples_added_high) == 248);
+MORE1090_ASSERT(sizeof(more1090_state) == 192 && offsetof(more1090_state, ended) == 176);
+MORE1090_ASSERT(offsetof(more1090_state, samples_per_pulse) == 184);
+MORE1090_ASSERT(sizeof(more1090_open_result) == 208 && offsetof(more1090_open_result, refusal) == 192);
+MORE1090_ASSERT(sizeof(more1090_run_result) == 272 && offsetof(more1090_run_result, draws_taken) == 192);
+MORE1090_ASSERT(offsetof(more1090_run_result, samples_added_high) == 256);
 MORE1090_ASSERT(sizeof(more1090_pages_result) == 24 && sizeof(more1090_line_result) == 40);
 MORE1090_ASSERT(sizeof(more1090_log_result) == 40 && offsetof(more1090_log_result, value) == 32);
 MORE1090_ASSERT(sizeof(more1090_rack) == 208 && offsetof(more1090_rack, gains) == 144);

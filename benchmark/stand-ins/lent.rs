@@ -61,7 +61,7 @@ pub fn noise() -> &'static [f32; NOISE] {
     own().noise
 }
 
-/// Lends the 3,001 taps, Mode S first. What was made of taps lent before is made again.
+/// Lends the taps, Mode S first. What was made of taps lent before is made again.
 pub fn lend_taps(taps: &'static [f32]) {
     own().taps = taps;
     own().number += 1;
@@ -98,8 +98,8 @@ pub fn amplitude() -> f32 {
 /// The lent taps of the filter of that many taps.
 pub fn taps(count: usize) -> Vec<f32> {
     match count {
-        1486 => own().taps[..1486].to_vec(),
-        _ => own().taps[1486..].to_vec(),
+        1486 | 2971 => own().taps[..count].to_vec(),
+        _ => own().taps[own().taps.len() - count..].to_vec(),
     }
 }
 

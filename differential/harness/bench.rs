@@ -8,10 +8,8 @@ use crate::tape::*;
 use reference::simulation::distributions::MessageDistributions;
 use reference::simulation::{MessageConfig, open};
 
-pub const WORKING_MEMORY: usize = 2252;
-pub const PROTOTYPE: usize = 1792;
-const HELD_BACK: i128 = 32;
-const LONGEST_REPLY: i128 = 1094;
+const HELD_BACK: i128 = HERE.held_back as i128;
+const LONGEST_REPLY: i128 = HERE.longest_reply as i128;
 
 /// The lengths of the memory lent to opening and to each call.
 #[derive(Debug, Clone, Copy)]
@@ -22,14 +20,14 @@ pub struct Lengths {
 }
 
 pub const RIGHT_LENGTHS: Lengths = Lengths {
-    memory: WORKING_MEMORY,
-    mode_s: PROTOTYPE,
-    mode_ac: PROTOTYPE,
+    memory: HERE.working_memory,
+    mode_s: HERE.prototype,
+    mode_ac: HERE.prototype,
 };
 
 impl Lengths {
-    fn wrong(&self) -> bool {
-        self.memory != WORKING_MEMORY || self.mode_s != PROTOTYPE || self.mode_ac != PROTOTYPE
+    fn wrong(&self, n: Numbers) -> bool {
+        self.memory != n.working_memory || self.mode_s != n.prototype || self.mode_ac != n.prototype
     }
 }
 
@@ -92,12 +90,17 @@ pub struct Bench {
 impl Bench {
     /// Opens a run on settings of any length.
     pub fn open(settings: &[u8], mode_s: &[f32], mode_ac: &[f32], lent: Lengths) -> Result<Bench, Refusal> {
-        if settings.len() != SETTINGS_BYTES || lent.wrong() {
+        if settings.len() != SETTINGS_BYTES {
             return Err(refusal(9));
         }
         let s = Settings::from_bytes(settings);
+        rules::samples_per_pulse(&s)?;
+        if lent.wrong(s.numbers()) {
+            return Err(refusal(9));
+        }
         rules::settings(&s)?;
-        rules::taps(mode_s, mode_ac)?;
+        rules::taps(&s, mode_s, mode_ac)?;
+        assert_eq!(s.samples_per_pulse, SPP, "a run that the reference of this program does not make");
         let taps = [mode_s, mode_ac].concat();
         let [a, b] = judge::prototypes(&taps, s.trigger_level);
         rules::prototypes([&a, &b], s.trigger_level)?;
@@ -128,7 +131,7 @@ impl Bench {
     }
 
     fn check(&self, call: &Call) -> Result<Vec<Draw>, Refusal> {
-        if call.lengths.wrong()
+        if call.lengths.wrong(HERE)
             || call.output == 0
             || call.output % 2 != 0
             || call.draws.len() % DRAW_BYTES != 0

@@ -253,9 +253,9 @@ fn spoil(r: &mut Random, c: &mut Call) {
     let draws = c.draws.len() / DRAW_BYTES;
     match r.below(8) {
         0 => c.output = r.pick(&[0, 1, 3, c.output + 1]),
-        1 => c.lengths.memory = r.pick(&[0, 2251, 2253]),
-        2 => c.lengths.mode_s = r.pick(&[0, 1791, 1793]),
-        3 => c.lengths.mode_ac = r.pick(&[0, 1791, 1793]),
+        1 => c.lengths.memory = r.pick(&wrong_lengths(|n| n.working_memory)),
+        2 => c.lengths.mode_s = r.pick(&wrong_lengths(|n| n.prototype)),
+        3 => c.lengths.mode_ac = r.pick(&wrong_lengths(|n| n.prototype)),
         4 => c.draws.extend(vec![0; r.between(1, 64)]),
         5 if !c.noise.is_empty() => {
             let k = r.below(c.noise.len());
@@ -271,8 +271,13 @@ fn spoil(r: &mut Random, c: &mut Call) {
     }
 }
 
-/// Lengths of settings to try: none, those of earlier settings, too short, right, and too long.
-pub const SETTINGS_LENGTHS: [usize; 6] = [0, 119, 122, 123, 124, 127];
+/// None, one value off, and the other setting's.
+fn wrong_lengths(of: fn(Numbers) -> usize) -> [usize; 4] {
+    [0, of(HERE) - 1, of(HERE) + 1, of(THERE)]
+}
+
+/// Lengths of settings to try: none, those of earlier settings, right, and too long.
+pub const SETTINGS_LENGTHS: [usize; 6] = [0, 119, 123, 124, 125, 128];
 
 /// An opening whose lengths, settings or taps may be wrong, with no call after it.
 pub fn random_opening(r: &mut Random, tape: &Tape) -> List {
@@ -280,15 +285,22 @@ pub fn random_opening(r: &mut Random, tape: &Tape) -> List {
     let mut lent = RIGHT_LENGTHS;
     let mut length = SETTINGS_BYTES;
     match r.below(7) {
-        0 => lent.memory = r.pick(&[0, 2251, 2253]),
-        1 => lent.mode_s = r.pick(&[0, 1791, 1793]),
-        2 => lent.mode_ac = r.pick(&[0, 1791, 1793]),
-        3 => mode_s = &mode_s[..r.pick(&[0, 1, 1485])],
-        4 => mode_ac = &mode_ac[..r.pick(&[0, 1, 1514])],
+        0 => lent.memory = r.pick(&wrong_lengths(|n| n.working_memory)),
+        1 => lent.mode_s = r.pick(&wrong_lengths(|n| n.prototype)),
+        2 => lent.mode_ac = r.pick(&wrong_lengths(|n| n.prototype)),
+        3 => mode_s = &mode_s[..r.pick(&[0, 1, MODE_S_TAPS - 1])],
+        4 => mode_ac = &mode_ac[..r.pick(&[0, 1, MODE_AC_TAPS - 1])],
         5 => length = r.pick(&SETTINGS_LENGTHS),
-        _ => (mode_s, mode_ac) = tape.taps.split_at(r.pick(&[1485, 1487])),
+        _ => (mode_s, mode_ac) = tape.taps.split_at(r.pick(&[MODE_S_TAPS - 1, MODE_S_TAPS + 1])),
     }
     let mut s = tape.settings;
+    if r.once_in(8) {
+        // The other setting's lengths are wrong in the library, its taps' count on a tape.
+        let none = r.pick(&make::NO_SETTINGS);
+        s.samples_per_pulse = r.pick(&[OTHER, none]);
+        let all = Lengths { memory: THERE.working_memory, mode_s: THERE.prototype, mode_ac: THERE.prototype };
+        lent = if r.once_in(2) { all } else { lent };
+    }
     match r.below(8) {
         0 => s.nanoseconds = 1_000_000_000,
         1 => s.rates[r.below(7)] = -1.0,

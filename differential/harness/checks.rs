@@ -11,31 +11,42 @@ use crate::random::Random;
 use crate::rules;
 use crate::tally::{Tally, bytes_of, first_difference};
 use crate::tape::*;
+use reference::mode_ac::ModeACReply;
+use reference::mode_s::ModeSMessage;
+use reference::simulation::SSRReply;
 
 /// The worked tape gives its text (SPECIFICATION 11.3).
 pub fn worked(tally: &mut Tally, ours: &Ours) {
     let bytes = make::worked().to_bytes();
-    let text = "first type count message\n100 2 536 20000000000000\n151 6 189 0e00\nsamples 8000\n";
+    let text = match SPP {
+        4 => "first type count message\n100 2 536 20000000000000\n151 6 189 0e00\nsamples 8000\n",
+        _ => "first type count message\n100 2 1072 20000000000000\n150 6 379 0e00\nsamples 16000\n",
+    };
     let got = program::text(&program::outcome(&bytes));
     let wrong = (got != text).then(|| format!("the specification has {text:?}, the reference {got:?}"));
     tally.compare("worked tape, reference", "worked", &bytes, wrong);
     text_of_ours(tally, ours, "worked", &bytes, text);
 }
 
-/// The bench checks (SPECIFICATION 12) that the reference can answer; the last one through the tape program too.
+/// The bench checks (SPECIFICATION 12) that the reference can answer, or the numbers at 8 samples per pulse that go with them;
+/// the last one through the tape program too.
 pub fn bench_lines(tally: &mut Tally, ours: &Ours) {
     use reference::simulation::pulse_shape::required_samples_for_apply;
     let required = [0, 43, 52, 128, 240].map(required_samples_for_apply);
+    let lengths = messages().map(|m| reference::simulation::message_num_samples(&m));
     let parity = reference::mode_s::CRC24.checksum(b"123456789");
-    let samples = |ns| reference::simulation::duration_as_samples(std::time::Duration::new(0, ns));
+    let samples = |ns: u32| reference::simulation::duration_as_samples(std::time::Duration::new(0, ns));
+    let (of_pulses, of_messages, at, starts) = match SPP {
+        4 => ([0, 218, 258, 596, 1094], [960, 512, 166, 201], [(124, 0), (125, 1)], [6905, 6906]),
+        _ => ([0, 436, 516, 1192, 2187], [1920, 1024, 333, 402], [(62, 0), (63, 1)], [13_812, 13_813]),
+    };
     let lines = [
-        ("required samples", required == [0, 218, 258, 596, 1094]),
+        ("required samples", required == of_pulses),
+        ("samples of a message", lengths == of_messages),
         ("parity of 123456789", parity == 0x054268),
-        ("124 and 125 ns", samples(124) == 0 && samples(125) == 1),
-        (
-            "starts 6905 and 6906 of 8,000",
-            last_start(6905) == 1 && last_start(6906) == 0,
-        ),
+        ("samples of nanoseconds", at.iter().all(|&(ns, n)| samples(ns) == n)),
+        ("the last start of a millisecond", last_start(starts[0]) == 1 && last_start(starts[1]) == 0),
+        ("the numbers of the samples per pulse", numbers_are_the_references()),
     ];
     for (what, right) in lines {
         tally.compare(
@@ -45,10 +56,38 @@ pub fn bench_lines(tally: &mut Tally, ours: &Ours) {
             (!right).then(|| what.to_string()),
         );
     }
-    for start in [6905, 6906] {
+    for start in starts {
         let tape = make::one_reply_at(start);
-        text(tally, ours, &format!("start {start} of 8,000"), &tape.to_bytes());
+        text(tally, ours, &format!("start {start} of a millisecond"), &tape.to_bytes());
     }
+}
+
+/// A long reply, a short one, Mode A/C, and Mode A/C with SPI.
+fn messages() -> [SSRReply; 4] {
+    let mode_ac = |spi| SSRReply::ModeAC(ModeACReply::new(0, spi).unwrap());
+    [
+        SSRReply::ModeS(ModeSMessage::Long([0; 14])),
+        SSRReply::ModeS(ModeSMessage::Short([0; 7])),
+        mode_ac(false),
+        mode_ac(true),
+    ]
+}
+
+/// The specification's numbers at these samples per pulse are those that the reference's own expressions give.
+fn numbers_are_the_references() -> bool {
+    use reference::constants::dsp::SAMPLE_RATE_USIZE;
+    use reference::simulation::pulse_shape::{NUM_BRANCHES, TAPS_PER_BRANCH, required_samples_for_apply};
+    let n = HERE;
+    let pulses = [n.mode_s_taps, n.mode_ac_taps].map(|taps| n.prototype - taps + 1);
+    let wanted = match SPP {
+        4 => [307, 278],
+        _ => [614, 556],
+    };
+    n.rate == SAMPLE_RATE_USIZE as u64
+        && n.prototype == NUM_BRANCHES * TAPS_PER_BRANCH
+        && n.longest_reply == required_samples_for_apply(240)
+        && n.working_memory == 2 * (n.longest_reply + n.held_back)
+        && pulses == wanted
 }
 
 /// What was found about the Rust still holds.
@@ -59,7 +98,7 @@ pub fn findings(tally: &mut Tally) {
     }
 }
 
-/// How many records a run of 8,000 samples has with one reply at that start.
+/// How many records a run of a millisecond has with one reply at that start.
 fn last_start(start: u64) -> usize {
     judge::run(&make::one_reply_at(start)).map_or(99, |r| r.records.len() / RECORD_BYTES)
 }
@@ -86,9 +125,9 @@ pub fn sines(tally: &mut Tally, r: &mut Random) {
     }
 }
 
-/// Every damaged form of a tape.
-pub fn damaged(tally: &mut Tally, ours: &Ours, base: &Tape, seed: &str) {
-    for d in damage::some(base, &|_| true) {
+/// Every damaged form of a tape that is wanted.
+pub fn damaged(tally: &mut Tally, ours: &Ours, base: &Tape, seed: &str, wanted: &dyn Fn(usize) -> bool) {
+    for d in damage::some(base, wanted) {
         text(tally, ours, &format!("{seed}: {}", d.what), &d.bytes);
     }
 }
@@ -208,7 +247,7 @@ fn cuts(tally: &mut Tally, seed: &str, tape: &Tape, cut: &calls::Cut) {
     tally.compare("cut runs, reference and bench", seed, &cut.list.input, wrong);
 }
 
-/// The rules' refusals 2 to 4 are the reference's errors.
+/// The rules' refusals 2 to 4, at this program's samples per pulse, are the reference's errors.
 fn settings(tally: &mut Tally, r: &mut Random, seed: &str) {
     for _ in 0..4 {
         let mut s = make::settings(r, 1);

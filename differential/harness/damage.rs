@@ -1,7 +1,7 @@
 //! Tapes at and beyond each limit of the specification: for each limit the last value inside and the first outside. What must
 //! come of each is worked out by the rules and the reference, as for any tape.
 
-use crate::make::{GREATEST_LEVEL, LEAST_LEVEL, LEVELS_OUT_OF_RANGE, MODE_AC_LIMIT};
+use crate::make::{self, GREATEST_LEVEL, LEAST_LEVEL, LEVELS_OUT_OF_RANGE, MODE_AC_LIMIT, NO_SETTINGS};
 use crate::tape::*;
 use std::f64::consts::PI;
 
@@ -12,7 +12,7 @@ pub struct Damaged {
     pub tape: Option<Tape>,
 }
 
-/// Goes through all damages of a tape in a fixed order and makes those whose numbers are wanted.
+/// Goes through damages of a tape in a fixed order and makes those whose numbers are wanted.
 struct Maker<'a> {
     base: &'a Tape,
     wanted: &'a dyn Fn(usize) -> bool,
@@ -20,7 +20,18 @@ struct Maker<'a> {
     made: Vec<Damaged>,
 }
 
-impl Maker<'_> {
+impl<'a> Maker<'a> {
+    fn over(base: &'a Tape, wanted: &'a dyn Fn(usize) -> bool, damages: fn(&mut Maker)) -> Maker<'a> {
+        let mut m = Maker {
+            base,
+            wanted,
+            number: 0,
+            made: Vec::new(),
+        };
+        damages(&mut m);
+        m
+    }
+
     fn change(&mut self, what: String, f: impl FnOnce(&mut Tape)) {
         if self.next_is_wanted() {
             let mut t = self.base.clone();
@@ -56,43 +67,105 @@ fn around(x: f64) -> [f64; 3] {
 
 /// How many damages a tape has.
 pub fn count(base: &Tape) -> usize {
-    go(base, &|_| false).number
+    Maker::over(base, &|_| false, all).number
+}
+
+/// What tries the damages of the worked tapes: the tape program, run calls, bookings, and replies alone.
+#[derive(Clone, Copy)]
+pub enum User {
+    Texts,
+    Runs,
+    Bookings,
+    Singles,
+}
+
+/// Which damages of a worked tape a user tries in a run: all of them. But at 8 samples per pulse an opening takes four times as
+/// long, so where fewer than 1,000 tapes are asked for, each user tries there what is `always` tried and of the rest a quarter,
+/// another one than the other users. So with any seed each damage falls to one of the four, and with four seeds in a row to all of
+/// them; where the one that it falls to has no use for it, that seed leaves it out: bytes are for texts alone, bookings take no
+/// noise, and replies alone take the first draw.
+pub fn share(tapes: u64, seed: u64, user: User) -> impl Fn(usize) -> bool {
+    let whole = SPP == 4 || tapes >= 1000;
+    let kept = Maker::over(&make::worked(), &|_| false, always).number;
+    move |k| whole || k < kept || (k as u64).wrapping_add(seed).wrapping_add(user as u64) % 4 == 0
 }
 
 /// The damages of a tape whose numbers, from 0, are wanted.
 pub fn some(base: &Tape, wanted: &dyn Fn(usize) -> bool) -> Vec<Damaged> {
-    go(base, wanted).made
+    Maker::over(base, wanted, all).made
 }
 
-fn go<'a>(base: &'a Tape, wanted: &'a dyn Fn(usize) -> bool) -> Maker<'a> {
-    let mut m = Maker {
-        base,
-        wanted,
-        number: 0,
-        made: Vec::new(),
-    };
-    durations(&mut m);
-    rates(&mut m);
-    distributions(&mut m);
-    trigger_levels(&mut m);
-    taps(&mut m);
-    for draw in [0, base.draws.len() / 2, base.draws.len().saturating_sub(1)] {
-        if draw < base.draws.len() {
+fn all(m: &mut Maker) {
+    always(m);
+    rates(m);
+    trigger_levels(m);
+    taps(m);
+    let draws = m.base.draws.len();
+    for draw in [0, draws / 2, draws.saturating_sub(1)] {
+        if draw < draws {
             for kind in 0..7 {
-                fields(&mut m, draw, kind);
+                fields(m, draw, kind);
             }
         }
     }
-    noise(&mut m);
-    counts(&mut m);
-    m
+    noise(m);
+    counts(m);
+}
+
+/// Those at limits that are others at 8 samples per pulse. They come first, and are as many on every tape, so that `share` knows
+/// their numbers.
+fn always(m: &mut Maker) {
+    samples_per_pulse(m);
+    durations(m);
+    distributions(m);
+}
+
+/// Samples per pulse that are refused, with faults that come behind them; and the other setting's, by which everything else is
+/// then judged.
+fn samples_per_pulse(m: &mut Maker) {
+    for n in NO_SETTINGS.into_iter().chain([OTHER]) {
+        m.change(format!("{n} samples per pulse"), |t| t.settings.samples_per_pulse = n);
+        m.change(format!("{n} samples per pulse, 4,000,000,000 ns, level NaN"), |t| {
+            t.settings.samples_per_pulse = n;
+            t.settings.nanoseconds = 4_000_000_000;
+            t.settings.trigger_level = f32::NAN;
+        });
+        m.change(format!("{n} samples per pulse, an offset between the limits"), |t| {
+            t.settings.samples_per_pulse = n;
+            t.settings.carrier = Asked { kind: 0, first: -6e6, second: 0.0 };
+        });
+        m.change(format!("{n} samples per pulse, a duration between the limits"), |t| {
+            t.settings.samples_per_pulse = n;
+            t.settings.seconds = 400_000_000;
+        });
+        m.change(format!("{n} samples per pulse, {} taps", THERE.mode_s_taps + THERE.mode_ac_taps), |t| {
+            t.settings.samples_per_pulse = n;
+            t.taps.resize(THERE.mode_s_taps + THERE.mode_ac_taps, 0.0);
+            t.taps[0] = 17.0;
+        });
+        for (what, length) in [("nothing behind the settings", 128), ("settings one byte short", 127)] {
+            m.bytes(format!("{n} samples per pulse, 4,000,000,000 ns, level NaN, {what}"), |b| {
+                b[12..16].copy_from_slice(&4_000_000_000u32.to_le_bytes());
+                b[123..127].copy_from_slice(&f32::NAN.to_le_bytes());
+                b[127] = n;
+                b.truncate(length);
+            });
+        }
+    }
 }
 
 fn durations(m: &mut Maker) {
     for (seconds, nanoseconds) in [
         (0, 0),
+        (0, 62),
+        (0, 63),
+        (0, 187),
+        (0, 188),
         (0, 124),
         (0, 125),
+        (281_474_976, 710_656_062),
+        (281_474_976, 710_656_063),
+        (1_152_921_504_606, 0),
         (0, 999_999_999),
         (0, 1_000_000_000),
         (0, u32::MAX),
@@ -141,7 +214,7 @@ fn distributions(m: &mut Maker) {
         t.settings.clock.kind = 3;
     });
     let asked = |kind, first, second| Asked { kind, first, second };
-    let nyquist = around(4_000_000.0).into_iter().chain(around(-4_000_000.0));
+    let nyquist = [4_000_000.0, -4_000_000.0, 8_000_000.0, -8_000_000.0].into_iter().flat_map(around);
     for x in nyquist.chain(NOT_FINITE).chain(SIGNS) {
         m.change(format!("carrier constant {x:e}"), |t| {
             t.settings.carrier = asked(0, x, 0.0)
@@ -190,15 +263,18 @@ fn trigger_levels(m: &mut Maker) {
         });
         m.bytes(format!("trigger level {x:e}, nothing behind the settings"), |b| {
             b[123..127].copy_from_slice(&x.to_le_bytes());
-            b.truncate(127);
+            b.truncate(128);
         });
         m.bytes(format!("trigger level {x:e}, settings one byte short"), |b| {
             b[123..127].copy_from_slice(&x.to_le_bytes());
-            b.truncate(126);
+            b.truncate(127);
         });
     }
     m.bytes("settings of 119 bytes".into(), |b| {
-        b.drain(123..127);
+        b.drain(123..128);
+    });
+    m.bytes("settings of 123 bytes".into(), |b| {
+        b.remove(127);
     });
     // One level for both: a prototype that crosses it beside one whose top is the level, or just above it.
     for level in [LEAST_LEVEL, 0.25, GREATEST_LEVEL] {

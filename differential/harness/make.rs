@@ -14,6 +14,13 @@ pub const MODE_AC_LIMIT: f64 = f64::from_bits(0x3fb0_369d_0369_d028);
 pub const LEAST_LEVEL: f32 = 0.1;
 pub const GREATEST_LEVEL: f32 = 0.9;
 
+/// The most samples of a reply, and the largest carrier offset.
+const LIMIT: usize = HERE.longest_reply;
+const NYQUIST: f64 = HERE.rate as f64 / 2.0;
+
+/// Samples per pulse that are refused.
+pub const NO_SETTINGS: [u8; 12] = [0, 1, 2, 3, 5, 6, 7, 9, 12, 16, 64, 255];
+
 /// Trigger levels that are refused.
 pub const LEVELS_OUT_OF_RANGE: [f32; 10] = [
     LEAST_LEVEL.next_down(),
@@ -28,12 +35,12 @@ pub const LEVELS_OUT_OF_RANGE: [f32; 10] = [
     1.0,
 ];
 
-/// A low-pass filter: a Hamming-windowed sinc of that many taps, cutoff at 2 of 256, sum about 1.
+/// A low-pass filter: a Hamming-windowed sinc of that many taps, cutoff at 4 MHz, sum about 1.
 pub fn windowed_sinc(taps: usize) -> Vec<f32> {
     let middle = (taps - 1) as f64 / 2.0;
     let raw: Vec<f64> = (0..taps)
         .map(|k| {
-            let t = 2.0 * 2.0 / 256.0 * (k as f64 - middle);
+            let t = 2.0 * 2.0 / (64.0 * f64::from(SPP)) * (k as f64 - middle);
             let sinc = if t == 0.0 { 1.0 } else { (PI * t).sin() / (PI * t) };
             sinc * (0.54 - 0.46 * (2.0 * PI * k as f64 / (taps - 1) as f64).cos())
         })
@@ -64,10 +71,14 @@ fn filter(r: &mut Random, taps: usize) -> Vec<f32> {
     }
 }
 
-/// A filter whose prototype crosses 0.5 three entries before its end.
+/// A filter whose Mode S prototype crosses 0.5 three entries before its end, and at 8 samples per pulse four entries.
 pub fn late(taps: usize) -> Vec<f32> {
     let mut t = vec![0.0; taps];
-    for (k, x) in [16.0, -8.0, 0.5, -16.0].into_iter().enumerate() {
+    let last = match SPP {
+        4 => &[16.0, -8.0, 0.5, -16.0][..],
+        _ => &[16.0, 16.0, -15.0, -15.0, -15.0],
+    };
+    for (k, &x) in last.iter().enumerate() {
         t[taps - 1 - k] = x;
     }
     t
@@ -86,11 +97,11 @@ pub fn taps(r: &mut Random, level: f32) -> Vec<f32> {
 
 fn duration(r: &mut Random) -> usize {
     match r.below(8) {
-        0 => r.pick(&[0, 1, 2, 1093, 1094, 1095, 1096]),
-        1 => r.between(1093, 1127),
-        2 => 8000,
-        3 => r.between(8000, 20000),
-        _ => r.between(1100, 6000),
+        0 => r.pick(&[0, 1, 2, LIMIT - 1, LIMIT, LIMIT + 1, LIMIT + 2]),
+        1 => r.between(LIMIT - 1, LIMIT + 33),
+        2 => LIMIT + 6906,
+        3 => r.between(LIMIT + 6906, LIMIT + 18_906),
+        _ => r.between(LIMIT + 6, LIMIT + 4906),
     }
 }
 
@@ -111,14 +122,14 @@ fn asked(kind: u8, first: f64, second: f64) -> Asked {
 }
 
 fn carrier(r: &mut Random) -> Asked {
-    let edge = r.pick(&[4_000_000.0, -4_000_000.0, 0.0, -0.0, 1e-300]);
-    let some = r.within(4e6);
+    let edge = r.pick(&[NYQUIST, -NYQUIST, 0.0, -0.0, 1e-300]);
+    let some = r.within(NYQUIST);
     match r.below(5) {
         0 => asked(0, edge, f64::NAN),
         1 => asked(0, some, 0.0),
         2 => asked(1, r.pick(&[0.0, -0.0, 1e300, f64::MAX]), edge.abs()),
         3 => asked(1, 100e3, r.pick(&[0.0, -0.0, 1e6])),
-        _ => asked(1, some.abs(), 4_000_000.0),
+        _ => asked(1, some.abs(), NYQUIST),
     }
 }
 
@@ -172,15 +183,21 @@ pub fn trigger_level(r: &mut Random) -> f32 {
     }
 }
 
+/// The least nanoseconds that have so many samples.
+pub fn nanoseconds(samples: usize) -> usize {
+    (samples * 1_000_000_000).div_ceil(HERE.rate as usize)
+}
+
 pub fn settings(r: &mut Random, samples: usize) -> Settings {
     Settings {
         seconds: 0,
-        nanoseconds: (samples * 125 + r.below(125)) as u32,
+        nanoseconds: r.between(nanoseconds(samples), nanoseconds(samples + 1) - 1) as u32,
         rates: rates(r),
         carrier: carrier(r),
         phase: phase(r),
         clock: clock(r),
         trigger_level: trigger_level(r),
+        samples_per_pulse: SPP,
     }
 }
 
@@ -275,7 +292,7 @@ fn draw(r: &mut Random, s: &Settings, samples: usize, time: f64, dense: bool) ->
         4 => (some * 100.0).round() / 2.0,
         5 => {
             // A start near the last that is added, or near the first.
-            let back = r.pick(&[1094.0, 1095.0, 1096.0, 1093.0]);
+            let back = (LIMIT + r.pick(&[1, 2, 3, 0])) as f64 - 1.0;
             let start = r.pick(&[0.0, samples as f64 - back, samples as f64 - back]);
             (time_for_start(s, &d, start) - time).max(0.0)
         }
@@ -328,10 +345,10 @@ pub fn noise(r: &mut Random, samples: usize) -> Vec<f32> {
         .collect()
 }
 
-/// A tape on which first samples fall by as much as they can, 32: Mode A/C replies with the earliest taps, and at the same
+/// A tape on which first samples fall by as much as they can, 32 or near 64: Mode A/C replies with the earliest taps, and at the same
 /// times Mode S replies with late taps and the slowest clock.
 fn steep(r: &mut Random) -> Tape {
-    let samples = r.between(3000, 6000);
+    let samples = r.between(LIMIT + 1906, LIMIT + 4906);
     let mut s = settings(r, samples);
     s.rates = [1.0; 7];
     s.clock = asked(1, 0.1, 0.0);
@@ -368,7 +385,7 @@ fn steep(r: &mut Random) -> Tape {
 /// A tape on which most steps meet subnormal numbers: rates of the least f64, an offset of so few Hz, from a phase of 0, that
 /// sines are subnormal as f32, and noise of that size.
 fn faint(r: &mut Random) -> Tape {
-    let samples = r.between(2000, 6000);
+    let samples = r.between(LIMIT + 906, LIMIT + 4906);
     let mut s = settings(r, samples);
     s.rates = [5e-324; 7];
     s.carrier = asked(0, r.pick(&[1e-38, -1e-36, 1e-34, 1e-32]), 0.0);
@@ -410,6 +427,12 @@ pub fn tape(r: &mut Random) -> Tape {
     }
 }
 
+/// The samples of the worked tape, a millisecond.
+pub const WORKED_SAMPLES: usize = HERE.rate as usize / 1000;
+
+/// The last start at which the worked tape's run has a reply.
+pub const LAST_START: u64 = (WORKED_SAMPLES - LIMIT - 1) as u64;
+
 /// The worked tape with one reply, at that start, and the draw that ends it.
 pub fn one_reply_at(start: u64) -> Tape {
     let mut t = worked();
@@ -419,7 +442,7 @@ pub fn one_reply_at(start: u64) -> Tape {
     t
 }
 
-/// The worked tape (SPECIFICATION 11.3).
+/// The worked tape (SPECIFICATION 11.3), at this program's samples per pulse.
 pub fn worked() -> Tape {
     let zero = asked(0, 0.0, 0.0);
     let none = Draw {
@@ -446,6 +469,7 @@ pub fn worked() -> Tape {
             phase: zero,
             clock: zero,
             trigger_level: 0.5,
+            samples_per_pulse: SPP,
         },
         taps: [impulse(MODE_S_TAPS, 0, 1.0), impulse(MODE_AC_TAPS, 0, 1.0)].concat(),
         draws: vec![
@@ -465,7 +489,7 @@ pub fn worked() -> Tape {
                 ..none
             },
         ],
-        noise: vec![0.0; 16000],
+        noise: vec![0.0; 2 * WORKED_SAMPLES],
     }
 }
 
@@ -479,6 +503,6 @@ pub fn worked_drawn() -> Tape {
     t.draws[0].amplitude = 1.0;
     t.draws[1].clock = 0.05;
     t.settings.trigger_level = 0.75;
-    t.noise.truncate(4000);
+    t.noise.truncate(2 * WORKED_SAMPLES / 4);
     t
 }

@@ -30,11 +30,13 @@ mod parts {
     pub mod starts;
 }
 
+use damage::User;
 use random::Random;
 use std::path::PathBuf;
 use tally::Tally;
 
-/// `parts [COUNT] [SEED] [FOLDER] [TAPES]`: COUNT arguments for each function, TAPES whole runs and lists of calls.
+/// `parts [COUNT] [SEED] [FOLDER] [TAPES]`: COUNT arguments for each function, TAPES whole runs, lists of calls, bookings and
+/// single replies at the samples per pulse of the reference that it is built with. Functions are compared at 4 alone.
 fn main() {
     // The reference's panics are answers here.
     std::panic::set_hook(Box::new(|_| {}));
@@ -43,23 +45,32 @@ fn main() {
     let (count, seed) = (number(0, 100_000), number(1, 1));
     let folder = words.get(2).map_or("differences", String::as_str);
     let mut tally = Tally::new(PathBuf::from(folder));
-    let mut r = Random::new(seed);
-    parts::floats::compare(&mut tally, &mut r, count);
-    parts::carrier::compare(&mut tally, &mut r, count);
-    parts::replies::compare(&mut tally, &mut r, count);
-    parts::flips::compare(&mut tally, &mut Random::new(seed), count);
-    parts::interrogators::compare(&mut tally, &mut Random::new(seed), count);
-    parts::levels::compare(&mut tally, &mut Random::new(seed), count);
-    parts::pages::compare(&mut tally, &mut Random::new(seed), count);
-    parts::heard::compare(&mut tally, &mut Random::new(seed), count);
-    parts::rack::compare(&mut tally, &mut Random::new(seed), count);
-    parts::shape::compare(&mut tally, &mut r, count);
-    parts::starts::compare(&mut tally, &mut r, count);
-    parts::runs::compare(&mut tally, &mut Random::new(seed), number(3, 1000));
-    parts::booking::compare(&mut tally, &mut Random::new(seed), number(3, 1000));
-    parts::singles::compare(&mut tally, &mut Random::new(seed), number(3, 1000));
+    if tape::SPP == 4 {
+        functions(&mut tally, seed, count);
+    }
+    let tapes = number(3, 1000);
+    let wanted = |user| damage::share(tapes, seed, user);
+    parts::runs::compare(&mut tally, &mut Random::new(seed), tapes, &wanted(User::Runs));
+    parts::booking::compare(&mut tally, &mut Random::new(seed), tapes, &wanted(User::Bookings));
+    parts::singles::compare(&mut tally, &mut Random::new(seed), tapes, &wanted(User::Singles));
     tally.print();
     let (n, wrong) = tally.totals();
-    println!("parts: {n} comparisons, {wrong} differences");
+    println!("parts at {} samples per pulse: {n} comparisons, {wrong} differences", tape::SPP);
     std::process::exit(i32::from(wrong > 0));
+}
+
+/// Functions that know no samples per pulse, or whose C names are those at 4.
+fn functions(tally: &mut Tally, seed: u64, count: u64) {
+    let mut r = Random::new(seed);
+    parts::floats::compare(tally, &mut r, count);
+    parts::carrier::compare(tally, &mut r, count);
+    parts::replies::compare(tally, &mut r, count);
+    parts::flips::compare(tally, &mut Random::new(seed), count);
+    parts::interrogators::compare(tally, &mut Random::new(seed), count);
+    parts::levels::compare(tally, &mut Random::new(seed), count);
+    parts::pages::compare(tally, &mut Random::new(seed), count);
+    parts::heard::compare(tally, &mut Random::new(seed), count);
+    parts::rack::compare(tally, &mut Random::new(seed), count);
+    parts::shape::compare(tally, &mut r, count);
+    parts::starts::compare(tally, &mut r, count);
 }

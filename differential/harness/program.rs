@@ -31,19 +31,29 @@ impl<'a> Reader<'a> {
 pub enum Outcome {
     Run(Run),
     Refused(Refusal),
-    /// The reference stopped in a way that the specification does not name: a finding.
+    /// The reference stopped in a way that the specification does not name: a finding. Or it is the other setting's tape.
     Surprise(String),
 }
 
+impl From<Refusal> for Outcome {
+    fn from(r: Refusal) -> Outcome {
+        Outcome::Refused(r)
+    }
+}
+
 /// Reads the sections in tape order, each checked before the next is read.
-fn read(bytes: &[u8]) -> Result<(Tape, bool), Refusal> {
+fn read(bytes: &[u8]) -> Result<(Tape, bool), Outcome> {
     let mut r = Reader { rest: bytes };
     r.count(|n| n == 1)?;
     let settings = Settings::from_bytes(r.take(SETTINGS_BYTES)?);
     rules::settings(&settings)?;
-    r.count(|n| n == TAPS)?;
-    let taps = floats(r.take(4 * TAPS)?);
-    rules::taps(&taps[..MODE_S_TAPS], &taps[MODE_S_TAPS..])?;
+    let of_mode_s = settings.numbers().mode_s_taps;
+    let n = r.count(|n| n == of_mode_s + settings.numbers().mode_ac_taps)?;
+    let taps = floats(r.take(4 * n)?);
+    rules::taps(&settings, &taps[..of_mode_s], &taps[of_mode_s..])?;
+    if settings.samples_per_pulse != SPP {
+        return Err(Outcome::Surprise(format!("a tape at {OTHER} samples per pulse, and this reference has {SPP}")));
+    }
     let [mode_s, mode_ac] = judge::prototypes(&taps, settings.trigger_level);
     rules::prototypes([&mode_s, &mode_ac], settings.trigger_level)?;
     let n = r.count(|n| n <= MOST_DRAWS)?;
@@ -68,7 +78,7 @@ fn read(bytes: &[u8]) -> Result<(Tape, bool), Refusal> {
 pub fn outcome(bytes: &[u8]) -> Outcome {
     let (tape, whole) = match read(bytes) {
         Ok(t) => t,
-        Err(r) => return Outcome::Refused(r),
+        Err(outcome) => return outcome,
     };
     if tape.noise.len() as u128 / 2 < tape.settings.samples() {
         // The noise cannot last to Done, however the draws fall.

@@ -1,6 +1,6 @@
 //! The table of refusals (SPECIFICATION 3.1), rule by rule, written from the text alone.
 
-use crate::tape::{Asked, Draw, MODE_AC_TAPS, MODE_S_TAPS, Settings};
+use crate::tape::{Asked, Draw, Settings, numbers};
 use std::f64::consts::PI;
 
 /// A number of the table and the values that go with it.
@@ -31,11 +31,23 @@ pub fn refused_draw(draw: u64, field: u64) -> Refusal {
     }
 }
 
-/// Refusals 1 to 4 and 14, in that order.
-pub fn settings(s: &Settings) -> Result<(), Refusal> {
+/// Refusal 15, before which no length is known.
+pub fn samples_per_pulse(s: &Settings) -> Result<(), Refusal> {
+    numbers(s.samples_per_pulse).map(|_| ()).ok_or(refusal(15))
+}
+
+/// Refusal 1.
+pub fn duration(s: &Settings) -> Result<(), Refusal> {
     if s.nanoseconds >= 1_000_000_000 || s.samples() > 1 << 52 {
         return Err(refusal(1));
     }
+    Ok(())
+}
+
+/// Refusals 15, 1 to 4 and 14, in that order.
+pub fn settings(s: &Settings) -> Result<(), Refusal> {
+    samples_per_pulse(s)?;
+    duration(s)?;
     for (k, &rate) in s.rates.iter().enumerate() {
         if !rate.is_finite() || rate < 0.0 {
             return Err(refusal_at(2, k as u64));
@@ -45,7 +57,8 @@ pub fn settings(s: &Settings) -> Result<(), Refusal> {
     if total == 0.0 || !total.is_finite() {
         return Err(refusal(3));
     }
-    let right = [carrier(s.carrier), phase(s.phase), clock(s.clock)];
+    let most = s.numbers().rate as f64 / 2.0;
+    let right = [carrier(s.carrier, most), phase(s.phase), clock(s.clock)];
     match right.iter().position(|r| !r) {
         Some(k) => Err(refusal_at(4, k as u64)),
         None if !trigger_level(s.trigger_level) => Err(refusal(14)),
@@ -58,10 +71,10 @@ fn trigger_level(level: f32) -> bool {
     (0.1..=0.9).contains(&level)
 }
 
-fn carrier(d: Asked) -> bool {
+fn carrier(d: Asked, most: f64) -> bool {
     match d.kind {
-        0 => d.first.abs() <= 4_000_000.0,
-        1 => d.first.is_finite() && d.first >= 0.0 && (0.0..=4_000_000.0).contains(&d.second),
+        0 => d.first.abs() <= most,
+        1 => d.first.is_finite() && d.first >= 0.0 && (0.0..=most).contains(&d.second),
         _ => false,
     }
 }
@@ -82,9 +95,10 @@ fn clock(d: Asked) -> bool {
     }
 }
 
-/// Refusal 5.
-pub fn taps(mode_s: &[f32], mode_ac: &[f32]) -> Result<(), Refusal> {
-    let lengths = mode_s.len() == MODE_S_TAPS && mode_ac.len() == MODE_AC_TAPS;
+/// Refusal 5, of the filters of a run of these settings.
+pub fn taps(s: &Settings, mode_s: &[f32], mode_ac: &[f32]) -> Result<(), Refusal> {
+    let n = s.numbers();
+    let lengths = mode_s.len() == n.mode_s_taps && mode_ac.len() == n.mode_ac_taps;
     let small = mode_s.iter().chain(mode_ac).all(|t| t.abs() <= 16.0);
     if lengths && small { Ok(()) } else { Err(refusal(5)) }
 }

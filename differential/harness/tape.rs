@@ -1,14 +1,59 @@
-//! The tape (SPECIFICATION 4.6): its parts and its bytes.
+//! The tape (SPECIFICATION 4.6): its parts and its bytes, and the numbers that follow from its samples per pulse.
 
 pub use lent::Draw;
 
-pub const SETTINGS_BYTES: usize = 123;
+pub const SETTINGS_BYTES: usize = 124;
 pub const DRAW_BYTES: usize = 65;
 pub const RECORD_BYTES: usize = 66;
-pub const MODE_S_TAPS: usize = 1486;
-pub const MODE_AC_TAPS: usize = 1515;
-pub const TAPS: usize = MODE_S_TAPS + MODE_AC_TAPS;
 pub const MOST_DRAWS: usize = 400;
+
+/// What follows from the samples per pulse.
+#[derive(Debug, Clone, Copy, PartialEq, Eq)]
+pub struct Numbers {
+    /// Samples a second.
+    pub rate: u64,
+    pub mode_s_taps: usize,
+    pub mode_ac_taps: usize,
+    pub prototype: usize,
+    pub working_memory: usize,
+    pub longest_reply: usize,
+    pub held_back: usize,
+}
+
+/// SPECIFICATION's numbers at 4 and at 8; there are none for another number.
+pub const fn numbers(samples_per_pulse: u8) -> Option<Numbers> {
+    match samples_per_pulse {
+        4 => Some(Numbers {
+            rate: 8_000_000,
+            mode_s_taps: 1486,
+            mode_ac_taps: 1515,
+            prototype: 1792,
+            working_memory: 2252,
+            longest_reply: 1094,
+            held_back: 32,
+        }),
+        8 => Some(Numbers {
+            rate: 16_000_000,
+            mode_s_taps: 2971,
+            mode_ac_taps: 3029,
+            prototype: 3584,
+            working_memory: 4502,
+            longest_reply: 2187,
+            held_back: 64,
+        }),
+        _ => None,
+    }
+}
+
+/// The samples per pulse of the reference that this program is built with, and their numbers. A tape of the other setting goes
+/// by the rules as far as they refuse it; `OTHER` is that setting.
+pub const SPP: u8 = reference::constants::dsp::SPS as u8;
+pub const OTHER: u8 = 12 - SPP;
+pub const HERE: Numbers = numbers(SPP).unwrap();
+pub const THERE: Numbers = numbers(OTHER).unwrap();
+pub const MODE_S_TAPS: usize = HERE.mode_s_taps;
+pub const MODE_AC_TAPS: usize = HERE.mode_ac_taps;
+pub const TAPS: usize = MODE_S_TAPS + MODE_AC_TAPS;
 
 /// A distribution: its kind and two numbers, a lone one in the first.
 #[derive(Debug, Clone, Copy)]
@@ -27,6 +72,7 @@ pub struct Settings {
     pub phase: Asked,
     pub clock: Asked,
     pub trigger_level: f32,
+    pub samples_per_pulse: u8,
 }
 
 #[derive(Debug, Clone)]
@@ -38,9 +84,15 @@ pub struct Tape {
 }
 
 impl Settings {
+    /// The numbers of its samples per pulse; those of 4, where the rules refuse it.
+    pub fn numbers(&self) -> Numbers {
+        numbers(self.samples_per_pulse).unwrap_or(numbers(4).unwrap())
+    }
+
     /// The duration in samples; the seconds may be any number.
     pub fn samples(&self) -> u128 {
-        u128::from(self.seconds) * 8_000_000 + u128::from(self.nanoseconds) / 125
+        let rate = u128::from(self.numbers().rate);
+        u128::from(self.seconds) * rate + u128::from(self.nanoseconds) * (rate / 8_000_000) / 125
     }
 
     pub fn to_bytes(&self) -> Vec<u8> {
@@ -56,6 +108,7 @@ impl Settings {
             b.extend(d.second.to_le_bytes());
         }
         b.extend(self.trigger_level.to_le_bytes());
+        b.push(self.samples_per_pulse);
         assert_eq!(b.len(), SETTINGS_BYTES);
         b
     }
@@ -74,6 +127,7 @@ impl Settings {
             phase: asked(85),
             clock: asked(102),
             trigger_level: f32_at(b, 119),
+            samples_per_pulse: b[123],
         }
     }
 }

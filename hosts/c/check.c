@@ -1,35 +1,62 @@
-/* What the header says of lengths, tried: a pointer lent with length 0 may be NULL, and settings, prototypes and working
- * memory of another length are refused 9 before anything else is looked at, by a booking and one reply alone too. And what it says of levels that
- * are refused. It exits with 0 where all is so.
+/* What the header says of lengths, tried at 4 and at 8 samples per pulse: a pointer lent with length 0 may be NULL; settings of
+ * another length are refused 9 and another number of samples per pulse 15, before anything else is looked at, by a booking and
+ * one reply alone too; then prototypes and working memory of another length. And what it says of levels that are refused. It
+ * exits with 0 where all is so.
  *
  *     c_check */
 #include "inputs.h"
 #include <stdio.h>
 
 static int failed = 0;
+static unsigned spp = 4;
 
 static void expect(const char *what, uint64_t wanted, uint64_t found) {
     if (wanted != found) {
-        fprintf(stderr, "%s: %llu wanted, %llu found\n", what, (unsigned long long)wanted, (unsigned long long)found);
+        fprintf(stderr, "%s, %u samples per pulse: %llu wanted, %llu found\n", what, spp, (unsigned long long)wanted,
+                (unsigned long long)found);
         failed = 1;
     }
 }
 
 static uint8_t settings[MORE1090_SETTINGS_LEN + 5];
-static float taps_s[MORE1090_MODE_S_TAPS_LEN], taps_ac[MORE1090_MODE_AC_TAPS_LEN];
-static float mode_s[MORE1090_PROTOTYPE_LEN], mode_ac[MORE1090_PROTOTYPE_LEN], memory[MORE1090_MEMORY_LEN];
+static float taps_s[MORE1090_MODE_S_TAPS_LEN(8)], taps_ac[MORE1090_MODE_AC_TAPS_LEN(8)];
+static float mode_s[MORE1090_PROTOTYPE_LEN(8)], mode_ac[MORE1090_PROTOTYPE_LEN(8)], memory[MORE1090_MEMORY_LEN(8)];
+
+/* What is lent, as far as the samples per pulse ask for it. */
+#define ALL_TAPS_S taps_s, MORE1090_MODE_S_TAPS_LEN(spp)
+#define ALL_TAPS_AC taps_ac, MORE1090_MODE_AC_TAPS_LEN(spp)
+#define ALL_MODE_S mode_s, MORE1090_PROTOTYPE_LEN(spp)
+#define ALL_MODE_AC mode_ac, MORE1090_PROTOTYPE_LEN(spp)
+#define ALL_MEMORY memory, MORE1090_MEMORY_LEN(spp)
 
 /* The refusal of an opening that is lent all, but for what is named: that is NULL. */
 static uint64_t opened_without(const void *none) {
-#define OR_NULL(list) (none == (list) ? NULL : (list)), (none == (list) ? 0 : sizeof(list) / sizeof *(list))
-    const size_t length = none == settings ? 0 : MORE1090_SETTINGS_LEN;
-    return more1090_open(length == 0 ? NULL : settings, length, OR_NULL(taps_s), OR_NULL(taps_ac), OR_NULL(mode_s),
-                         OR_NULL(mode_ac), OR_NULL(memory))
+#define OR_NULL(list, length) (none == (list) ? NULL : (list)), (none == (list) ? 0 : (length))
+    return more1090_open(OR_NULL(settings, MORE1090_SETTINGS_LEN), OR_NULL(taps_s, MORE1090_MODE_S_TAPS_LEN(spp)),
+                         OR_NULL(taps_ac, MORE1090_MODE_AC_TAPS_LEN(spp)), OR_NULL(mode_s, MORE1090_PROTOTYPE_LEN(spp)),
+                         OR_NULL(mode_ac, MORE1090_PROTOTYPE_LEN(spp)), OR_NULL(memory, MORE1090_MEMORY_LEN(spp)))
+        .refusal;
+}
+
+/* The refusal of an opening that is lent prototypes and memory of these lengths. */
+static uint64_t opened_on(size_t of_s, size_t of_ac, size_t of_memory) {
+    return more1090_open(settings, MORE1090_SETTINGS_LEN, ALL_TAPS_S, ALL_TAPS_AC, mode_s, of_s, mode_ac, of_ac, memory, of_memory)
+        .refusal;
+}
+
+/* The refusal of an opening that is lent all, in the lengths of these samples per pulse: those of the taps, and of the rest. */
+static uint64_t opened_at(unsigned of_taps, unsigned of_rest) {
+    return more1090_open(settings, MORE1090_SETTINGS_LEN, taps_s, MORE1090_MODE_S_TAPS_LEN(of_taps), taps_ac,
+                         MORE1090_MODE_AC_TAPS_LEN(of_taps), mode_s, MORE1090_PROTOTYPE_LEN(of_rest), mode_ac,
+                         MORE1090_PROTOTYPE_LEN(of_rest), memory, MORE1090_MEMORY_LEN(of_rest))
         .refusal;
 }
 
 static void check_opening(void) {
-    const size_t lengths[] = {0, 119, 122, 124, 128};
+    const size_t lengths[] = {0, 119, 123, 125, 129};
+    const uint8_t others[] = {0, 2, 5, 16, 255};
+    const unsigned there = 12 - spp; /* the other setting */
+    const size_t prototype = MORE1090_PROTOTYPE_LEN(spp), other = MORE1090_PROTOTYPE_LEN(there);
     const uint32_t second = 1000000000;
     expect("no settings", MORE1090_ERR_LENGTH, opened_without(settings));
     expect("no Mode S prototype", MORE1090_ERR_LENGTH, opened_without(mode_s));
@@ -38,17 +65,29 @@ static void check_opening(void) {
     expect("no Mode S taps", MORE1090_ERR_TAPS, opened_without(taps_s));
     expect("no Mode A/C taps", MORE1090_ERR_TAPS, opened_without(taps_ac));
     expect("nothing", MORE1090_ERR_LENGTH, more1090_open(NULL, 0, NULL, 0, NULL, 0, NULL, 0, NULL, 0, NULL, 0).refusal);
-    make_settings(settings, 0.05f);
+    make_settings(settings, 0.05f, spp);
     expect("a trigger level below 0.1", MORE1090_ERR_TRIGGER_LEVEL, opened_without(taps_s));
-    make_settings(settings, 0.9f);
+    make_settings(settings, 0.9f, spp);
     expect("a trigger level of 0.9", MORE1090_OK, opened_without(NULL));
+    expect("a shorter memory", MORE1090_ERR_LENGTH, opened_on(prototype, prototype, MORE1090_MEMORY_LEN(spp) - 1));
+    expect("the other setting's memory", MORE1090_ERR_LENGTH, opened_on(prototype, prototype, MORE1090_MEMORY_LEN(there)));
+    expect("the other setting's Mode S prototype", MORE1090_ERR_LENGTH, opened_on(other, prototype, MORE1090_MEMORY_LEN(spp)));
+    expect("the other setting's Mode A/C prototype", MORE1090_ERR_LENGTH, opened_on(prototype, other, MORE1090_MEMORY_LEN(spp)));
+    expect("the other setting's taps", MORE1090_ERR_TAPS, opened_at(there, spp));
+    expect("the other setting's prototypes and memory", MORE1090_ERR_LENGTH, opened_at(spp, there));
+    expect("all lengths of the other setting", MORE1090_ERR_LENGTH, opened_at(there, there));
     put(settings + 8, &second, 4); /* refusal 1, where it is read */
     expect("nanoseconds", MORE1090_ERR_DURATION, opened_without(NULL));
     for (int k = 0; k < 5; k++)
         expect("settings of another length", MORE1090_ERR_LENGTH,
-               more1090_open(settings, lengths[k], taps_s, MORE1090_MODE_S_TAPS_LEN, taps_ac, MORE1090_MODE_AC_TAPS_LEN, mode_s,
-                             MORE1090_PROTOTYPE_LEN, mode_ac, MORE1090_PROTOTYPE_LEN, memory, MORE1090_MEMORY_LEN)
-                   .refusal);
+               more1090_open(settings, lengths[k], ALL_TAPS_S, ALL_TAPS_AC, ALL_MODE_S, ALL_MODE_AC, ALL_MEMORY).refusal);
+    for (int k = 0; k < 5; k++) {
+        settings[MORE1090_SETTINGS_LEN - 1] = others[k];
+        expect("other samples per pulse", MORE1090_ERR_SAMPLES_PER_PULSE, opened_without(memory));
+    }
+    settings[MORE1090_SETTINGS_LEN - 1] = (uint8_t)there;
+    expect("the other setting, with this one's lengths", MORE1090_ERR_LENGTH, opened_at(spp, spp));
+    expect("the other setting, with its own", MORE1090_ERR_DURATION, opened_at(there, there));
 }
 
 static uint8_t draws[2 * MORE1090_DRAW_LEN], records[MORE1090_RECORD_LEN];
@@ -56,25 +95,23 @@ static float noise[2], output[400];
 
 /* A call that is lent prototypes and memory, and of the rest so many bytes or floats: where none, NULL. */
 static more1090_run_result called(more1090_state state, size_t d, size_t n, size_t o, size_t r) {
-    return more1090_run(state, mode_s, MORE1090_PROTOTYPE_LEN, mode_ac, MORE1090_PROTOTYPE_LEN, memory, MORE1090_MEMORY_LEN,
-                        d == 0 ? NULL : draws, d, n == 0 ? NULL : noise, n, o == 0 ? NULL : output, o,
-                        r == 0 ? NULL : records, r);
+    return more1090_run(state, ALL_MODE_S, ALL_MODE_AC, ALL_MEMORY, d == 0 ? NULL : draws, d, n == 0 ? NULL : noise, n,
+                        o == 0 ? NULL : output, o, r == 0 ? NULL : records, r);
 }
 
 static void check_calls(void) {
-    make_settings(settings, 0.5f);
-    make_draw(draws, 0);
-    make_draw(draws + MORE1090_DRAW_LEN, 1);
+    make_settings(settings, 0.5f, spp);
+    make_draw(draws, 0, spp);
+    make_draw(draws + MORE1090_DRAW_LEN, 1, spp);
     const more1090_state state =
-        more1090_open(settings, MORE1090_SETTINGS_LEN, taps_s, MORE1090_MODE_S_TAPS_LEN, taps_ac, MORE1090_MODE_AC_TAPS_LEN, mode_s,
-                      MORE1090_PROTOTYPE_LEN, mode_ac, MORE1090_PROTOTYPE_LEN, memory, MORE1090_MEMORY_LEN)
-            .state;
-    expect("samples of the run", 80000, state.total);
+        more1090_open(settings, MORE1090_SETTINGS_LEN, ALL_TAPS_S, ALL_TAPS_AC, ALL_MODE_S, ALL_MODE_AC, ALL_MEMORY).state;
+    expect("samples of the run", MORE1090_SAMPLE_RATE(spp) / 100, state.total);
+    expect("its samples per pulse", spp, state.samples_per_pulse);
     expect("no draws, no noise, no records", MORE1090_STOP_WANTS_DRAWS, called(state, 0, 0, 400, 0).stop);
     expect("no noise", MORE1090_STOP_WANTS_NOISE, called(state, sizeof draws, 0, 400, sizeof records).stop);
     expect("no output", MORE1090_ERR_LENGTH, called(state, sizeof draws, 2, 0, sizeof records).refusal);
     expect("noise for one sample", 1, called(state, sizeof draws, 2, 400, 0).samples_written);
-    put_f64(draws, 20.0); /* a first reply that starts within 32 samples: its record comes before any sample */
+    put_f64(draws, 40.0); /* a first reply that starts within the samples held back: its record comes before any sample */
     expect("no records", MORE1090_STOP_RECORDS_FULL, called(state, sizeof draws, 2, 400, 0).stop);
     /* a reply's whole count belongs to the call that takes its draw */
     const more1090_run_result added = called(state, MORE1090_DRAW_LEN, 0, 400, sizeof records);
@@ -89,46 +126,54 @@ static void check_calls(void) {
     expect("refused", 0, called(added.state, 1, 2, 400, sizeof records).samples_added_low);
     expect("nothing", MORE1090_ERR_LENGTH,
            more1090_run(state, NULL, 0, NULL, 0, NULL, 0, NULL, 0, NULL, 0, NULL, 0, NULL, 0).refusal);
+    more1090_state forged = state;
+    forged.samples_per_pulse = 12 - spp;
+    expect("the other setting's lengths", MORE1090_ERR_LENGTH, called(forged, sizeof draws, 2, 400, sizeof records).refusal);
+    forged.samples_per_pulse = 5;
+    expect("a state of 5 samples per pulse", spp == 4 ? MORE1090_OK : MORE1090_ERR_LENGTH,
+           called(forged, sizeof draws, 2, 400, sizeof records).refusal);
+    expect("which comes back with 4", 4, called(forged, sizeof draws, 2, 400, sizeof records).state.samples_per_pulse);
 }
 
 static more1090_booking_result booked(size_t settings_length, size_t taps, size_t d) {
     return more1090_booking(settings_length == 0 ? NULL : settings, settings_length, taps == 0 ? NULL : taps_s, taps, taps_ac,
-                            MORE1090_MODE_AC_TAPS_LEN, d == 0 ? NULL : draws, d);
+                            MORE1090_MODE_AC_TAPS_LEN(spp), d == 0 ? NULL : draws, d);
 }
 
 static void check_booking(void) {
-    make_settings(settings, 0.5f);
-    make_draw(draws, 0);
-    make_draw(draws + MORE1090_DRAW_LEN, 1);
-    const more1090_booking_result none = booked(MORE1090_SETTINGS_LEN, MORE1090_MODE_S_TAPS_LEN, 0);
+    make_settings(settings, 0.5f, spp);
+    make_draw(draws, 0, spp);
+    make_draw(draws + MORE1090_DRAW_LEN, 1, spp);
+    const size_t taps = MORE1090_MODE_S_TAPS_LEN(spp);
+    const more1090_booking_result none = booked(MORE1090_SETTINGS_LEN, taps, 0);
     expect("a booking of no draws", MORE1090_OK, none.refusal);
-    expect("its samples", 80000, none.samples);
-    expect("its noise values", 160000, none.noise);
+    expect("its samples", MORE1090_SAMPLE_RATE(spp) / 100, none.samples);
+    expect("its noise values", 2 * none.samples, none.noise);
     expect("its draws ran out", 0, none.ended + none.draws_taken + none.records);
-    expect("a booking with no settings", MORE1090_ERR_LENGTH, booked(0, MORE1090_MODE_S_TAPS_LEN, 0).refusal);
+    expect("a booking with no settings", MORE1090_ERR_LENGTH, booked(0, taps, 0).refusal);
     expect("a booking with no taps", MORE1090_ERR_TAPS, booked(MORE1090_SETTINGS_LEN, 0, 0).refusal);
     expect("a booking of a draw and a byte", MORE1090_ERR_LENGTH,
-           booked(MORE1090_SETTINGS_LEN, MORE1090_MODE_S_TAPS_LEN, MORE1090_DRAW_LEN + 1).refusal);
+           booked(MORE1090_SETTINGS_LEN, taps, MORE1090_DRAW_LEN + 1).refusal);
     expect("a booking of nothing", MORE1090_ERR_LENGTH, more1090_booking(NULL, 0, NULL, 0, NULL, 0, NULL, 0).refusal);
-    const more1090_booking_result two = booked(MORE1090_SETTINGS_LEN, MORE1090_MODE_S_TAPS_LEN, sizeof draws);
-    const more1090_booking_result first = booked(MORE1090_SETTINGS_LEN, MORE1090_MODE_S_TAPS_LEN, MORE1090_DRAW_LEN);
-    const more1090_booking_result second =
-        more1090_booking_part(first.time, settings, MORE1090_SETTINGS_LEN, taps_s, MORE1090_MODE_S_TAPS_LEN, taps_ac,
-                              MORE1090_MODE_AC_TAPS_LEN, draws + MORE1090_DRAW_LEN, MORE1090_DRAW_LEN);
+    const more1090_booking_result two = booked(MORE1090_SETTINGS_LEN, taps, sizeof draws);
+    const more1090_booking_result first = booked(MORE1090_SETTINGS_LEN, taps, MORE1090_DRAW_LEN);
+    const more1090_booking_result second = more1090_booking_part(first.time, settings, MORE1090_SETTINGS_LEN, ALL_TAPS_S,
+                                                                 ALL_TAPS_AC, draws + MORE1090_DRAW_LEN, MORE1090_DRAW_LEN);
     expect("records in parts", two.records, first.records + second.records);
     expect("draws taken in parts", two.draws_taken, first.draws_taken + second.draws_taken);
+    settings[MORE1090_SETTINGS_LEN - 1] = 5;
+    expect("a booking at 5 samples per pulse", MORE1090_ERR_SAMPLES_PER_PULSE, booked(MORE1090_SETTINGS_LEN, 0, 1).refusal);
 }
 
 static more1090_single_result alone(size_t settings_length, size_t d, size_t n, size_t o) {
-    return more1090_single(settings_length == 0 ? NULL : settings, settings_length, taps_s, MORE1090_MODE_S_TAPS_LEN, taps_ac,
-                           MORE1090_MODE_AC_TAPS_LEN, d == 0 ? NULL : draws, d, n == 0 ? NULL : noise, n, o == 0 ? NULL : output,
-                           o);
+    return more1090_single(settings_length == 0 ? NULL : settings, settings_length, ALL_TAPS_S, ALL_TAPS_AC, d == 0 ? NULL : draws,
+                           d, n == 0 ? NULL : noise, n, o == 0 ? NULL : output, o);
 }
 
 static void check_single(void) {
-    const uint32_t none = 124, one = 125;
-    make_settings(settings, 0.5f);
-    make_draw(draws, 0);
+    const uint32_t none = spp == 8 ? 62 : 124, one = none + 1;
+    make_settings(settings, 0.5f, spp);
+    make_draw(draws, 0, spp);
     put(settings + 8, &none, 4);
     output[0] = 7.0f;
     expect("no samples", MORE1090_OK, alone(MORE1090_SETTINGS_LEN, MORE1090_DRAW_LEN, 0, 0).refusal);
@@ -143,6 +188,8 @@ static void check_single(void) {
     expect("no draw", MORE1090_ERR_LENGTH, alone(MORE1090_SETTINGS_LEN, 0, 2, 2).refusal);
     expect("two draws", MORE1090_ERR_LENGTH, alone(MORE1090_SETTINGS_LEN, sizeof draws, 2, 2).refusal);
     expect("no settings", MORE1090_ERR_LENGTH, alone(0, MORE1090_DRAW_LEN, 2, 2).refusal);
+    settings[MORE1090_SETTINGS_LEN - 1] = 5;
+    expect("5 samples per pulse", MORE1090_ERR_SAMPLES_PER_PULSE, alone(MORE1090_SETTINGS_LEN, 0, 0, 1).refusal);
     expect("nothing", MORE1090_ERR_LENGTH, more1090_single(NULL, 0, NULL, 0, NULL, 0, NULL, 0, NULL, 0, NULL, 0).refusal);
 }
 
@@ -213,15 +260,21 @@ static void check_rack(void) {
     expect("no memory", MORE1090_ERR_LENGTH, more1090_rack_run(rack, NULL, 0, NULL, 0, NULL, 0).refusal);
 }
 
-int main(void) {
-    make_settings(settings, 0.5f);
-    make_taps(taps_s, MORE1090_MODE_S_TAPS_LEN);
-    make_taps(taps_ac, MORE1090_MODE_AC_TAPS_LEN);
+static void check_runs(unsigned samples_per_pulse) {
+    spp = samples_per_pulse;
+    make_settings(settings, 0.5f, spp);
+    make_taps(ALL_TAPS_S, spp);
+    make_taps(ALL_TAPS_AC, spp);
     expect("all that is asked for", MORE1090_OK, opened_without(NULL));
     check_opening();
     check_calls();
     check_booking();
     check_single();
+}
+
+int main(void) {
+    check_runs(8);
+    check_runs(4);
     check_levels();
     check_pages();
     check_logs();

@@ -11,7 +11,7 @@
 #define DEFAULT 0x1f80u
 #define CONTROL 0xffc0u
 #define DRAWS 7
-#define SAMPLES 80000
+#define SAMPLES (MORE1090_SAMPLE_RATE(8) / 100) /* room for either setting */
 #define FED 4096 /* samples that a rack takes */
 
 more1090_open_result more1090_proved_open(const uint8_t *, size_t, const float *, size_t, const float *, size_t, float *, size_t,
@@ -31,9 +31,11 @@ more1090_rack_result more1090_proved_rack_open(float *, size_t, const uint64_t *
 more1090_rack_result more1090_proved_rack_run(more1090_rack, float *, size_t, const float *, size_t, float *, size_t);
 
 /* What a whole run is given. The last draw ends it. */
+static unsigned spp;
 static size_t draws_length;
 static uint8_t settings[MORE1090_SETTINGS_LEN], draws[(DRAWS + 1) * MORE1090_DRAW_LEN];
-static float taps_s[MORE1090_MODE_S_TAPS_LEN], taps_ac[MORE1090_MODE_AC_TAPS_LEN], noise[2 * SAMPLES];
+static float taps_s[MORE1090_MODE_S_TAPS_LEN(8)], taps_ac[MORE1090_MODE_AC_TAPS_LEN(8)], noise[2 * SAMPLES];
+#define GIVEN settings, sizeof settings, taps_s, MORE1090_MODE_S_TAPS_LEN(spp), taps_ac, MORE1090_MODE_AC_TAPS_LEN(spp)
 
 /* What it answers and writes. */
 typedef struct outcome {
@@ -76,27 +78,23 @@ static void run_rack(unsigned word, int guarded, outcome *to) {
 }
 
 static void run(unsigned word, int guarded, outcome *to) {
-    static float mode_s[MORE1090_PROTOTYPE_LEN], mode_ac[MORE1090_PROTOTYPE_LEN], memory[MORE1090_MEMORY_LEN];
+    static float mode_s[MORE1090_PROTOTYPE_LEN(8)], mode_ac[MORE1090_PROTOTYPE_LEN(8)], memory[MORE1090_MEMORY_LEN(8)];
+    const size_t of_prototype = MORE1090_PROTOTYPE_LEN(spp), of_memory = MORE1090_MEMORY_LEN(spp);
     memset(to, 0, sizeof *to);
     _mm_setcsr(word);
-    more1090_open_result o = (guarded ? more1090_open : more1090_proved_open)(
-        settings, sizeof settings, taps_s, MORE1090_MODE_S_TAPS_LEN, taps_ac, MORE1090_MODE_AC_TAPS_LEN, mode_s,
-        MORE1090_PROTOTYPE_LEN, mode_ac, MORE1090_PROTOTYPE_LEN, memory, MORE1090_MEMORY_LEN);
+    more1090_open_result o = (guarded ? more1090_open : more1090_proved_open)(GIVEN, mode_s, of_prototype, mode_ac, of_prototype,
+                                                                              memory, of_memory);
     given_back(word);
     more1090_run_result r = (guarded ? more1090_run : more1090_proved_run)(
-        o.state, mode_s, MORE1090_PROTOTYPE_LEN, mode_ac, MORE1090_PROTOTYPE_LEN, memory, MORE1090_MEMORY_LEN, draws,
-        draws_length, noise, 2 * SAMPLES, to->output, 2 * SAMPLES, to->records, sizeof to->records);
+        o.state, mode_s, of_prototype, mode_ac, of_prototype, memory, of_memory, draws, draws_length, noise, 2 * SAMPLES,
+        to->output, 2 * SAMPLES, to->records, sizeof to->records);
     given_back(word);
-    to->booking = (guarded ? more1090_booking : more1090_proved_booking)(
-        settings, sizeof settings, taps_s, MORE1090_MODE_S_TAPS_LEN, taps_ac, MORE1090_MODE_AC_TAPS_LEN, draws, draws_length);
+    to->booking = (guarded ? more1090_booking : more1090_proved_booking)(GIVEN, draws, draws_length);
     given_back(word);
-    to->part = (guarded ? more1090_booking_part : more1090_proved_booking_part)(
-        0.1, settings, sizeof settings, taps_s, MORE1090_MODE_S_TAPS_LEN, taps_ac, MORE1090_MODE_AC_TAPS_LEN, draws,
-        draws_length - MORE1090_DRAW_LEN);
+    to->part = (guarded ? more1090_booking_part : more1090_proved_booking_part)(0.1, GIVEN, draws, draws_length - MORE1090_DRAW_LEN);
     given_back(word);
-    to->single = (guarded ? more1090_single : more1090_proved_single)(
-        settings, sizeof settings, taps_s, MORE1090_MODE_S_TAPS_LEN, taps_ac, MORE1090_MODE_AC_TAPS_LEN, draws, MORE1090_DRAW_LEN,
-        noise, 2 * o.state.total, to->alone, 2 * o.state.total);
+    to->single = (guarded ? more1090_single : more1090_proved_single)(GIVEN, draws, MORE1090_DRAW_LEN, noise, 2 * o.state.total,
+                                                                      to->alone, 2 * o.state.total);
     given_back(word);
     run_rack(word, guarded, to);
     _mm_setcsr(DEFAULT);
@@ -117,6 +115,7 @@ static void make_worked(void) {
     for (int k = 0; k < 7; k++)
         put_f64(settings + 12 + 8 * k, 1.0);
     put(settings + 119, &level, 4);
+    settings[MORE1090_SETTINGS_LEN - 1] = (uint8_t)spp;
     memset(taps_s, 0, sizeof taps_s);
     memset(taps_ac, 0, sizeof taps_ac);
     taps_s[0] = taps_ac[0] = 1.0f;
@@ -133,12 +132,12 @@ static void make_worked(void) {
 
 /* A reply of each type in noise. */
 static void make_plain(void) {
-    make_settings(settings, 0.5f);
-    make_taps(taps_s, MORE1090_MODE_S_TAPS_LEN);
-    make_taps(taps_ac, MORE1090_MODE_AC_TAPS_LEN);
+    make_settings(settings, 0.5f, spp);
+    make_taps(taps_s, MORE1090_MODE_S_TAPS_LEN(spp), spp);
+    make_taps(taps_ac, MORE1090_MODE_AC_TAPS_LEN(spp), spp);
     for (unsigned n = 0; n <= DRAWS; n++)
-        make_draw(draws + n * MORE1090_DRAW_LEN, n);
-    put_f64(draws + DRAWS * MORE1090_DRAW_LEN, 80000.0);
+        make_draw(draws + n * MORE1090_DRAW_LEN, n, spp);
+    put_f64(draws + DRAWS * MORE1090_DRAW_LEN, SAMPLES);
     draws_length = sizeof draws;
     for (int k = 0; k < 2 * SAMPLES; k++)
         noise[k] = (float)(k % 7) - 3;
@@ -157,9 +156,11 @@ static void make_faint(double offset) {
         noise[k] *= 1e-40f;
 }
 
-int main(void) {
+/* All cases at one setting: at each of them no run differs, and of those without the guard so many do that they show something. */
+static void check_runs(unsigned samples_per_pulse) {
     const double offsets[] = {1e-38, 1e-35, 1e-32};
     unsigned runs = 0, differ = 0, unguarded = 0;
+    spp = samples_per_pulse;
     for (int c = 0; c < 5; c++) {
         if (c == 0)
             make_worked();
@@ -169,7 +170,7 @@ int main(void) {
             make_faint(offsets[c - 2]);
         run(DEFAULT, 1, &wanted);
         if (wanted.refusals[0] || wanted.refusals[1] || wanted.stop != MORE1090_STOP_DONE || wanted.single.refusal) {
-            fprintf(stderr, "case %d does not run to its end\n", c);
+            fprintf(stderr, "case %d at %u samples per pulse does not run to its end\n", c, spp);
             failed = 1;
         }
         for (unsigned k = 0; k < 16; k++) {
@@ -181,6 +182,13 @@ int main(void) {
             unguarded += memcmp(&wanted, &found, sizeof wanted) != 0;
         }
     }
-    printf("environment: %u runs, %u differ; without the guard %u\n", runs, differ, unguarded);
-    return failed || differ || unguarded < runs / 2;
+    printf("environment at %u samples per pulse: %u runs, %u differ; without the guard %u\n", spp, runs, differ, unguarded);
+    if (differ || unguarded < runs / 2)
+        failed = 1;
+}
+
+int main(void) {
+    check_runs(4);
+    check_runs(8);
+    return failed;
 }

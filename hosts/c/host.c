@@ -1,11 +1,12 @@
 /* A whole run from C: 10 ms with a reply of each type in turn, 1 ms apart, lent two draws, 300 noise values, 200 samples of
  * output and one record at a time; cf32 out.
  *
- *     c_host [--trigger-level PART] [OUT [LEVEL]]
+ *     c_host [--samples-per-pulse N] [--trigger-level PART] [OUT [LEVEL]]
  *
- * OUT (standard output for - or none) gets pairs of f32 at 8,000,000 a second, once the run is done; standard error a line for
- * each reply. LEVEL is that of every reply, in dB with one digit after the point or none: 0.0 to 200.0, otherwise 92.2. PART is
- * the trigger level, 0.1 to 0.9 of a pulse's height (0.5). Exit status: 0 done, 1 refused, 2 wrong use, 3 a file or pipe
+ * OUT (standard output for - or none) gets pairs of f32 once the run is done, standard error a line for each reply. N is 4,
+ * which is 8,000,000 samples a second, or 8, which is 16,000,000 (4). PART is the trigger level, 0.1 to 0.9 of a pulse's height
+ * (0.5). LEVEL is that of every reply, in dB with one digit after the point or none: 0.0 to 200.0, otherwise 92.2; at 8 samples
+ * per pulse there are no levels, and every amplitude is 0.02. Exit status: 0 done, 1 refused, 2 wrong use, 3 a file or pipe
  * failed. */
 #define _POSIX_C_SOURCE 200809L
 #include "inputs.h"
@@ -16,10 +17,16 @@
 #include <sys/stat.h>
 #include <unistd.h>
 
-enum { DRAWS = 2, NOISE = 300, SAMPLES = 200, LEVEL = 922, ALL_SAMPLES = 80000, NAME_LEN = 4096 };
+enum { DRAWS = 2, NOISE = 300, SAMPLES = 200, LEVEL = 922, ALL_SAMPLES = MORE1090_SAMPLE_RATE(8) / 100, NAME_LEN = 4096 };
 enum { DONE, REFUSED, WRONG_USE, FILE_FAILED };
 
-static const char usage[] = "usage: c_host [--trigger-level PART] [OUT [LEVEL]]\n";
+static const char usage[] = "usage: c_host [--samples-per-pulse N] [--trigger-level PART] [OUT [LEVEL]]\n";
+
+typedef struct asked {
+    unsigned spp;
+    float trigger_level;
+    uint64_t tenths;
+} asked;
 
 /* A sum of twelve uniform values: nearly normal. */
 static float noise_value(void) {
@@ -78,6 +85,15 @@ static int number_of(const char *text, float *number) {
     return end != text && *end == 0 && !isspace((unsigned char)*text);
 }
 
+/* A number that fits a byte of the settings. */
+static int byte_of(const char *text, unsigned *number) {
+    const size_t digits = strspn(text, "0123456789");
+    if (digits == 0 || digits > 3 || text[digits] != 0)
+        return 0;
+    *number = (unsigned)strtoul(text, NULL, 10);
+    return *number <= UINT8_MAX;
+}
+
 static int put_samples(FILE *to, const float *samples, size_t count) {
     const int put = fwrite(samples, 2 * sizeof *samples, count, to) == count;
     return (fclose(to) == 0) && put;
@@ -106,19 +122,21 @@ static int write_samples(const char *name, const float *samples, size_t count) {
     return status;
 }
 
-static float taps_s[MORE1090_MODE_S_TAPS_LEN], taps_ac[MORE1090_MODE_AC_TAPS_LEN];
-static float mode_s[MORE1090_PROTOTYPE_LEN], mode_ac[MORE1090_PROTOTYPE_LEN], memory[MORE1090_MEMORY_LEN];
+/* Room for either setting. */
+static float taps_s[MORE1090_MODE_S_TAPS_LEN(8)], taps_ac[MORE1090_MODE_AC_TAPS_LEN(8)];
+static float mode_s[MORE1090_PROTOTYPE_LEN(8)], mode_ac[MORE1090_PROTOTYPE_LEN(8)], memory[MORE1090_MEMORY_LEN(8)];
 
 /* A whole run, into samples; it gives 0 and their count, or a status. */
-static int simulate(float trigger_level, uint64_t tenths, float *samples, size_t *count) {
+static int simulate(const asked *a, float *samples, size_t *count) {
     uint8_t settings[MORE1090_SETTINGS_LEN], draws[DRAWS * MORE1090_DRAW_LEN], record[MORE1090_RECORD_LEN];
     float noise[NOISE];
-    make_settings(settings, trigger_level);
-    make_taps(taps_s, MORE1090_MODE_S_TAPS_LEN);
-    make_taps(taps_ac, MORE1090_MODE_AC_TAPS_LEN);
-    more1090_open_result opened =
-        more1090_open(settings, sizeof settings, taps_s, MORE1090_MODE_S_TAPS_LEN, taps_ac, MORE1090_MODE_AC_TAPS_LEN, mode_s,
-                      MORE1090_PROTOTYPE_LEN, mode_ac, MORE1090_PROTOTYPE_LEN, memory, MORE1090_MEMORY_LEN);
+    const size_t of_s = MORE1090_MODE_S_TAPS_LEN(a->spp), of_ac = MORE1090_MODE_AC_TAPS_LEN(a->spp);
+    const size_t of_prototype = MORE1090_PROTOTYPE_LEN(a->spp), of_memory = MORE1090_MEMORY_LEN(a->spp);
+    make_settings(settings, a->trigger_level, a->spp);
+    make_taps(taps_s, of_s, a->spp);
+    make_taps(taps_ac, of_ac, a->spp);
+    more1090_open_result opened = more1090_open(settings, sizeof settings, taps_s, of_s, taps_ac, of_ac, mode_s, of_prototype,
+                                                mode_ac, of_prototype, memory, of_memory);
     if (opened.refusal != MORE1090_OK)
         return refused(opened.refusal, opened.value);
     more1090_run_result ran = {.state = opened.state, .draws_taken = DRAWS, .noise_used = NOISE, .stop = MORE1090_STOP_WANTS_DRAWS};
@@ -129,13 +147,14 @@ static int simulate(float trigger_level, uint64_t tenths, float *samples, size_t
         memmove(draws, draws + ran.draws_taken * MORE1090_DRAW_LEN, left * MORE1090_DRAW_LEN);
         memmove(noise, noise + ran.noise_used, quiet * sizeof *noise);
         for (; left < DRAWS; left++) {
-            make_draw(draws + left * MORE1090_DRAW_LEN, n++);
-            set_level(draws + left * MORE1090_DRAW_LEN, tenths);
+            make_draw(draws + left * MORE1090_DRAW_LEN, n++, a->spp);
+            if (a->spp != 8)
+                set_level(draws + left * MORE1090_DRAW_LEN, a->tenths);
         }
         for (; quiet < NOISE; quiet++)
             noise[quiet] = noise_value();
-        ran = more1090_run(ran.state, mode_s, MORE1090_PROTOTYPE_LEN, mode_ac, MORE1090_PROTOTYPE_LEN, memory, MORE1090_MEMORY_LEN,
-                           draws, sizeof draws, noise, NOISE, samples + 2 * *count, 2 * SAMPLES, record, sizeof record);
+        ran = more1090_run(ran.state, mode_s, of_prototype, mode_ac, of_prototype, memory, of_memory, draws, sizeof draws, noise,
+                           NOISE, samples + 2 * *count, 2 * SAMPLES, record, sizeof record);
         if (ran.refusal != MORE1090_OK)
             return refused(ran.refusal, ran.value);
         if (ran.records_written == 1)
@@ -147,32 +166,56 @@ static int simulate(float trigger_level, uint64_t tenths, float *samples, size_t
     return DONE;
 }
 
+/* Reads options, each once; it gives 0 and the words behind them, or a status. */
+static int read_options(char ***words, asked *a) {
+    int given[2] = {0, 0};
+    for (char **at = *words; *at != NULL; at += 2, *words = at) {
+        const int spp = strcmp(*at, "--samples-per-pulse") == 0;
+        if (!spp && strcmp(*at, "--trigger-level") != 0)
+            return DONE;
+        if (given[spp]++)
+            return wrong_use("an option is given twice", *at);
+        const char *value = at[1] == NULL ? "" : at[1];
+        if (spp && !byte_of(value, &a->spp))
+            return wrong_use("--samples-per-pulse wants 4 or 8", value);
+        if (!spp && !number_of(value, &a->trigger_level))
+            return wrong_use("--trigger-level wants a number", value);
+    }
+    return DONE;
+}
+
+static int read_words(char **words, asked *a, const char **name) {
+    uint8_t draw[MORE1090_DRAW_LEN];
+    const int wrong = read_options(&words, a);
+    if (wrong)
+        return wrong;
+    if (*words != NULL)
+        *name = *words++;
+    if (**name == 0 || (**name == '-' && (*name)[1] != 0))
+        return wrong_use("there is no such option", *name);
+    if (*words == NULL)
+        return DONE;
+    if (!tenths_of(*words, &a->tenths))
+        return wrong_use("no level in dB with one digit after the point or none", *words);
+    if (a->spp == 8)
+        return wrong_use("levels are those of 4 samples per pulse, and --samples-per-pulse is 8", *words);
+    if (words[1] != NULL)
+        return wrong_use("one argument too many", words[1]);
+    const uint64_t too_high = set_level(draw, a->tenths);
+    return too_high == MORE1090_OK ? DONE : refused(too_high, 0);
+}
+
 int main(int argc, char **argv) {
     static float samples[2 * (ALL_SAMPLES + SAMPLES)];
-    uint8_t draw[MORE1090_DRAW_LEN];
-    uint64_t tenths = LEVEL;
-    float trigger_level = 0.5f;
+    asked a = {.spp = 4, .trigger_level = 0.5f, .tenths = LEVEL};
+    const char *name = "-";
     size_t count = 0;
     if (argc > 1 && strcmp(argv[1], "--help") == 0)
         return fputs(usage, stdout) < 0 || fclose(stdout) != 0 ? file_failed("standard output") : DONE;
-    if (argc > 1 && strcmp(argv[1], "--trigger-level") == 0) {
-        if (argc == 2 || !number_of(argv[2], &trigger_level))
-            return wrong_use("--trigger-level wants a number", argc == 2 ? "" : argv[2]);
-        argc -= 2;
-        argv += 2;
-    }
-    const char *name = argc > 1 ? argv[1] : "-";
-    if (*name == 0 || (*name == '-' && name[1] != 0))
-        return wrong_use("there is no such option", name);
-    if (argc > 2 && !tenths_of(argv[2], &tenths))
-        return wrong_use("no level in dB with one digit after the point or none", argv[2]);
-    if (argc > 3)
-        return wrong_use("one argument too many", argv[3]);
-    if (strcmp(name, "-") == 0 && isatty(STDOUT_FILENO))
-        return wrong_use("a terminal, and samples are no text", "standard output");
-    const uint64_t too_high = set_level(draw, tenths);
-    if (too_high != MORE1090_OK)
-        return refused(too_high, 0);
-    const int status = simulate(trigger_level, tenths, samples, &count);
+    int status = read_words(argv + (argc > 0), &a, &name);
+    if (status == DONE && strcmp(name, "-") == 0 && isatty(STDOUT_FILENO))
+        status = wrong_use("a terminal, and samples are no text", "standard output");
+    if (status == DONE)
+        status = simulate(&a, samples, &count);
     return status == DONE ? write_samples(name, samples, count) : status;
 }

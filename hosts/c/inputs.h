@@ -1,4 +1,4 @@
-/* What the programs here lend: settings, filter taps and draws, as the header lays them out. */
+/* What the programs here lend: settings, filter taps and draws, as the header lays them out; spp is the samples per pulse. */
 #include "more1090_generator.h"
 #include <math.h>
 #include <string.h>
@@ -11,9 +11,9 @@ static uint8_t *put(uint8_t *to, const void *value, size_t bytes) {
 
 static uint8_t *put_f64(uint8_t *to, double x) { return put(to, &x, 8); }
 
-/* 10 ms, a rate for every type, distributions (the carrier 50 kHz off, the phase as drawn, the clock right), and the trigger
- * level. */
-static void make_settings(uint8_t *to, float trigger_level) {
+/* 10 ms, a rate for every type, distributions (the carrier 50 kHz off, the phase as drawn, the clock right), the trigger level
+ * and the samples per pulse. */
+static void make_settings(uint8_t *to, float trigger_level, unsigned spp) {
     const uint64_t seconds = 0;
     const uint32_t nanoseconds = 10000000;
     const uint8_t kinds[3] = {0, 1, 0};
@@ -27,24 +27,26 @@ static void make_settings(uint8_t *to, float trigger_level) {
         to = put_f64(to, firsts[k]);
         to = put_f64(to, 0.0);
     }
-    put(to, &trigger_level, 4);
+    to = put(to, &trigger_level, 4);
+    *to = (uint8_t)spp;
 }
 
-/* A lowpass of sum 1: a raised cosine of 128 taps in the middle. */
-static void make_taps(float *taps, size_t length) {
+/* A lowpass of sum 1: a raised cosine of 128 taps in the middle, and twice as many at 8 samples per pulse. */
+static void make_taps(float *taps, size_t length, unsigned spp) {
+    const size_t wide = spp == 8 ? 256 : 128;
     for (size_t k = 0; k < length; k++)
         taps[k] = 0.0f;
-    for (int k = 0; k < 128; k++)
-        taps[length / 2 - 64 + k] = (float)((1 - cos(2 * acos(-1.0) * (k + 0.5) / 128)) / 128);
+    for (size_t k = 0; k < wide; k++)
+        taps[length / 2 - wide / 2 + k] = (float)((1 - cos(2 * acos(-1.0) * (k + 0.5) / wide)) / wide);
 }
 
 /* The draw of reply n: 1 ms after the last one. Fields that are not set are 0. */
-static void make_draw(uint8_t *to, unsigned n) {
+static void make_draw(uint8_t *to, unsigned n, unsigned spp) {
     const uint8_t type = n % 7, overlay = 17;
     const float amplitude = 0.02f;
     const uint16_t data = 01200; /* four octal digits */
     memset(to, 0, MORE1090_DRAW_LEN);
-    to = put_f64(to, 8000.0);
+    to = put_f64(to, MORE1090_SAMPLE_RATE(spp) / 1000);
     to = put(to, &type, 1);
     to = put_f64(to, 81.9); /* dB Hz; for the record only */
     to = put(to, &amplitude, 4);

@@ -1,8 +1,7 @@
 //! A run with random replies, in the shapes and with the default numbers of the published Rust: its settings, lowpasses, draws and
 //! noise.
-use crate::more1090_generator::{
-    DRAW_LEN, MODE_AC_TAPS_LEN, MODE_S_TAPS_LEN, RECORD_LEN, Run, RunResult, SETTINGS_LEN,
-};
+use crate::more1090_generator::{DRAW_LEN, RECORD_LEN, Run, RunResult, SETTINGS_LEN, SamplesPerPulse, level, tenths_of_db};
+use crate::shell::{Failure, SAMPLES_PER_PULSE, Words, refused};
 use std::f64::consts::{PI, SQRT_2};
 
 /// Typical weights of the types, in the order of `MessageType::ALL`.
@@ -14,6 +13,18 @@ const CLOCK_MAX: f64 = 50e-6;
 pub struct Level {
     pub cn0: f64,
     pub amplitude: f32,
+}
+
+/// The level that `--level` names, if it is given. Levels are those of 4 samples per pulse.
+pub fn level_of(words: &Words) -> Result<Option<Level>, Failure> {
+    let Some(text) = words.option("--level") else { return Ok(None) };
+    if words.samples_per_pulse()? == 8 {
+        return Err(Failure::Use(format!("--level: levels are those of 4 samples per pulse, and {SAMPLES_PER_PULSE} is 8")));
+    }
+    let tenths = tenths_of_db(text)
+        .ok_or_else(|| Failure::Use(format!("--level: {text} is not in dB with one digit after the point or none")))?;
+    let amplitude = level(tenths).map_err(|number| refused(number, 0, 0))?;
+    Ok(Some(Level { cn0: tenths as f64 / 10.0, amplitude }))
 }
 
 /// SplitMix64.
@@ -44,22 +55,22 @@ impl Random {
     }
 
     /// The level of a sender from 10 to 300 km away, at 100 dB Hz from 10 km.
-    fn sender(&mut self) -> Level {
+    fn sender(&mut self, sample_rate: f64) -> Level {
         let cn0 = 120.0 - 10.0 * (1e2 + (9e4 - 1e2) * self.uniform()).log10();
-        let amplitude = 10f64.powf(cn0 / 20.0) * SQRT_2 / 1024.0 / 8e6f64.sqrt();
+        let amplitude = 10f64.powf(cn0 / 20.0) * SQRT_2 / 1024.0 / sample_rate.sqrt();
         Level { cn0, amplitude: amplitude as f32 }
     }
 
     /// The next draw: an exponential gap, a weighted type, and a sender by distance, or at one level.
-    fn draw(&mut self, rate: f64, level: Option<Level>) -> Vec<u8> {
-        let gap = -(1.0 - self.uniform()).ln() * 8e6 / rate;
+    fn draw(&mut self, rate: f64, sample_rate: f64, level: Option<Level>) -> Vec<u8> {
+        let gap = -(1.0 - self.uniform()).ln() * sample_rate / rate;
         let mut left = self.uniform() * WEIGHTS.iter().sum::<f64>();
         let above = |w: &f64| {
             left -= w;
             left < 0.0
         };
         let kind = WEIGHTS.iter().position(above).unwrap_or(6);
-        let sender = self.sender();
+        let sender = self.sender(sample_rate);
         let Level { cn0, amplitude } = level.unwrap_or(sender);
         let format = self.below([2, 1, 3, 1, 11, 1, 1][kind]);
         let capability = self.below(if kind == 0 && format == 1 { 6 } else { 5 });
@@ -80,11 +91,11 @@ impl Random {
     }
 }
 
-/// A lowpass of sum 1: a sinc under a Hamming window. The cutoff is in parts of 1 / 256 of the taps' rate.
+/// A lowpass of sum 1: a sinc under a Hamming window. The cutoff is a part of the taps' rate.
 fn lowpass(taps: usize, cutoff: f64) -> Vec<f32> {
     let last = (taps - 1) as f64;
     let tap = |k: usize| {
-        let x = 2.0 * PI * cutoff / 256.0 * (k as f64 - last / 2.0);
+        let x = 2.0 * PI * cutoff * (k as f64 - last / 2.0);
         let sinc = if x == 0.0 { 1.0 } else { x.sin() / x };
         sinc * (0.54 - 0.46 * (2.0 * PI * k as f64 / last).cos())
     };
@@ -92,9 +103,13 @@ fn lowpass(taps: usize, cutoff: f64) -> Vec<f32> {
     (0..taps).map(|k| (tap(k) / sum) as f32).collect()
 }
 
-/// The two lowpasses that a run is lent, Mode S and Mode A/C.
-pub fn lowpasses() -> (Vec<f32>, Vec<f32>) {
-    (lowpass(MODE_S_TAPS_LEN, 2.0), lowpass(MODE_AC_TAPS_LEN, 2.0 * 1450.0 / 1500.0))
+/// The two lowpasses that a run is lent, Mode S and Mode A/C, cut off at 4 MHz.
+pub fn lowpasses(setting: SamplesPerPulse) -> (Vec<f32>, Vec<f32>) {
+    let branches = 64.0 * f64::from(setting as u8);
+    (
+        lowpass(setting.mode_s_taps_len(), 2.0 / branches),
+        lowpass(setting.mode_ac_taps_len(), 2.0 * 1450.0 / 1500.0 / branches),
+    )
 }
 
 /// The normal noise of a random run of this seed: its first n values.
@@ -109,13 +124,14 @@ pub fn noise(seed: u64, n: usize) -> Vec<f32> {
 }
 
 /// What a random run is asked for: seconds and nanoseconds, replies a second of all types, the generators' seed, one level for
-/// every reply or by distance, and where on its rise a pulse is timed.
+/// every reply or by distance, where on its rise a pulse is timed, and the samples per pulse.
 pub struct Asked {
     pub duration: (u64, u32),
     pub rate: f64,
     pub seed: u64,
     pub level: Option<Level>,
     pub trigger_level: f32,
+    pub samples_per_pulse: u8,
 }
 
 fn settings(asked: &Asked) -> [u8; SETTINGS_LEN] {
@@ -131,6 +147,7 @@ fn settings(asked: &Asked) -> [u8; SETTINGS_LEN] {
         s.extend(second.to_le_bytes());
     }
     s.extend(asked.trigger_level.to_le_bytes());
+    s.push(asked.samples_per_pulse);
     s.try_into().unwrap()
 }
 
@@ -141,6 +158,7 @@ const REPLIES_A_CALL: usize = 64;
 pub struct RandomRun {
     pub run: Run,
     rate: f64,
+    sample_rate: f64,
     level: Option<Level>,
     drawn: Random,
     noisy: Random,
@@ -153,10 +171,12 @@ pub struct RandomRun {
 impl RandomRun {
     /// Opens it for calls of n samples at most, or answers the refusal's number and value.
     pub fn open(asked: &Asked, samples_a_call: usize) -> Result<RandomRun, (u64, u64)> {
-        let taps = lowpasses();
+        let setting = SamplesPerPulse::of(asked.samples_per_pulse.into());
+        let taps = lowpasses(setting);
         Ok(RandomRun {
             run: Run::open(&settings(asked), &taps.0, &taps.1)?,
             rate: asked.rate,
+            sample_rate: setting.sample_rate() as f64,
             level: asked.level,
             drawn: Random(asked.seed),
             noisy: Random(!asked.seed),
@@ -170,7 +190,7 @@ impl RandomRun {
     /// The next run call, with new draws and noise behind those that were left.
     pub fn call(&mut self) -> RunResult {
         while self.draws.len() < REPLIES_A_CALL * DRAW_LEN {
-            self.draws.extend(self.drawn.draw(self.rate, self.level));
+            self.draws.extend(self.drawn.draw(self.rate, self.sample_rate, self.level));
         }
         while self.noise.len() < self.output.len() {
             self.noise.extend(self.noisy.normals().map(|x| x as f32));

@@ -3,15 +3,73 @@
 // A program uses a part of it.
 #![allow(dead_code)]
 
-pub const SETTINGS_LEN: usize = 123;
-pub const MODE_S_TAPS_LEN: usize = 1486;
-pub const MODE_AC_TAPS_LEN: usize = 1515;
-pub const PROTOTYPE: usize = 1792;
-pub const MEMORY: usize = 2252;
+pub const SETTINGS_LEN: usize = 124;
 pub const DRAW_LEN: usize = 65;
 pub const RECORD_LEN: usize = 66;
 
 pub const STOP_DONE: u64 = 0;
+
+/// The samples of a pulse of 500 ns, the last byte of the settings, and what follows from them.
+#[derive(Clone, Copy, Debug, PartialEq, Eq)]
+pub enum SamplesPerPulse {
+    Four = 4,
+    Eight = 8,
+}
+
+impl SamplesPerPulse {
+    /// As the library reads a number: 8 is 8, and any other is 4.
+    pub const fn of(number: u64) -> SamplesPerPulse {
+        if number == 8 { SamplesPerPulse::Eight } else { SamplesPerPulse::Four }
+    }
+
+    /// Of settings. Those of another length or with another number are refused, whatever is lent beside them.
+    pub fn of_settings(settings: &[u8]) -> SamplesPerPulse {
+        SamplesPerPulse::of(settings.get(SETTINGS_LEN - 1).map_or(4, |&byte| u64::from(byte)))
+    }
+
+    const fn either(self, at_4: usize, at_8: usize) -> usize {
+        match self {
+            SamplesPerPulse::Four => at_4,
+            SamplesPerPulse::Eight => at_8,
+        }
+    }
+
+    /// Samples a second.
+    pub const fn sample_rate(self) -> u64 {
+        self.either(8_000_000, 16_000_000) as u64
+    }
+
+    /// The taps of the Mode S lowpass.
+    pub const fn mode_s_taps_len(self) -> usize {
+        self.either(1486, 2971)
+    }
+
+    /// The taps of the Mode A/C lowpass.
+    pub const fn mode_ac_taps_len(self) -> usize {
+        self.either(1515, 3029)
+    }
+
+    /// The f32 of each prototype.
+    pub const fn prototype_len(self) -> usize {
+        self.either(1792, 3584)
+    }
+
+    /// The f32 of working memory.
+    pub const fn memory_len(self) -> usize {
+        self.either(2252, 4502)
+    }
+
+    /// The most samples that a reply adds to.
+    pub const fn reply_limit(self) -> usize {
+        self.either(1094, 2187)
+    }
+
+    /// The bytes of a stored run: the state's 24 numbers of eight bytes, then the Mode S prototype, the Mode A/C prototype and
+    /// the working memory in f32, all little-endian.
+    pub const fn stored_len(self) -> usize {
+        size_of::<State>() + 4 * (2 * self.prototype_len() + self.memory_len())
+    }
+}
 
 #[repr(C)]
 #[derive(Clone, Copy)]
@@ -35,6 +93,7 @@ pub struct State {
     pub phase: Distribution,
     pub clock: Distribution,
     pub ended: u64,
+    pub samples_per_pulse: u64,
 }
 
 #[repr(C)]
@@ -84,7 +143,7 @@ pub struct BookingResult {
 
 const _: () = assert!(size_of::<BookingResult>() == 80);
 const _: () =
-    assert!(size_of::<State>() == 184 && size_of::<OpenResult>() == 200 && size_of::<RunResult>() == 264);
+    assert!(size_of::<State>() == 192 && size_of::<OpenResult>() == 208 && size_of::<RunResult>() == 272);
 
 #[rustfmt::skip]
 unsafe extern "C" {
@@ -196,10 +255,6 @@ fn booked(b: BookingResult) -> Result<Booking, [u64; 3]> {
     Ok(Booking { samples: b.samples, noise: b.noise, records: b.records, draws_taken: b.draws_taken, end })
 }
 
-/// The bytes of a stored run: the state's 23 numbers of eight bytes, then the Mode S prototype, the Mode A/C prototype and
-/// the working memory in f32, all little-endian.
-pub const STORED_BYTES: usize = size_of::<State>() + 4 * (2 * PROTOTYPE + MEMORY);
-
 pub struct Run {
     pub state: State,
     mode_s: Vec<f32>,
@@ -211,8 +266,9 @@ impl Run {
     /// Opens a run, or answers the refusal's number and value.
     #[rustfmt::skip]
     pub fn open(settings: &[u8], taps_s: &[f32], taps_ac: &[f32]) -> Result<Run, (u64, u64)> {
-        let (mut mode_s, mut mode_ac) = (vec![0.0; PROTOTYPE], vec![0.0; PROTOTYPE]);
-        let mut memory = vec![0.0; MEMORY];
+        let lengths = SamplesPerPulse::of_settings(settings);
+        let (mut mode_s, mut mode_ac) = (vec![0.0; lengths.prototype_len()], vec![0.0; lengths.prototype_len()]);
+        let mut memory = vec![0.0; lengths.memory_len()];
         let o = open(settings, taps_s, taps_ac, &mut mode_s, &mut mode_ac, &mut memory);
         if o.refusal != 0 {
             return Err((o.refusal, o.value));
@@ -228,10 +284,15 @@ impl Run {
         ran
     }
 
-    /// The run between two calls as `STORED_BYTES` bytes, for `restore`. There is no check sum.
+    /// The run's samples per pulse.
+    pub fn samples_per_pulse(&self) -> SamplesPerPulse {
+        SamplesPerPulse::of(self.state.samples_per_pulse)
+    }
+
+    /// The run between two calls as `stored_len` bytes, for `restore`. There is no check sum.
     pub fn save(&self) -> Vec<u8> {
-        // A state is 23 numbers of eight bytes with no padding, so any 184 bytes are one.
-        let words = unsafe { std::mem::transmute::<State, [u64; 23]>(self.state) };
+        // A state is 24 numbers of eight bytes with no padding, so any 192 bytes are one.
+        let words = unsafe { std::mem::transmute::<State, [u64; 24]>(self.state) };
         let mut bytes: Vec<u8> = words.iter().flat_map(|w| w.to_le_bytes()).collect();
         for list in [&self.mode_s, &self.mode_ac, &self.memory] {
             bytes.extend(list.iter().flat_map(|x| x.to_le_bytes()));
@@ -240,23 +301,25 @@ impl Run {
     }
 
     /// Takes up the run that `save` gave as these bytes; it goes on with the draws not taken and the noise not used. Bytes
-    /// of another length are no run. Any others are taken: changed ones give other samples, and nothing refuses them.
+    /// of another length than the run's samples per pulse ask for are no run. Any others are taken: changed ones give other
+    /// samples, and nothing refuses them.
     pub fn restore(bytes: &[u8]) -> Option<Run> {
-        if bytes.len() != STORED_BYTES {
+        let (state, floats) = bytes.split_at_checked(size_of::<State>())?;
+        let word = |k: usize| u64::from_le_bytes(state[8 * k..8 * k + 8].try_into().unwrap());
+        let state = unsafe { std::mem::transmute::<[u64; 24], State>(std::array::from_fn(word)) };
+        let lengths = SamplesPerPulse::of(state.samples_per_pulse);
+        if bytes.len() != lengths.stored_len() {
             return None;
         }
-        let (state, floats) = bytes.split_at(size_of::<State>());
-        let word = |k: usize| u64::from_le_bytes(state[8 * k..8 * k + 8].try_into().unwrap());
-        let state = unsafe { std::mem::transmute::<[u64; 23], State>(std::array::from_fn(word)) };
         let mut floats = floats
             .chunks(4)
             .map(|b| f32::from_le_bytes(b.try_into().unwrap()));
         let mut list = |n: usize| floats.by_ref().take(n).collect();
         Some(Run {
             state,
-            mode_s: list(PROTOTYPE),
-            mode_ac: list(PROTOTYPE),
-            memory: list(MEMORY),
+            mode_s: list(lengths.prototype_len()),
+            mode_ac: list(lengths.prototype_len()),
+            memory: list(lengths.memory_len()),
         })
     }
 }

@@ -66,6 +66,9 @@ pub struct Words<'a> {
 /// The flag of every command that writes samples: print the SHA-256 of what was written.
 pub const SUM: &str = "--sum";
 
+/// The option of every command that makes a run: its samples per pulse.
+pub const SAMPLES_PER_PULSE: &str = "--samples-per-pulse";
+
 /// The words of a command that takes these options, each once, and from `least` to `most` other words. A word of its own that
 /// begins with `-` is `-` itself, or a negative number.
 pub fn words<'a>(args: &'a [String], options: &[&str], least: usize, most: usize) -> Result<Words<'a>, Failure> {
@@ -112,6 +115,11 @@ impl Words<'_> {
     /// Whether a flag is given.
     pub fn flag(&self, name: &str) -> bool {
         self.option(name).is_some()
+    }
+
+    /// The number of `SAMPLES_PER_PULSE`, 4 where it is not given. The library refuses what is neither 4 nor 8.
+    pub fn samples_per_pulse(&self) -> Result<u8, Failure> {
+        self.number(SAMPLES_PER_PULSE, 4)
     }
 
     /// An option's number, or another where it is not given.

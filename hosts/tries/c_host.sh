@@ -1,4 +1,5 @@
-# The C host, built beside the program.
+# The C host, built beside the program. The sums of its samples are those of what the Rust (differential/) gives for a tape of the same
+# settings, filters, draws and noise: where hosts/c/inputs.h or what the host lends changes, they are others.
 host=$(dirname "$program")/c_host
 c_runs() { # STATUS TEXT WORD..: `c_host WORD..` ends with this status, and its standard error has this text
     local status=$1 text=$2 ended
@@ -20,6 +21,12 @@ if [ -x "$host" ]; then
     c_runs 2 "wants a number" --trigger-level half "$file"
     c_runs 1 "refused 14" --trigger-level 0.95 "$file"
     c_runs 1 "refused 14" --trigger-level nan "$file"
+    c_runs 2 "--samples-per-pulse wants 4 or 8" --samples-per-pulse
+    for n in -4 264 eight ""; do c_runs 2 "--samples-per-pulse wants 4 or 8" --samples-per-pulse "$n" "$file"; done
+    c_runs 2 "an option is given twice: --samples-per-pulse" --samples-per-pulse 8 --samples-per-pulse 8 "$file"
+    c_runs 2 "an option is given twice: --trigger-level" --trigger-level 0.5 --samples-per-pulse 4 --trigger-level 0.5 "$file"
+    for n in 0 5 255; do c_runs 1 "refused 15" --samples-per-pulse $n --trigger-level 0.95 "$file"; done
+    c_runs 2 "levels are those of 4 samples per pulse" --samples-per-pulse 8 "$file" 31.5
     for level in -1 nan 31.55 1e2 loud .5 5. "" 18446744073709551616; do c_runs 2 "no level in dB" "$file" "$level"; done
     c_runs 1 "refused 13" "$file" 200.1
     c_runs 2 "one argument too many" "$file" 31.5 2
@@ -33,6 +40,11 @@ if [ -x "$host" ]; then
     [ -z "$(ls -A "$scratch/c")" ] || { failed=$((failed + 1)); echo "c_host: what failed left a file"; }
     c_runs 0 "first " "$file" 31.5
     "$host" - 31.5 2>/dev/null | cmp -s - "$file" || { failed=$((failed + 1)); echo "c_host: a pipe gets other samples"; }
-    [ "$(ls -A "$scratch/c")" = a ] && [ "$(stat -c %s "$file")" = 640000 ] || { failed=$((failed + 1)); echo "c_host: another file"; }
-    tried=$((tried + 6))
+    [ "$(ls -A "$scratch/c")" = a ] || { failed=$((failed + 1)); echo "c_host: another file beside its own"; }
+    [ "$(cksum <"$file")" = "1852173547 640000" ] || { failed=$((failed + 1)); echo "c_host: other samples"; }
+    c_runs 0 "first " --trigger-level 0.5 --samples-per-pulse 8 "$file"
+    [ "$(cksum <"$file")" = "4071830262 1280000" ] || { failed=$((failed + 1)); echo "c_host: other samples at 8 samples per pulse"; }
+    c_runs 0 "first " --samples-per-pulse 4 "$file" 31.5
+    "$host" - 31.5 2>/dev/null | cmp -s - "$file" || { failed=$((failed + 1)); echo "c_host: 4 samples per pulse are not what is made without"; }
+    tried=$((tried + 9))
 fi

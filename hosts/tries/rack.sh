@@ -6,6 +6,14 @@ if ! { head -c 24 /dev/zero; head -c 63976 "$scratch/a"; } | cmp -s - "$scratch/
     echo "more1090 rack: a feed is not the first one, three samples late, or not as long"
 fi
 expect 0 "" rack --seed 7 0 1 "0:1:-"
+expect 0 "" rack --samples-per-pulse 8 0.001 20000 "0:1:$scratch/eight"
+"$program" random --samples-per-pulse 8 0.001 20000 1 "$scratch/random-8" 2>/dev/null
+tried=$((tried + 1))
+if ! cmp -s "$scratch/eight" "$scratch/random-8" || [ "$(stat -c %s "$scratch/eight")" != 128000 ]; then
+    failed=$((failed + 1))
+    echo "more1090 rack: a feed at 8 samples per pulse is not the random run"
+fi
+expect 1 "refused 15" rack --samples-per-pulse 5 0.001 1000 "0:1:$scratch/e"
 expect 1 "refused 17" rack 0.001 1000 "4096:1:$scratch/e"
 expect 1 "refused 17" rack 0.001 1000 "0:1.5:$scratch/e"
 expect 1 "refused 3" rack 0.001 0 "0:1:$scratch/e"

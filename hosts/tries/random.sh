@@ -35,6 +35,15 @@ for seed in 1.5 -1 1e3 18446744073709551616; do runs 2 "SEED: $seed is no number
 runs 1 "refused 13" --level 200.1 1 1 1 "$file"
 runs 2 "--level: loud is not in dB" --level loud 1 1 1 "$file"
 runs 1 "refused 14" --trigger-level 0.95 1 1 1 "$file"
+runs 2 "--level: levels are those of 4 samples per pulse" --samples-per-pulse 8 --level 31.5 1 1 1 "$file"
+# Samples per pulse: a number that fits their byte goes to the library, which refuses it before a trigger level, a duration and
+# rates. What the command itself looks at comes before that.
+for n in 0 5 255; do
+    runs 1 "refused 15: samples per pulse other than 4 or 8" --samples-per-pulse $n --trigger-level 0.95 18446744073709551615 NaN 1 "$file"
+    runs 1 "1e12 is above 1000000" --samples-per-pulse $n 1 1e12 1 "$file"
+    runs 1 "refused 13" --samples-per-pulse $n --level 200.1 1 1 1 "$file"
+done
+for n in -4 4.0 264 eight ""; do runs 2 "--samples-per-pulse: $n is no number" --samples-per-pulse "$n" 1 1 1 "$file"; done
 runs 2 "an argument is missing" 1 1 1
 runs 2 "one argument too many" 1 1 1 "$file" "$lines" 5
 runs 2 "there is no option --loud" --loud 1 1 1 "$file"
@@ -46,10 +55,18 @@ holds "--help makes no file" empty "$scratch/files"
 # Outputs.
 runs 0 "8000 of 8000 samples" 0.001 4000 1 "$file" "$lines"
 holds "8000 samples are 64000 bytes" [ "$(stat -c %s "$file")" = 64000 ]
-holds "records are lines of six words" awk 'NF != 6 { exit 1 }' "$lines"
+holds "records are lines of six words" awk 'NF != 6 { bad = 1 } END { exit bad || NR == 0 }' "$lines"
 cp "$file" "$scratch/first"
 runs 0 "" --trigger-level 0.5 0.001 4000 1 "$file"
 holds "the same words give the same bytes" cmp "$file" "$scratch/first"
+runs 0 "" --samples-per-pulse 4 0.001 4000 1 "$file"
+holds "4 samples per pulse are what is made without the option" cmp "$file" "$scratch/first"
+runs 0 "16000 of 16000 samples" --samples-per-pulse 8 0.001 4000 1 "$file" "$lines"
+holds "16000 samples are 128000 bytes" [ "$(stat -c %s "$file")" = 128000 ]
+holds "replies at 8 are up to 2187 samples long" awk '$3 > 2187 { bad = 1 } $3 > 1094 { long = 1 } END { exit bad || !long }' "$lines"
+runs 0 "of 1 samples" --samples-per-pulse 8 0.000000063 1000 1 /dev/null
+runs 0 "of 0 samples" --samples-per-pulse 8 0.000000062 1000 1 /dev/null
+runs 0 "of 36800000 samples" --samples-per-pulse 8 2.3 1 1 /dev/null
 runs 0 "" 0.001 4000 2 "$file"
 holds "another seed gives others" [ -n "$(cmp "$file" "$scratch/first")" ]
 rm -r "$scratch/files" && mkdir "$scratch/files"

@@ -5,8 +5,8 @@ use Prim.Native.Nat.{ℕ, ◌^◌, ◌≤◌, ◌<◌}
 use lib.Dec.{lit≤, lit<}
 use Rattle.constants.specs.declared.SamplesPerPulse.{SamplesPerPulse}
 use Rattle.constants.specs.declared.SamplesPerPulse.TheVariants.{Four, Eight}
-use Rattle.constants.specs.Rate.{branches}
-use Rattle.constants.specs.Setting.{per_pulse, either}
+use Rattle.constants.specs.Rate.{branches, ring_slots}
+use Rattle.constants.specs.Setting.{per_pulse, setting_from, either}
 
 pub rate_pos : (s : SamplesPerPulse) → 0 < per_pulse s
 rate_pos Four = lit< tt
@@ -33,8 +33,22 @@ pub few_branches : (s : SamplesPerPulse) → 2 ^ branch_bits s ≤ 2 ^ 20
 few_branches Four = lit≤ tt
 few_branches Eight = lit≤ tt
 
+-- the ring in working memory has slots, and not many
+pub ring_pos : (s : SamplesPerPulse) → 0 < ring_slots (per_pulse s)
+ring_pos Four = lit< tt
+ring_pos Eight = lit< tt
+
+pub ring_few : (s : SamplesPerPulse) → ring_slots (per_pulse s) ≤ 2251
+ring_few Four = lit≤ tt
+ring_few Eight = lit≤ tt
+
 -- which of the two it is, by the setting
 pub either_cases : (s : SamplesPerPulse) (a b r : ℕ) → r ≡ either s a b → ((s ≡ Four) × (r ≡ a)) ⊎ ((s ≡ Eight) × (r ≡ b))
 unfolding either
 either_cases Four a b r e = inl (refl, e)
 either_cases Eight a b r e = inr (refl, e)
+
+-- a setting's number stands for it
+pub setting_back : (s : SamplesPerPulse) → setting_from (per_pulse s) ≡ s
+setting_back Four = refl
+setting_back Eight = refl

@@ -1,4 +1,4 @@
--- The numbers that follow from the samples per pulse, a pulse being 500 ns. SPECIFICATION 1.5 has them at 4 samples per pulse; each comment gives its number.
+-- The numbers that follow from the samples per pulse, a pulse being 500 ns. SPECIFICATION 1.5 has them at 4 samples per pulse, and 1.6 at 8; each comment gives its number at 4.
 use Rattle.std.specs.Prelude.{ℕ, zero, suc, ◌+◌, ◌-◌, ◌*◌, ◌/◌}
 
 -- samples per pulse (SPECIFICATION 1.5)
@@ -9,9 +9,13 @@ four = 4
 abbrev pub sample_rate : ℕ → ℕ
 sample_rate sps = 2000000 * sps
 
+-- branches of a filterbank for each sample of a pulse, whatever the rate
+abbrev pub branches_per_sample : ℕ
+branches_per_sample = 64
+
 -- branches of a filterbank: 256
 abbrev pub branches : ℕ → ℕ
-branches sps = 64 * sps
+branches sps = branches_per_sample * sps
 
 -- taps of a branch, whatever the rate
 abbrev pub taps_per_branch : ℕ
@@ -75,9 +79,13 @@ reply_limit sps = required_samples sps longest_pulses
 abbrev pub hold_back : ℕ → ℕ
 hold_back sps = 8 * sps
 
--- working memory, in f32, two for each sample: 2,252
+-- slots of the ring in working memory: 1,126
+abbrev pub ring_slots : ℕ → ℕ
+ring_slots sps = reply_limit sps + hold_back sps
+
+-- working memory, in f32, two for each slot: 2,252
 abbrev pub working_memory : ℕ → ℕ
-working_memory sps = 2 * (reply_limit sps + hold_back sps)
+working_memory sps = 2 * ring_slots sps
 
 -- the largest size of a carrier offset, half the samples a second: 4,000,000
 abbrev pub largest_offset : ℕ → ℕ

@@ -1,9 +1,9 @@
 // The numbers that follow from the samples per pulse, and the bytes of draws and records. specs/Rate has the former.
 #![tactic(auto, using(crate::proofs::Settings::either_cases), unfolding(crate::specs::Setting::either))]
 
-ghost use Rattle.std.specs.Prelude.{◌≡◌, ◌≤◌, ◌+◌};
-ghost use Rattle.constants.specs.Setting.{per_pulse, either, by_mode};
-ghost use Rattle.constants.specs.Rate.{branches, prototype_length, mode_s_taps, mode_ac_taps, reply_limit, hold_back, working_memory};
+ghost use Rattle.std.specs.Prelude.{◌≡◌, ◌≤◌, ◌%◌};
+ghost use Rattle.constants.specs.Setting.{per_pulse, setting_from, either, by_mode};
+ghost use Rattle.constants.specs.Rate.{sample_rate, branches, prototype_length, mode_s_taps, mode_ac_taps, reply_limit, hold_back, ring_slots, working_memory};
 
 // The mode of a reply: each has a lowpass and a prototype of its own.
 #[derive(Clone, Copy)]
@@ -30,11 +30,28 @@ impl SamplesPerPulse {
         }
     }
 
+    // The setting that a number stands for, where nothing is refused: any number but 8 stands for 4.
+    pub fn from_number(n: u64) -> SamplesPerPulse
+        ensures { result ≡ setting_from n }
+    {
+        match n {
+            8 => SamplesPerPulse::Eight,
+            _ => SamplesPerPulse::Four,
+        }
+    }
+
     // The setting as a number.
     pub fn number(self) -> u64
         ensures { (result ≡ per_pulse self) × (4 ≤ result) × (result ≤ 8) }
     {
         self.either(4, 8)
+    }
+
+    // Samples a second.
+    pub fn sample_rate(self) -> u64
+        ensures { (result ≡ sample_rate (per_pulse self)) × (8000000 ≤ result) }
+    {
+        self.either(8000000, 16000000)
     }
 
     // Branches of a filterbank.
@@ -62,11 +79,35 @@ impl SamplesPerPulse {
         }
     }
 
+    // The most samples that a reply adds to.
+    pub fn reply_limit(self) -> u64
+        ensures { (result ≡ reply_limit (per_pulse self)) × (result ≤ 2187) }
+    {
+        self.either(1094, 2187)
+    }
+
+    // Samples that are held back.
+    pub fn hold_back(self) -> u64
+        ensures { (result ≡ hold_back (per_pulse self)) × (result ≤ 64) }
+    {
+        self.either(32, 64)
+    }
+
     // Slots of the ring in working memory: the most samples of a reply, and those held back.
     pub fn ring_slots(self) -> usize
-        ensures { (result ≡ reply_limit (per_pulse self) + hold_back (per_pulse self)) × (1126 ≤ result) × (result ≤ 2251) }
+        ensures { (result ≡ ring_slots (per_pulse self)) × (1126 ≤ result) × (result ≤ 2251) }
     {
         self.either(1126, 2251) as usize
+    }
+
+    // The slot of a sample of the run.
+    pub fn slot_of(self, sample: u64) -> usize
+        ensures { result ≡ sample % ring_slots (per_pulse self) }
+    {
+        match self {
+            SamplesPerPulse::Four => (sample % 1126) as usize,
+            SamplesPerPulse::Eight => (sample % 2251) as usize,
+        }
     }
 
     // Working memory, in f32.
@@ -77,33 +118,16 @@ impl SamplesPerPulse {
     }
 }
 
-// Down to MEMORY_LEN stand the numbers at 4 samples per pulse, for the lengths of arrays: a constant's value may not call a function, so `SamplesPerPulse::Four` cannot give them.
-
-// Samples a second.
-pub const SAMPLE_RATE: u64 = 8000000;
+// The lengths at 8 samples per pulse, for arrays that hold what either setting needs: a constant's value may not call a function, so `SamplesPerPulse::Eight` cannot give them.
 
 // Values of a prototype.
-pub const PROTOTYPE_LEN: usize = 1792;
+pub const MAX_PROTOTYPE_LEN: usize = 3584;
 
-// Taps of the Mode S lowpass, with which a tape's taps begin.
-pub const MODE_S_TAPS_LEN: usize = 1486;
+// Working memory, in f32.
+pub const MAX_MEMORY_LEN: usize = 4502;
 
 // Pulse positions of the longest reply.
 pub const MAX_POSITIONS: usize = 240;
-
-// The most samples that a reply adds to.
-pub const REPLY_LIMIT: u64 = 1094;
-
-// Samples that are held back.
-pub const HOLD_BACK: u64 = 32;
-
-// Samples that working memory holds, a ring of slots: the two numbers above added.
-pub const RING_SLOTS: usize = 1126;
-
-pub const RING_SLOTS_U64: u64 = RING_SLOTS as u64;
-
-// Working memory, in f32, two for each slot.
-pub const MEMORY_LEN: usize = 2 * RING_SLOTS;
 
 // What a noise value is multiplied by, 2^-10.
 pub const NOISE_SCALE: f32 = 0.0009765625;

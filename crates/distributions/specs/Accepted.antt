@@ -20,7 +20,7 @@ up_to x limit = le (of_bits binary64 0) x && le x limit
 unfoldable pub finite_not_negative : Float → Bool
 finite_not_negative x = le (of_bits binary64 0) x && finite x
 
--- 4,000,000 at 4 samples per pulse
+-- 4,000,000 at 4 samples per pulse, 8,000,000 at 8
 unfoldable pub offset_limit : ℕ → Float
 offset_limit sps = of_int binary64 (pos (largest_offset sps))
 
@@ -28,7 +28,7 @@ offset_limit sps = of_int binary64 (pos (largest_offset sps))
 unfoldable pub tenth : Float
 tenth = of_bits binary64 0x3fb9_9999_9999_999a
 
--- max from 0 to 4,000,000, sigma finite and not negative (SPECIFICATION 4.2)
+-- max from 0 to the limit, sigma finite and not negative (SPECIFICATION 4.2)
 unfoldable pub clamped_normal : ℕ → Float → Float → Result Offset.CarrierOffset Refusal
 clamped_normal sps sigma max =
     cond (finite_not_negative sigma && up_to max (offset_limit sps)) (Ok (Offset.TheVariants.ClampedNormal sigma max))
@@ -40,7 +40,7 @@ by_kind zero a b other = a
 by_kind (suc zero) a b other = b
 by_kind (suc (suc k)) a b other = other
 
--- distribution 0 (SPECIFICATION 4.2): constant, at most 4,000,000 in size; or normal with sigma and max
+-- distribution 0 (SPECIFICATION 4.2): constant, at most the limit in size; or normal with sigma and max
 unfoldable pub carrier_offset : ℕ → RawDistribution → Result Offset.CarrierOffset Refusal
 carrier_offset sps d =
     by_kind d.kind (cond (within d.first (offset_limit sps)) (Ok (Offset.TheVariants.Constant d.first)) (Err (Distribution 0)))

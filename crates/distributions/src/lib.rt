@@ -2,9 +2,10 @@
 #![tactic(auto)]
 
 ghost use Rattle.std.specs.Prelude.{◌≡◌};
-ghost use Rattle.constants.specs.Rate.{four};
-ghost use Rattle.distributions.specs.Accepted.{up_to, finite_not_negative, carrier_offset, clamped_normal, carrier_phase, clock_error};
+ghost use Rattle.constants.specs.Setting.{per_pulse};
+ghost use Rattle.distributions.specs.Accepted.{up_to, finite_not_negative, offset_limit, carrier_offset, clamped_normal, carrier_phase, clock_error};
 
+use constants::SamplesPerPulse;
 use refusals::Refusal;
 
 #[derive(Clone, Copy)]
@@ -50,24 +51,40 @@ pub fn finite_not_negative(x: f64) -> bool
     0.0 <= x && float_range::finite(x)
 }
 
-#[tactic(auto, unfolding(crate::specs::Accepted::clamped_normal), using(crate::proofs::Literals::offset_limit_is))]
-fn clamped_normal(sigma: f64, max: f64) -> Result<CarrierOffset, Refusal>
-    ensures { result ≡ clamped_normal four sigma max }
+// The largest size of a carrier offset.
+#[tactic(auto, using(crate::proofs::Literals::offset_limit_is))]
+fn offset_limit(setting: SamplesPerPulse) -> f64
+    ensures { result ≡ offset_limit (per_pulse setting) }
 {
-    if finite_not_negative(sigma) && up_to(max, 4000000.0) {
+    match setting {
+        SamplesPerPulse::Four => 4000000.0,
+        SamplesPerPulse::Eight => 8000000.0,
+    }
+}
+
+#[tactic(auto, unfolding(crate::specs::Accepted::clamped_normal))]
+fn clamped_normal(setting: SamplesPerPulse, sigma: f64, max: f64) -> Result<CarrierOffset, Refusal>
+    ensures { result ≡ clamped_normal (per_pulse setting) sigma max }
+{
+    if finite_not_negative(sigma) && up_to(max, offset_limit(setting)) {
         return Ok(CarrierOffset::ClampedNormal(sigma, max));
     }
     Err(Refusal::Distribution(0))
 }
 
 // The distribution of the carrier offset, or a refusal.
-#[tactic(auto, unfolding(crate::specs::Accepted::carrier_offset, crate::specs::Accepted::by_kind), using(crate::proofs::Literals::offset_limit_is))]
-pub fn carrier_offset(d: RawDistribution) -> Result<CarrierOffset, Refusal>
-    ensures { result ≡ carrier_offset four d }
+#[tactic(auto, unfolding(crate::specs::Accepted::carrier_offset, crate::specs::Accepted::by_kind))]
+pub fn carrier_offset(
+    setting: SamplesPerPulse,
+    d: RawDistribution,
+) -> Result<CarrierOffset, Refusal>
+    ensures { result ≡ carrier_offset (per_pulse setting) d }
 {
     match d.kind {
-        0 if float_range::within(d.first, 4000000.0) => Ok(CarrierOffset::Constant(d.first)),
-        1 => clamped_normal(d.first, d.second),
+        0 if float_range::within(d.first, offset_limit(setting)) => Ok(CarrierOffset::Constant(
+            d.first,
+        )),
+        1 => clamped_normal(setting, d.first, d.second),
         _ => Err(Refusal::Distribution(0)),
     }
 }

@@ -54,7 +54,7 @@ pub fn pending(all: Distributions, last: f64, rest: &[u8]) -> MessageConfig
     }
 }
 
-// The message with its reply's bytes, made from its draw's type and picks; zeros where a field is at fault.
+// The message with its reply's bytes, made from its draw's type and picks; zeros where a field is at fault. The kind is the byte of a draw, which may name no type.
 #[tactic(auto, unfolding(crate::specs::Pending::completed_by, draw::specs::Config::bytes_drawn, draw::specs::Config::bytes_made))]
 pub fn completed(c: MessageConfig, kind: u8, p: Picks) -> MessageConfig
     ensures { result ≡ completed_by c kind p }

@@ -1,4 +1,4 @@
--- The taps at a clock phase: `filter_taps` of the Rust, on a prototype whose branch j holds entries j, j + 256 and so on.
+-- The taps at a clock phase: `filter_taps` of the Rust, on a prototype whose branch j of B holds entries j, j + B and so on (256 branches at 4 samples per pulse, 512 at 8).
 use Rattle.std.specs.Prelude.{ℕ, ◌+◌, ◌-◌, ◌*◌, cond, List, [], ◌∷◌, length, drop, replicate, pos, ◌==◌, from_bits, nat_lt, slice_index_or, Float}
 use Rattle.std.specs.Float.{nan, binary32, binary64}
 use Rattle.std.specs.Float.Ieee.{of_int, to_unsigned, add, sub, mul}
@@ -22,7 +22,7 @@ branch_of sps phase = numbered sps (to_unsigned 64 (scaled sps phase))
 unfoldable pub tau_of : ℕ → Float → Float
 tau_of sps phase = narrow (sub binary64 (scaled sps phase) (of_int binary64 (pos (branch_of sps phase))))
 
--- branch j: entries j, j + 256 and so on, seven taps
+-- branch j of B: entries j, j + B and so on, seven taps
 unfoldable pub branch : ℕ → List Float → ℕ → List Float
 branch sps prototype j = values (λ k. slice_index_or prototype (j + branches sps * k) nan) taps_per_branch
 

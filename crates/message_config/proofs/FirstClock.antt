@@ -30,10 +30,10 @@ abbrev pub eleven_tenths_f : Float
 eleven_tenths_f = fin false 2476979795053773 (negsuc 50)
 
 -- ---- the first sample less the unrounded start: from 0 to 1
-abbrev ToOne : Float → Type 0
+abbrev pub ToOne : Float → Type 0
 ToOne x = (g : ℕ) × Units x g × (g ≤ 1 * 2 ^ 1074)
 
-to_one : (x : Float) (a : ℕ) → a ≤ 2 ^ 1074 → (G a (2 ^ 1074) < overflow binary64 → Units x (G a (2 ^ 1074))) → ToOne x
+pub to_one : (x : Float) (a : ℕ) → a ≤ 2 ^ 1074 → (G a (2 ^ 1074) < overflow binary64 → Units x (G a (2 ^ 1074))) → ToOne x
 to_one x a h u =
     let m : G a (2 ^ 1074) ≤ 1 * 2 ^ 1074 = G-le a (2 ^ 1074) 1 1074 (pow_pos 1074) (lit< tt) (mul-le-mul_right (2 ^ 1074) (le_trans h (le_of_eq (sym (one-mul (2 ^ 1074)))))) in
     (G a (2 ^ 1074), u (lt_of_le_of_lt m (lit< {m = 1 * 2 ^ 1074} {n = overflow binary64} tt)), m)
@@ -72,11 +72,11 @@ past_start t d C k H s D few K e S = elim (le_or_lt k C.count) [
     sum a g u e h = omega arith
 
 -- ---- times 1 + the filter's clock error
-phase_is : (t d e f : Float) (s : ℕ) → start_of t d e ≡ pos s → clock_phase t d e f ≡ mul binary64 (sub binary64 (of_int binary64 (pos s)) (unrounded_start t d e)) (add binary64 one f)
+pub phase_is : (t d e f : Float) (z : ℤ) → start_of t d e ≡ z → clock_phase t d e f ≡ mul binary64 (sub binary64 (of_int binary64 z) (unrounded_start t d e)) (add binary64 one f)
 unfolding clock_phase
-phase_is t d e f s h = ap (λ (z : ℤ). mul binary64 (sub binary64 (of_int binary64 z) (unrounded_start t d e)) (add binary64 one f)) h
+phase_is t d e f z h = ap (λ (y : ℤ). mul binary64 (sub binary64 (of_int binary64 y) (unrounded_start t d e)) (add binary64 one f)) h
 
-product : (x f : Float) → ToOne x → Within f tenth_units → (p : ℕ) × Units (mul binary64 x (add binary64 one f)) p × (p ≤ eleven_tenths)
+pub product : (x f : Float) → ToOne x → Within f tenth_units → (p : ℕ) × Units (mul binary64 x (add binary64 one f)) p × (p ≤ eleven_tenths)
 product x f o w =
     let c = one_plus f w in
     let a = o.0 * c.0 in
@@ -94,7 +94,7 @@ module _ (sps : ℕ) (S : 3 ≤ sps) (M : sps ≤ 2 ^ 30) (delays : Delays) (R :
       let q = clocked_delay sps S M (delay_of delays kind) e (delay_of_lem sps delays R kind) (within_tenth e E.fit E.small) in
       let C = counted t A (finite_reply t d q.0 s A q.1 h small) in
       let f = filter_clock_error kind e in
-      subst (λ (x : Float). (p : ℕ) × Units x p × (p ≤ eleven_tenths)) (sym (phase_is t (delay_of delays kind) e f s h))
+      subst (λ (x : Float). (p : ℕ) × Units x p × (p ≤ eleven_tenths)) (sym (phase_is t (delay_of delays kind) e f (pos s) h))
       (product (sub binary64 (of_int binary64 (pos s)) (sub binary64 t d)) f
       (past_start t d C q.0 (8 * sps) s q.1 (held_few sps M) (without_half q.0 (2 ^ 1073) (8 * sps * 2 ^ 1074) q.2) h small)
       (within_tenth f (filter_fits kind e E.fit) E.filter_small))

@@ -5,7 +5,7 @@ use Rattle.std.specs.Float.Ieee.{of_int, sub, mul, div}
 use Rattle.constants.specs.Rate.{sample_rate}
 use Rattle.math.specs.Phase.{two_pi, phase_wrap}
 
--- 2.0 * PI * offset / 8,000,000.0
+-- 2.0 * PI * offset / samples a second, which are 8,000,000.0 at 4 samples per pulse and 16,000,000.0 at 8
 unfoldable pub carrier_rate : ℕ → Float → Float
 carrier_rate sps offset = div binary64 (mul binary64 two_pi offset) (of_int binary64 (pos (sample_rate sps)))
 

@@ -2,7 +2,6 @@
 #![tactic(auto)]
 
 ghost use Rattle.std.specs.Prelude.{◌≡◌, length};
-ghost use Rattle.constants.specs.Rate.{four};
 ghost use Rattle.run_open_checks.specs.Opening.{opened_of, left_by};
 ghost use Rattle.more1090_generator.specs.Answers.{opened_flat, flat_run_left};
 ghost use Rattle.run_booking.specs.Booking.{booking_of};
@@ -41,7 +40,7 @@ pub extern "C" fn more1090_open(
     mode_ac: &mut [f32],
     memory: &mut [f32],
 ) -> FlatOpened
-    ensures { (result ≡ opened_flat (opened_of four taps_s.now taps_ac.now settings.now (record { mode_s = mode_s.old; mode_ac = mode_ac.old; memory = memory.old }))) × (record { mode_s = mode_s.new; mode_ac = mode_ac.new; memory = memory.new } ≡ left_by four taps_s.now taps_ac.now (opened_of four taps_s.now taps_ac.now settings.now (record { mode_s = mode_s.old; mode_ac = mode_ac.old; memory = memory.old })) (record { mode_s = mode_s.old; mode_ac = mode_ac.old; memory = memory.old })) }
+    ensures { (result ≡ opened_flat (opened_of taps_s.now taps_ac.now settings.now (record { mode_s = mode_s.old; mode_ac = mode_ac.old; memory = memory.old }))) × (record { mode_s = mode_s.new; mode_ac = mode_ac.new; memory = memory.new } ≡ left_by taps_s.now taps_ac.now (opened_of taps_s.now taps_ac.now settings.now (record { mode_s = mode_s.old; mode_ac = mode_ac.old; memory = memory.old })) (record { mode_s = mode_s.old; mode_ac = mode_ac.old; memory = memory.old })) }
 {
     more1090_generator::more1090_open(settings, taps_s, taps_ac, mode_s, mode_ac, memory)
 }

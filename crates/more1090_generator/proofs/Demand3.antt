@@ -7,7 +7,8 @@ use Prim.Native.Nat.{ℕ, ◌+◌, ◌*◌, ◌≤◌}
 use native.Mathlib.Omega.{arith}
 use lib.ListN.{get_or}
 use lib.Ieee.{Float}
-use Rattle.constants.specs.Rate.{four, reply_limit}
+use Rattle.constants.specs.Rate.{reply_limit}
+use Rattle.constants.specs.Setting.{per_pulse}
 use Rattle.run_theory.specs.Added.{sum_of, whole_of}
 use Rattle.run_theory.specs.Each.{Each}
 use Rattle.run_theory.specs.PlainBench as Bench
@@ -89,17 +90,17 @@ added_flat : (l : Left) → flat_added (left_flat l) ≡ samples_added l
 unfolding left_flat ran_flat
 added_flat l = let k = same_counts l.ran.counts l.ran.answer in λ i. whole_of (k.high i) (k.low i)
 
-adds_flat : (ls : List Left) → Each CountsAdded ls → Each FlatCountsAdded (map left_flat ls)
+adds_flat : (sps : ℕ) (ls : List Left) → Each (CountsAdded sps) ls → Each (FlatCountsAdded sps) (map left_flat ls)
 unfolding left_flat ran_flat
-adds_flat [] h = tt
-adds_flat (l ∷ ls) h =
+adds_flat sps [] h = tt
+adds_flat sps (l ∷ ls) h =
     let k = same_counts l.ran.counts l.ran.answer in (
       record {
         sum = added_flat l ∙ h.0.sum ∙ ap (λ (n : ℕ). sum_of (record_counts n l.records)) (sym k.records);
-        each = subst (λ (n : ℕ). Each (λ m. m ≤ reply_limit four) (record_counts n l.records)) (sym k.records) h.0.each;
-        most = subst (λ (n : ℕ). n ≤ reply_limit four * (left_flat l).ran.answer.records) (sym (added_flat l)) (subst (λ (n : ℕ). samples_added l ≤ reply_limit four * n) (sym k.records) h.0.most);
+        each = subst (λ (n : ℕ). Each (λ m. m ≤ reply_limit sps) (record_counts n l.records)) (sym k.records) h.0.each;
+        most = subst (λ (n : ℕ). n ≤ reply_limit sps * (left_flat l).ran.answer.records) (sym (added_flat l)) (subst (λ (n : ℕ). samples_added l ≤ reply_limit sps * n) (sym k.records) h.0.most);
       },
-      adds_flat ls h.1,
+      adds_flat sps ls h.1,
     )
 
 total_flat : (ls : List Left) → flat_total (map left_flat ls) ≡ total_added ls
@@ -129,7 +130,7 @@ module _ (taps_s taps_ac : List Float) (settings : List ℕ) (given : Opening.Op
             ∙ sym (map-map seen_flat seen_left (calls r cs))
             ∙ ap (map seen_flat) (d.answers cs)
             ∙ each seen_flat (seen_result r.state r.buffers.mode_s r.buffers.mode_ac) (bench_seen r.state r.buffers.mode_s r.buffers.mode_ac) (bench_seen_lem r) (results r cs);
-        adds = λ cs. subst (Each FlatCountsAdded) (sym (same_calls cs)) (adds_flat (calls r cs) (d.adds cs));
+        adds = λ cs. subst (Each (FlatCountsAdded (per_pulse r.state.setting))) (sym (same_calls cs)) (adds_flat (per_pulse r.state.setting) (calls r cs) (d.adds cs));
         total = λ cs. ap flat_total (same_calls cs) ∙ total_flat (calls r cs) ∙ d.total cs;
         state = λ cs. ap (last_flat (flat_of r.state)) (same_calls cs) ∙ last_flat_lem (calls r cs) r.state ∙ ap flat_of (d.state cs);
       }
@@ -156,12 +157,12 @@ refusal_above Refusal.TheVariants.Log e = absurd (omega arith)
 refusal_above Refusal.TheVariants.Feeds e = absurd (omega arith)
 refusal_above (Refusal.TheVariants.Record k) e = absurd (omega arith)
 
-opened_as : (taps_s taps_ac : List Float) (settings : List ℕ) (given : Opening.OpenBuffers) (o : Result State Refusal.Refusal) → Opening.opened_of four taps_s taps_ac settings given ≡ o → (opened_flat o).refusal ≡ 0
+opened_as : (taps_s taps_ac : List Float) (settings : List ℕ) (given : Opening.OpenBuffers) (o : Result State Refusal.Refusal) → Opening.opened_of taps_s taps_ac settings given ≡ o → (opened_flat o).refusal ≡ 0
     → (r : Run) × Demand3InC taps_s taps_ac settings given (opened_flat o).state r
 unfolding opened_flat
 opened_as taps_s taps_ac settings given (Err q) e h = absurd (refusal_above q h)
 opened_as taps_s taps_ac settings given (Ok s) e h =
-    let r : Run = record { state = s; buffers = Opening.left_by four taps_s taps_ac (Ok s) given } in
+    let r : Run = record { state = s; buffers = Opening.left_by taps_s taps_ac (Ok s) given } in
     (r, in_c taps_s taps_ac settings given r (record { answers = e; leaves = refl }))
 
 pub opened_calls : OpenedCalls

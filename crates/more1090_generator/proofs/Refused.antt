@@ -5,7 +5,6 @@ use mathlib.Core.Path.{◌≡◌, refl}
 use mathlib.Core.List.{List}
 use Prim.Native.Nat.{ℕ}
 use lib.Ieee.{Float}
-use Rattle.constants.specs.Rate.{four}
 use Rattle.run_theory.specs.PlainBench as Bench
 use Rattle.run_open_checks.specs.Opening as Opening
 use Rattle.run_call.specs.declared.State.{State}
@@ -29,11 +28,11 @@ module _ (s : State) (mode_s mode_ac memory : List Float) (draws : List ℕ) (no
   refused_run = rw state_back (kept (call_refusal s mode_s mode_ac memory draws noise output records))
 
 module _ (taps_s taps_ac : List Float) (lent : Opening.OpenBuffers) where
-  opening_kept : (o : Result State Refusal) → ((opened_flat o).refusal ≡ 0 → ⊥) → Opening.left_by four taps_s taps_ac o lent ≡ lent
+  opening_kept : (o : Result State Refusal) → ((opened_flat o).refusal ≡ 0 → ⊥) → Opening.left_by taps_s taps_ac o lent ≡ lent
   unfolding opened_flat Opening.left_by
   opening_kept (Ok s) h = absurd (h refl)
   opening_kept (Err q) h = refl
 
-  pub refused_opening : (bytes : List ℕ) → let o = Opening.opened_of four taps_s taps_ac bytes lent in
-      ((opened_flat o).refusal ≡ 0 → ⊥) → Opening.left_by four taps_s taps_ac o lent ≡ lent
-  refused_opening bytes = opening_kept (Opening.opened_of four taps_s taps_ac bytes lent)
+  pub refused_opening : (bytes : List ℕ) → let o = Opening.opened_of taps_s taps_ac bytes lent in
+      ((opened_flat o).refusal ≡ 0 → ⊥) → Opening.left_by taps_s taps_ac o lent ≡ lent
+  refused_opening bytes = opening_kept (Opening.opened_of taps_s taps_ac bytes lent)

@@ -2,6 +2,7 @@
 use mathlib.Core.Path.{◌≡◌, refl}
 use mathlib.Core.Bool.{Bool, true, false, cond, not}
 use lib.Dec.{eqb}
+use Rattle.constants.proofs.Settings.{setting_back}
 use Rattle.distributions.specs.declared.CarrierOffset as Carrier
 use Rattle.distributions.specs.declared.CarrierPhase as Phase
 use Rattle.distributions.specs.declared.ClockError as Clock
@@ -38,4 +39,5 @@ state_back s = λ i. record {
   rates = s.rates;
   delays = s.delays;
   distributions = record { carrier = carrier_back s.distributions.carrier i; phase = phase_back s.distributions.phase i; clock = clock_back s.distributions.clock i };
+  setting = setting_back s.setting i;
 }

@@ -1,7 +1,8 @@
 -- Demand 3 (SPECIFICATION 2.3) for callers in C, hypothesis and claim in one statement: `OpenedCalls`, at the end of this file. Where `more1090_open` answers refusal 0, it opened a run of which all is claimed that `run_theorem/specs/OpenedRuns` claims,
 -- and calls of `more1090_run`, refused ones among them, with any draws, noise and buffers, answer and leave what run calls on it do, in C's numbers.
 use Rattle.std.specs.Prelude.{◌≡◌, List, [], ◌∷◌, map, ℕ, ◌+◌, ◌*◌, ◌≤◌, Float}
-use Rattle.constants.specs.Rate.{four, reply_limit}
+use Rattle.constants.specs.Rate.{reply_limit}
+use Rattle.constants.specs.Setting.{per_pulse}
 use Rattle.run_theory.specs.Added.{sum_of, whole_of}
 use Rattle.run_theory.specs.Each.{Each}
 use Rattle.run_theory.specs.PlainRun.{plain_added}
@@ -31,10 +32,10 @@ flat_total [] = 0
 flat_total (l ∷ ls) = flat_added l + flat_total ls
 
 -- The number is the sum of the counts in the records that the call wrote, each of which is at most the reply limit.
-pub record FlatCountsAdded (l : FlatLeft) : Type 0 where
+pub record FlatCountsAdded (sps : ℕ) (l : FlatLeft) : Type 0 where
   pub sum : flat_added l ≡ sum_of (record_counts l.ran.answer.records l.records)
-  pub each : Each (λ n. n ≤ reply_limit four) (record_counts l.ran.answer.records l.records)
-  pub most : flat_added l ≤ reply_limit four * l.ran.answer.records
+  pub each : Each (λ n. n ≤ reply_limit sps) (record_counts l.ran.answer.records l.records)
+  pub most : flat_added l ≤ reply_limit sps * l.ran.answer.records
 
 -- the claim, on the state f that `more1090_open` returned for a run r
 pub record Demand3InC (taps_s taps_ac : List Float) (settings : List ℕ) (given : Opening.OpenBuffers) (f : FlatState) (r : Run) : Type 0 where
@@ -46,12 +47,12 @@ pub record Demand3InC (taps_s taps_ac : List Float) (settings : List ℕ) (given
   -- so each answer is the plain bench's, in the specification's numbers and values, and so are output and record bytes after it
   pub answers : (cs : List CallBuffers) → map flat_seen (flat_calls f r cs) ≡ map (bench_seen r.state r.buffers.mode_s r.buffers.mode_ac) (results r cs)
   -- each counts the reply samples of the records that it wrote; in all they are the plain run's
-  pub adds : (cs : List CallBuffers) → Each FlatCountsAdded (flat_calls f r cs)
+  pub adds : (cs : List CallBuffers) → Each (FlatCountsAdded (per_pulse r.state.setting)) (flat_calls f r cs)
   pub total : (cs : List CallBuffers) → flat_total (flat_calls f r cs) ≡ plain_added (gen r) (draws_taken r cs)
   -- and the state that comes back is the plain bench's
   pub state : (cs : List CallBuffers) → last_flat f (flat_calls f r cs) ≡ flat_of (state_after r (bench r cs))
 
 abbrev pub OpenedCalls : Type 0
 OpenedCalls = (taps_s taps_ac : List Float) (settings : List ℕ) (given : Opening.OpenBuffers) →
-    let o = Opening.opened_of four taps_s taps_ac settings given in
+    let o = Opening.opened_of taps_s taps_ac settings given in
     (opened_flat o).refusal ≡ 0 → (r : Run) × Demand3InC taps_s taps_ac settings given (opened_flat o).state r

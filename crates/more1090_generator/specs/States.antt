@@ -2,6 +2,7 @@
 use Rattle.std.specs.Prelude.{ℕ, cond, not, eqb, Float}
 use Rattle.std.specs.Float.{binary64}
 use Rattle.std.specs.Float.Ieee.{of_bits}
+use Rattle.constants.specs.Setting.{per_pulse, setting_from}
 use Rattle.distributions.specs.declared.CarrierOffset as Carrier
 use Rattle.distributions.specs.declared.CarrierPhase as Phase
 use Rattle.distributions.specs.declared.ClockError as Clock
@@ -75,9 +76,10 @@ flat_of s = record {
   phase = phase_flat s.distributions.phase;
   clock = clock_flat s.distributions.clock;
   ended = cond s.ended 1 0;
+  samples_per_pulse = per_pulse s.setting;
 }
 
--- back: a run has ended where the number is not 0
+-- back: a number of samples per pulse other than 8 is read as 4, and a run has ended where the number is not 0
 unfoldable pub state_from : FlatState → State
 state_from f = record {
   written = f.written;
@@ -88,6 +90,7 @@ state_from f = record {
   rates = rates_from f.rates;
   delays = record { mode_s = f.mode_s_delay; mode_ac = f.mode_ac_delay };
   distributions = record { carrier = carrier_from f.carrier; phase = phase_from f.phase; clock = clock_from f.clock };
+  setting = setting_from f.samples_per_pulse;
 }
 
 -- where opening is refused: all zero
@@ -115,4 +118,5 @@ no_state = record {
   phase = distribution_of 0 zero64 zero64;
   clock = distribution_of 0 zero64 zero64;
   ended = 0;
+  samples_per_pulse = 0;
 }

@@ -2,12 +2,12 @@
 #![tactic(auto)]
 
 ghost use Rattle.std.specs.Prelude.{◌≡◌};
-ghost use Rattle.constants.specs.Rate.{four};
 ghost use Rattle.run_open_checks.specs.Opening.{opened_of, left_by};
 ghost use Rattle.more1090_generator.specs.States.{carrier_flat, phase_flat, clock_flat, carrier_from, phase_from, clock_from, flat_of, state_from, no_state};
 ghost use Rattle.run_call.specs.Given.{stop_number};
 ghost use Rattle.more1090_generator.specs.Answers.{opened_flat, answered, ran_flat, flat_run_left};
 
+use constants::SamplesPerPulse;
 use distributions::{CarrierOffset, CarrierPhase, ClockError};
 use message_config::Delays;
 use pulse_shape::Filters;
@@ -51,6 +51,7 @@ pub struct FlatState {
     pub phase: FlatDistribution,
     pub clock: FlatDistribution,
     pub ended: u64,
+    pub samples_per_pulse: u64,
 }
 
 // What opening answers: refusal 0 is none.
@@ -198,6 +199,7 @@ fn state_out(s: State) -> FlatState
         phase: phase_out(s.distributions.phase),
         clock: clock_out(s.distributions.clock),
         ended: u64::from(s.ended),
+        samples_per_pulse: s.setting.number(),
     }
 }
 
@@ -229,6 +231,7 @@ fn state_in(f: FlatState) -> State
             phase: phase_in(f.phase),
             clock: clock_in(f.clock),
         },
+        setting: SamplesPerPulse::from_number(f.samples_per_pulse),
     }
 }
 
@@ -262,6 +265,7 @@ fn no_state() -> FlatState
         phase: none,
         clock: none,
         ended: 0,
+        samples_per_pulse: 0,
     }
 }
 
@@ -286,7 +290,7 @@ fn opened_out(o: Result<State, Refusal>) -> FlatOpened
     }
 }
 
-#[tactic(auto, unfolding(run_call::specs::Given::stop_number))]
+#[tactic(auto, unfolding(run_call::specs::Given::stop_number, run_steps::specs::PlanModel::stop_read))]
 fn stop_number(w: Stop) -> u64
     ensures { result ≡ stop_number w }
 {
@@ -345,7 +349,7 @@ pub extern "C" fn more1090_open(
     mode_ac: &mut [f32],
     memory: &mut [f32],
 ) -> FlatOpened
-    ensures { (result ≡ opened_flat (opened_of four taps_s.now taps_ac.now settings.now (record { mode_s = mode_s.old; mode_ac = mode_ac.old; memory = memory.old }))) × (record { mode_s = mode_s.new; mode_ac = mode_ac.new; memory = memory.new } ≡ left_by four taps_s.now taps_ac.now (opened_of four taps_s.now taps_ac.now settings.now (record { mode_s = mode_s.old; mode_ac = mode_ac.old; memory = memory.old })) (record { mode_s = mode_s.old; mode_ac = mode_ac.old; memory = memory.old })) }
+    ensures { (result ≡ opened_flat (opened_of taps_s.now taps_ac.now settings.now (record { mode_s = mode_s.old; mode_ac = mode_ac.old; memory = memory.old }))) × (record { mode_s = mode_s.new; mode_ac = mode_ac.new; memory = memory.new } ≡ left_by taps_s.now taps_ac.now (opened_of taps_s.now taps_ac.now settings.now (record { mode_s = mode_s.old; mode_ac = mode_ac.old; memory = memory.old })) (record { mode_s = mode_s.old; mode_ac = mode_ac.old; memory = memory.old })) }
 {
     let taps = Filters {
         mode_s: taps_s,

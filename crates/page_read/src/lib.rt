@@ -25,7 +25,7 @@ const MODE_AC: u8 = 6;
 #[derive(Clone, Copy)]
 pub struct LineFields {
     pub first: u64,
-    // The byte of a record, as C and the line give it, which may name no kind.
+    // The number of the type, as a record and the line have it and as C is given it.
     pub kind: u8,
     pub count: u16,
     pub size: u8,

@@ -1,4 +1,4 @@
--- `RunRecordsAccepted` holds: each record is of a reply of a draw in range, which starts below 2^52 and adds to at most 1,094 samples.
+-- `RunRecordsAccepted` holds: each record is of a reply of a draw in range, which starts below 2^52 and adds to at most 1,094 samples at 4 samples per pulse, and 2,187 at 8.
 use Rattle.std.specs.Prelude.{Some, None}
 use Prim.Native.Nat.{ℕ, suc, ◌+◌, ◌*◌, ◌/◌, ◌%◌, ◌^◌, ◌≤◌}
 use mathlib.Core.Path.{◌≡◌, refl, sym, ap, ◌∙◌, subst}

@@ -6,10 +6,10 @@ use lib.Ieee.Fits.{and_i, and_l, and_r}
 use Rattle.pulse_shape.specs.GroupDelay.{crosses, delay_at, choose, delay_from, group_delay}
 use Rattle.pulse_group_delay.specs.FirstPair.{PairAt, FirstPair, Finds, first, nowhere}
 
-module _ (sps : ℕ) (level : Float) where
+module _ (level : Float) where
   -- the same of a list whose first value stands at index j
   abbrev Says : ℕ → List Float → Option Float → Type 0
-  Says j l (Some d) = (i : ℕ) × FirstPair level l i × (delay_at sps level (j + i) (get_or l i nan) (get_or l (suc i) nan) ≡ d)
+  Says j l (Some d) = (i : ℕ) × FirstPair level l i × (delay_at level (j + i) (get_or l i nan) (get_or l (suc i) nan) ≡ d)
   Says j l None = (i : ℕ) → PairAt level l i → ⊥
 
   pair : (a b : Float) → crosses level a b ≡ true → T (le a level) × T (lt level b)
@@ -20,23 +20,23 @@ module _ (sps : ℕ) (level : Float) where
   unfolding crosses
   no_pair a b e s t = subst T e (and_i (le a level) (lt level b) s t)
 
-  says : (j : ℕ) (l : List Float) → Says j l (delay_from sps level j l)
+  says : (j : ℕ) (l : List Float) → Says j l (delay_from level j l)
   unfolding delay_from
   says j [] = λ i h. absurd (omega (arith, h.0))
   says j (a ∷ []) = λ i h. absurd (omega (arith, h.0))
-  says j (a ∷ b ∷ l) = go (crosses level a b) refl (delay_from sps level (j + 1) (b ∷ l)) (says (j + 1) (b ∷ l))
+  says j (a ∷ b ∷ l) = go (crosses level a b) refl (delay_from level (j + 1) (b ∷ l)) (says (j + 1) (b ∷ l))
     where
       later : crosses level a b ≡ false → (i : ℕ) → ((k : ℕ) → k < i → PairAt level (b ∷ l) k → ⊥) → (k : ℕ) → k < suc i → PairAt level (a ∷ b ∷ l) k → ⊥
       later e i f zero h p = no_pair a b e p.1 p.2
       later e i f (suc k) h p = f k (omega arith) (omega (arith, p.0), p.1, p.2)
 
-      go : (t : Bool) → crosses level a b ≡ t → (x : Option Float) → Says (j + 1) (b ∷ l) x → Says j (a ∷ b ∷ l) (choose t (Some (delay_at sps level j a b)) x)
+      go : (t : Bool) → crosses level a b ≡ t → (x : Option Float) → Says (j + 1) (b ∷ l) x → Says j (a ∷ b ∷ l) (choose t (Some (delay_at level j a b)) x)
       go true e x h =
-          (0, record { here = (omega arith, (pair a b e).0, (pair a b e).1); none_before = λ k h. absurd (omega arith) }, ap (λ (n : ℕ). delay_at sps level n a b) (add-zero j))
+          (0, record { here = (omega arith, (pair a b e).0, (pair a b e).1); none_before = λ k h. absurd (omega arith) }, ap (λ (n : ℕ). delay_at level n a b) (add-zero j))
       go false e (Some d) (i, p, f) = (
         suc i,
         record { here = (omega (arith, p.here.0), p.here.1, p.here.2); none_before = later e i p.none_before },
-        ap (λ (n : ℕ). delay_at sps level n (get_or (b ∷ l) i nan) (get_or (b ∷ l) (suc i) nan)) (next j i) ∙ f,
+        ap (λ (n : ℕ). delay_at level n (get_or (b ∷ l) i nan) (get_or (b ∷ l) (suc i) nan)) (next j i) ∙ f,
       )
         where
           next : (j i : ℕ) → j + suc i ≡ j + 1 + i
@@ -47,10 +47,10 @@ module _ (sps : ℕ) (level : Float) where
           not_here zero p = no_pair a b e p.1 p.2
           not_here (suc i) p = h i (omega (arith, p.0), p.1, p.2)
 
-  pub finds : (p : List Float) → Finds sps level p (group_delay sps level p)
+  pub finds : (p : List Float) → Finds level p (group_delay level p)
   unfolding group_delay
-  finds p = go (delay_from sps level 0 p) (says 0 p)
+  finds p = go (delay_from level 0 p) (says 0 p)
     where
-      go : (x : Option Float) → Says 0 p x → Finds sps level p x
-      go (Some d) (i, f, e) = subst (λ (x : Float). Finds sps level p (Some x)) (ap (λ (n : ℕ). delay_at sps level n (get_or p i nan) (get_or p (suc i) nan)) (sym (zero-add i)) ∙ e) (first i f)
+      go : (x : Option Float) → Says 0 p x → Finds level p x
+      go (Some d) (i, f, e) = subst (λ (x : Float). Finds level p (Some x)) (ap (λ (n : ℕ). delay_at level n (get_or p i nan) (get_or p (suc i) nan)) (sym (zero-add i)) ∙ e) (first i f)
       go None h = nowhere h

@@ -14,6 +14,6 @@ pub record FirstPair (level : Float) (p : List Float) (i : ℕ) : Type 0 where
   pub none_before : (k : ℕ) → k < i → PairAt level p k → ⊥
 
 -- what is found: the delay of the first pair, or nothing where there is no pair
-pub data Finds (sps : ℕ) (level : Float) (p : List Float) : Option Float → Type 0 where
-  first : (i : ℕ) → FirstPair level p i → Finds sps level p (Some (delay_at sps level i (slice_index_or p i nan) (slice_index_or p (suc i) nan)))
-  nowhere : ((i : ℕ) → PairAt level p i → ⊥) → Finds sps level p None
+pub data Finds (level : Float) (p : List Float) : Option Float → Type 0 where
+  first : (i : ℕ) → FirstPair level p i → Finds level p (Some (delay_at level i (slice_index_or p i nan) (slice_index_or p (suc i) nan)))
+  nowhere : ((i : ℕ) → PairAt level p i → ⊥) → Finds level p None

@@ -2,7 +2,6 @@
 #![tactic(auto)]
 
 ghost use Rattle.std.specs.Prelude.{◌≡◌};
-ghost use Rattle.constants.specs.Rate.{four};
 ghost use Rattle.constants.specs.Setting.{by_mode};
 ghost use Rattle.pulse_shape.specs.GroupDelay.{crosses, delay_at, group_delay, mode_ac_group_delay};
 
@@ -17,7 +16,7 @@ fn crosses_level(level: f32, a: f32, b: f32) -> bool
 
 #[tactic(auto, using(pulse_shape::proofs::Delays::sixty_four), unfolding(pulse_shape::specs::GroupDelay::delay_at))]
 fn delay_at(level: f32, j: usize, a: f32, b: f32) -> f64
-    ensures { result ≡ delay_at four level j a b }
+    ensures { result ≡ delay_at level j a b }
 {
     let from = std::num::f32_to_f64_with_nan(a);
     let to = std::num::f32_to_f64_with_nan(b);
@@ -29,7 +28,7 @@ fn delay_at(level: f32, j: usize, a: f32, b: f32) -> f64
 // Where the level is first crossed, in samples.
 #[tactic(auto, using(pulse_shape::proofs::LoopSteps::delay_stop, pulse_shape::proofs::LoopSteps::delay_on, pulse_shape::proofs::LoopSteps::delay_end), unfolding(pulse_shape::specs::GroupDelay::group_delay))]
 fn crossing(level: f32, prototype: &[f32]) -> Option<f64>
-    ensures { result ≡ group_delay four level prototype.now }
+    ensures { result ≡ group_delay level prototype.now }
 {
     for j in 0..prototype.len().saturating_sub(1) {
         let a = prototype[j];
@@ -44,7 +43,7 @@ fn crossing(level: f32, prototype: &[f32]) -> Option<f64>
 // The delay of a prototype of a mode: the Mode A/C filterbank runs faster than the Mode S one.
 #[tactic(auto, using(pulse_shape::proofs::Delays::ratio_is), unfolding(constants::specs::Setting::by_mode, pulse_shape::specs::GroupDelay::mode_ac_group_delay))]
 pub fn group_delay(mode: Mode, level: f32, prototype: &[f32]) -> Option<f64>
-    ensures { result ≡ by_mode mode (group_delay four level prototype.now) (mode_ac_group_delay four level prototype.now) }
+    ensures { result ≡ by_mode mode (group_delay level prototype.now) (mode_ac_group_delay level prototype.now) }
 {
     let delay = crossing(level, prototype)?;
     match mode {

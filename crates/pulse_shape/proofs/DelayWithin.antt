@@ -1,7 +1,7 @@
 -- A delay lies within its prototype: where values of at most 16 in size cross a positive level, the delay is finite, at least 0 and below 7 * sps samples, which is 28 at 4 samples per pulse and 56 at 8.
 -- The quotient is of a smaller difference by a larger one, and rounding keeps order.
 use Rattle.std.specs.Prelude.{Option, Some, None}
-use Rattle.std.proofs.Common.{◌≡◌, ℕ, zero, suc, ◌+◌, ◌-◌, ◌*◌, ◌/◌, ◌^◌, ◌<◌, ◌≤◌, Bool, true, false, ◌&&◌, T, List, [], ◌∷◌, length, get_or, ℤ, pos, sym, refl, ap, ◌∙◌, subst, zero-le, le_trans, le_of_eq, lt_of_lt_of_le, lt_of_le_of_lt, le_of_lt, mul-le-mul_right, mul_assoc, mul_comm, add-mul, mul-le-mul_left, mul-lt-mul_of_pos_right, one-mul, zero-mul, mul-div_cancel, arith, lit<, lit≤, pow_pos}
+use Rattle.std.proofs.Common.{◌≡◌, ℕ, zero, suc, ◌+◌, ◌-◌, ◌*◌, ◌^◌, ◌<◌, ◌≤◌, Bool, true, false, ◌&&◌, T, List, [], ◌∷◌, length, get_or, ℤ, pos, sym, refl, ap, ◌∙◌, subst, zero-le, le_trans, le_of_eq, lt_of_lt_of_le, lt_of_le_of_lt, le_of_lt, mul-le-mul_right, mul_assoc, mul_comm, add-mul, mul-le-mul_left, mul-lt-mul_of_pos_right, one-mul, zero-mul, arith, lit<, lit≤, pow_pos}
 use lib.Ieee.{Float, nan, inf, fin, binary32, binary64, up, down, neg, add, sub, div, lt, le, eq, fits, of_int, of_bits}
 use lib.Ieee.Fits.{and_l, and_r, down_pos, fits_widens}
 use lib.Ieee.Scale.{overflow}
@@ -12,7 +12,7 @@ use Rattle.float_rounding.proofs.Val.{Val, val_units, minus_zero_lem, div_val}
 use Rattle.constants.specs.declared.SamplesPerPulse.{SamplesPerPulse}
 use Rattle.constants.specs.declared.SamplesPerPulse.TheVariants.{Four, Eight}
 use Rattle.constants.specs.Setting.{per_pulse}
-use Rattle.constants.specs.Rate.{branches, prototype_length}
+use Rattle.constants.specs.Rate.{branches_per_sample, prototype_length}
 use Rattle.constants.proofs.Settings.{rate_pos, rate_few}
 use Rattle.pulse_shape.specs.Accepted.{within16, all_within16}
 use Rattle.pulse_shape.specs.GroupDelay.{crosses, delay_at, choose, delay_from, group_delay, mode_ac_ratio, over, mode_ac_group_delay}
@@ -182,14 +182,11 @@ part_at_most j s J h = G-le s (64 * 2 ^ 1074) (suc j) 1068 (lit< tt) (room_53 j 
     at : (q : ℕ) → q * 2 ^ 1074 * 2 ^ 1074 ≡ q * 2 ^ 1068 * (64 * 2 ^ 1074)
     at q = mul_assoc q (2 ^ 1074) (2 ^ 1074) ∙ sym (mul_assoc q (2 ^ 1068) (64 * 2 ^ 1074))
 
-over_64 : (sps : ℕ) → 0 < sps → branches sps / sps ≡ 64
-over_64 sps S = mul-div_cancel 64 S
-
 -- the delay of a crossing between indices j and j + 1: at most (j + 1) / 64
-pub delay_units : (sps : ℕ) (level : Float) (j : ℕ) (a b : Float) → 0 < sps → j < 2 ^ 40 → T (fits binary64 level) → T (fits binary64 a) → T (fits binary64 b) → T (lt zero_f level) → T (within16 a) → T (within16 b) → T (crosses level a b)
-    → (n : ℕ) × Units (delay_at sps level j a b) n × (n ≤ suc j * 2 ^ 1068)
+pub delay_units : (level : Float) (j : ℕ) (a b : Float) → j < 2 ^ 40 → T (fits binary64 level) → T (fits binary64 a) → T (fits binary64 b) → T (lt zero_f level) → T (within16 a) → T (within16 b) → T (crosses level a b)
+    → (n : ℕ) × Units (delay_at level j a b) n × (n ≤ suc j * 2 ^ 1068)
 unfolding delay_at
-delay_units sps level j a b S J FL FA FB z a16 b16 t =
+delay_units level j a b J FL FA FB z a16 b16 t =
     let c = crossing_tests level a b t in
     let w = differences level a b FL FA FB z (within_tests a a16).0 (within_tests b b16).1 c.0 c.1 in
     let x = w.0 in
@@ -200,9 +197,9 @@ delay_units sps level j a b S J FL FA FB z a16 b16 t =
     let s = G (j * 2 ^ 1074 + G x y) (2 ^ 1074) in
     let s_most : s ≤ suc j * 2 ^ 1074 = sum_at_most j (G x y) (under_52 j J) q-most in
     let sum = add_units (of_int binary64 (pos j)) (div binary64 (sub binary64 level a) (sub binary64 b a)) (j * 2 ^ 1074) (G x y) i q (lt_of_le_of_lt s_most (big j J 1074 (lit< tt))) in
-    let k = subst (λ (m : ℕ). Units (of_int binary64 (pos m)) (64 * 2 ^ 1074)) (sym (over_64 sps S)) (of_int_lem 64 (lit≤ tt)) in
+    let k = of_int_lem branches_per_sample (lit≤ tt) in
     let d-most = part_at_most j s (under_52 j J) s_most in
-    (G s (64 * 2 ^ 1074), div_units (add binary64 (of_int binary64 (pos j)) (div binary64 (sub binary64 level a) (sub binary64 b a))) (of_int binary64 (pos (branches sps / sps))) s (64 * 2 ^ 1074) sum k (lit< tt) (lt_of_le_of_lt d-most (big j J 1068 (lit< tt))), d-most)
+    (G s (64 * 2 ^ 1074), div_units (add binary64 (of_int binary64 (pos j)) (div binary64 (sub binary64 level a) (sub binary64 b a))) (of_int binary64 (pos branches_per_sample)) s (64 * 2 ^ 1074) sum k (lit< tt) (lt_of_le_of_lt d-most (big j J 1068 (lit< tt))), d-most)
   where
     under_53 : (j : ℕ) → j < 2 ^ 40 → j ≤ 2 ^ 53
     under_53 j h = omega arith
@@ -221,13 +218,13 @@ Held p = (k : ℕ) → T (fits binary32 (get_or p k nan))
 true_is : (b : Bool) → b ≡ true → T b
 true_is b e = subst T (sym e) tt
 
-module _ (sps : ℕ) (level : Float) (S : 0 < sps) (FL : T (fits binary64 level)) (z : T (lt zero_f level)) (places : ℕ) (few : places ≤ 2 ^ 40) (d : Float) where
+module _ (level : Float) (FL : T (fits binary64 level)) (z : T (lt zero_f level)) (places : ℕ) (few : places ≤ 2 ^ 40) (d : Float) where
   abbrev Reached : Type 0
   Reached = (n : ℕ) × Units d n × (n ≤ (places - 1) * 2 ^ 1068)
 
-  found : (j : ℕ) (a b : Float) → j + 1 < places → T (fits binary32 a) → T (fits binary32 b) → T (within16 a) → T (within16 b) → T (crosses level a b) → delay_at sps level j a b ≡ d → Reached
+  found : (j : ℕ) (a b : Float) → j + 1 < places → T (fits binary32 a) → T (fits binary32 b) → T (within16 a) → T (within16 b) → T (crosses level a b) → delay_at level j a b ≡ d → Reached
   found j a b h FA FB a16 b16 t e =
-      let w = delay_units sps level j a b S (room j places h few) FL (fits_widens a FA) (fits_widens b FB) z a16 b16 t in
+      let w = delay_units level j a b (room j places h few) FL (fits_widens a FA) (fits_widens b FB) z a16 b16 t in
       (w.0, subst (λ (x : Float). Units x w.0) e w.1, le_trans w.2 (mul-le-mul_right (2 ^ 1068) (last j places h)))
     where
       room : (j n : ℕ) → j + 1 < n → n ≤ 2 ^ 40 → j < 2 ^ 40
@@ -236,7 +233,7 @@ module _ (sps : ℕ) (level : Float) (S : 0 < sps) (FL : T (fits binary64 level)
       last : (j n : ℕ) → j + 1 < n → suc j ≤ n - 1
       last j n h = omega arith
 
-  along : (l : List Float) (j : ℕ) → Held l → T (all_within16 l) → j + length l ≤ places → delay_from sps level j l ≡ Some d → Reached
+  along : (l : List Float) (j : ℕ) → Held l → T (all_within16 l) → j + length l ≤ places → delay_from level j l ≡ Some d → Reached
   unfolding delay_from all_within16
   along [] j H w h e = let y : ◌≡◌ {A = ℕ} 0 1 = cc in absurd (omega arith)
   along (a ∷ []) j H w h e = let y : ◌≡◌ {A = ℕ} 0 1 = cc in absurd (omega arith)
@@ -251,7 +248,7 @@ module _ (sps : ℕ) (level : Float) (S : 0 < sps) (FL : T (fits binary64 level)
       on : (j n m : ℕ) → j + suc (suc n) ≤ m → j + 1 + suc n ≤ m
       on j n m h = omega arith
 
-      go : (t : Bool) → crosses level a b ≡ t → choose t (Some (delay_at sps level j a b)) (delay_from sps level (j + 1) (b ∷ l)) ≡ Some d → (delay_from sps level (j + 1) (b ∷ l) ≡ Some d → Reached) → Reached
+      go : (t : Bool) → crosses level a b ≡ t → choose t (Some (delay_at level j a b)) (delay_from level (j + 1) (b ∷ l)) ≡ Some d → (delay_from level (j + 1) (b ∷ l) ≡ Some d → Reached) → Reached
       go true c f later = found j a b (inside j (length l) places h) (H 0) (H 1) (and_l (within16 a) (within16 b && all_within16 l) w) (and_l (within16 b) (all_within16 l) rest) (true_is (crosses level a b) c) (cc)
       go false c f later = later f
 
@@ -262,11 +259,11 @@ below_7 sps n S h = lt_of_le_of_lt h (lt_of_lt_of_le (mul-lt-mul_of_pos_right (l
     less : (s : ℕ) → 0 < s → 64 * s * 7 - 1 < 7 * s * 64
     less s h = omega arith
 
-pub delay_most : (sps : ℕ) (level : Float) (p : List Float) (d : Float) → 0 < sps → sps ≤ 2 ^ 30 → T (fits binary32 level) → T (lt zero_f level) → Held p → all_within16 p ≡ true → length p ≤ prototype_length sps → group_delay sps level p ≡ Some d
+pub delay_most : (sps : ℕ) (level : Float) (p : List Float) (d : Float) → sps ≤ 2 ^ 30 → T (fits binary32 level) → T (lt zero_f level) → Held p → all_within16 p ≡ true → length p ≤ prototype_length sps → group_delay level p ≡ Some d
     → (n : ℕ) × Units d n × (n ≤ (prototype_length sps - 1) * 2 ^ 1068)
 unfolding group_delay
-delay_most sps level p d S few FL z H w h e =
-    along sps level S (fits_widens level FL) z (prototype_length sps) (room sps few) d p 0 H (true_is (all_within16 p) w) (le_trans (le_of_eq (none (length p))) h) e
+delay_most sps level p d few FL z H w h e =
+    along level (fits_widens level FL) z (prototype_length sps) (room sps few) d p 0 H (true_is (all_within16 p) w) (le_trans (le_of_eq (none (length p))) h) e
   where
     room : (s : ℕ) → s ≤ 2 ^ 30 → 64 * s * 7 ≤ 2 ^ 40
     room s h = omega arith
@@ -287,8 +284,8 @@ below Eight d n u h = lt_from d 7 (pos 3) n (56 * 2 ^ 1074) u refl h
 within_of : (s : SamplesPerPulse) (d : Float) → (n : ℕ) × Units d n × (n ≤ (prototype_length (per_pulse s) - 1) * 2 ^ 1068) → T (le zero_f d) × T (lt d (seven_pulses s))
 within_of s d r = (nonneg d r.0 r.1, below s d r.0 r.1 (below_7 (per_pulse s) r.0 (rate_pos s) r.2))
 
-pub delay_within : (s : SamplesPerPulse) (level : Float) (p : List Float) (d : Float) → T (fits binary32 level) → T (lt zero_f level) → Held p → all_within16 p ≡ true → length p ≤ prototype_length (per_pulse s) → group_delay (per_pulse s) level p ≡ Some d → T (le zero_f d) × T (lt d (seven_pulses s))
-delay_within s level p d FL z H w h e = within_of s d (delay_most (per_pulse s) level p d (rate_pos s) (rate_few s) FL z H w h e)
+pub delay_within : (s : SamplesPerPulse) (level : Float) (p : List Float) (d : Float) → T (fits binary32 level) → T (lt zero_f level) → Held p → all_within16 p ≡ true → length p ≤ prototype_length (per_pulse s) → group_delay level p ≡ Some d → T (le zero_f d) × T (lt d (seven_pulses s))
+delay_within s level p d FL z H w h e = within_of s d (delay_most (per_pulse s) level p d (rate_few s) FL z H w h e)
 
 -- ---- Mode A/C: the ratio is from 1 to 2, so its delay is no larger
 ratio_low : 1 * 2 ^ 1074 ≤ G (1500 * 2 ^ 1074) (1450 * 2 ^ 1074)
@@ -309,12 +306,12 @@ from_ratio : (c : Option Float) (d : Float) → over mode_ac_ratio c ≡ Some d 
 from_ratio (Some x) d e = (x, refl, cc)
 from_ratio None d e = let y : ◌≡◌ {A = ℕ} 0 1 = cc in absurd (omega arith)
 
-pub mode_ac_delay_most : (sps : ℕ) (level : Float) (p : List Float) (d : Float) → 0 < sps → sps ≤ 2 ^ 30 → T (fits binary32 level) → T (lt zero_f level) → Held p → all_within16 p ≡ true → length p ≤ prototype_length sps → mode_ac_group_delay sps level p ≡ Some d
+pub mode_ac_delay_most : (sps : ℕ) (level : Float) (p : List Float) (d : Float) → sps ≤ 2 ^ 30 → T (fits binary32 level) → T (lt zero_f level) → Held p → all_within16 p ≡ true → length p ≤ prototype_length sps → mode_ac_group_delay level p ≡ Some d
     → (n : ℕ) × Units d n × (n ≤ (prototype_length sps - 1) * 2 ^ 1068)
 unfolding mode_ac_group_delay
-mode_ac_delay_most sps level p d S few FL z H w h e =
-    let f = from_ratio (group_delay sps level p) d e in
-    let r = delay_most sps level p f.0 S few FL z H w h f.1 in
+mode_ac_delay_most sps level p d few FL z H w h e =
+    let f = from_ratio (group_delay level p) d e in
+    let r = delay_most sps level p f.0 few FL z H w h f.1 in
     let k = G (1500 * 2 ^ 1074) (1450 * 2 ^ 1074) in
     let K : 0 < k = lt_of_lt_of_le (lit< {m = 0} {n = 1 * 2 ^ 1074} tt) ratio_low in
     let most : G r.0 k ≤ (prototype_length sps - 1) * 2 ^ 1068 = G-le r.0 k (prototype_length sps - 1) 1068 K (room sps few) (smaller (2 ^ 1068) r.0 (prototype_length sps - 1) k r.2 ratio_low) in
@@ -323,5 +320,5 @@ mode_ac_delay_most sps level p d S few FL z H w h e =
     room : (s : ℕ) → s ≤ 2 ^ 30 → 64 * s * 7 - 1 < 2 ^ 53
     room s h = omega arith
 
-pub mode_ac_delay_within : (s : SamplesPerPulse) (level : Float) (p : List Float) (d : Float) → T (fits binary32 level) → T (lt zero_f level) → Held p → all_within16 p ≡ true → length p ≤ prototype_length (per_pulse s) → mode_ac_group_delay (per_pulse s) level p ≡ Some d → T (le zero_f d) × T (lt d (seven_pulses s))
-mode_ac_delay_within s level p d FL z H w h e = within_of s d (mode_ac_delay_most (per_pulse s) level p d (rate_pos s) (rate_few s) FL z H w h e)
+pub mode_ac_delay_within : (s : SamplesPerPulse) (level : Float) (p : List Float) (d : Float) → T (fits binary32 level) → T (lt zero_f level) → Held p → all_within16 p ≡ true → length p ≤ prototype_length (per_pulse s) → mode_ac_group_delay level p ≡ Some d → T (le zero_f d) × T (lt d (seven_pulses s))
+mode_ac_delay_within s level p d FL z H w h e = within_of s d (mode_ac_delay_most (per_pulse s) level p d (rate_few s) FL z H w h e)

@@ -26,26 +26,26 @@ products_end a b j e k sum h =
 drop_next : (l : List Float) (j : ℕ) → j < length l → drop j l ≡ get_or l j nan ∷ drop (j + 1) l
 drop_next l j h = drop-cons l j nan h ∙ ap (λ (i : ℕ). get_or l j nan ∷ drop i l) (sym (add-one j))
 
-pub delay_step : (sps : ℕ) (level : Float) (l : List Float) (j : ℕ) → j + 1 < length l
-    → delay_from sps level j (drop j l)
-    ≡ choose (crosses level (get_or l j nan) (get_or l (j + 1) nan)) (Some (delay_at sps level j (get_or l j nan) (get_or l (j + 1) nan))) (delay_from sps level (j + 1) (drop (j + 1) l))
+pub delay_step : (level : Float) (l : List Float) (j : ℕ) → j + 1 < length l
+    → delay_from level j (drop j l)
+    ≡ choose (crosses level (get_or l j nan) (get_or l (j + 1) nan)) (Some (delay_at level j (get_or l j nan) (get_or l (j + 1) nan))) (delay_from level (j + 1) (drop (j + 1) l))
 unfolding delay_from
-delay_step sps level l j h =
+delay_step level l j h =
     let a = get_or l j nan in
     let b = get_or l (j + 1) nan in
     let next : drop (j + 1) l ≡ b ∷ drop (j + 1 + 1) l = drop_next l (j + 1) h in
-    ap (delay_from sps level j) (drop_next l j (omega arith) ∙ ap (λ (t : List Float). a ∷ t) next)
-    ∙ ap (λ (t : List Float). choose (crosses level a b) (Some (delay_at sps level j a b)) (delay_from sps level (j + 1) t)) (sym next)
+    ap (delay_from level j) (drop_next l j (omega arith) ∙ ap (λ (t : List Float). a ∷ t) next)
+    ∙ ap (λ (t : List Float). choose (crosses level a b) (Some (delay_at level j a b)) (delay_from level (j + 1) t)) (sym next)
 
-pub delay_end : (sps : ℕ) (level : Float) (l : List Float) (j : ℕ) → length l ≤ j + 1 → delay_from sps level j (drop j l) ≡ None
+pub delay_end : (level : Float) (l : List Float) (j : ℕ) → length l ≤ j + 1 → delay_from level j (drop j l) ≡ None
 unfolding delay_from
-delay_end sps level [] zero h = refl
-delay_end sps level [] (suc j) h = refl
-delay_end sps level (a ∷ []) zero h = refl
-delay_end sps level (a ∷ b ∷ l) zero h = absurd (omega arith)
-delay_end sps level (a ∷ l) (suc j) h = last (drop j l) j (omega (arith, short l j (omega arith)))
+delay_end level [] zero h = refl
+delay_end level [] (suc j) h = refl
+delay_end level (a ∷ []) zero h = refl
+delay_end level (a ∷ b ∷ l) zero h = absurd (omega arith)
+delay_end level (a ∷ l) (suc j) h = last (drop j l) j (omega (arith, short l j (omega arith)))
   where
-    last : (t : List Float) (j : ℕ) → length t ≤ 1 → delay_from sps level (suc j) t ≡ None
+    last : (t : List Float) (j : ℕ) → length t ≤ 1 → delay_from level (suc j) t ≡ None
     last [] j h = refl
     last (a ∷ []) j h = refl
     last (a ∷ b ∷ t) j h = absurd (omega arith)
@@ -53,12 +53,12 @@ delay_end sps level (a ∷ l) (suc j) h = last (drop j l) j (omega (arith, short
     short : (l : List Float) (j : ℕ) → length l ≤ j + 1 → length (drop j l) ≤ 1
     short l j h = simp length-drop (omega arith)
 
-pub delay_stop : (sps : ℕ) (level : Float) (l : List Float) (j : ℕ) → j + 1 < length l → crosses level (get_or l j nan) (get_or l (j + 1) nan) ≡ true
-    → delay_from sps level j (drop j l) ≡ Some (delay_at sps level j (get_or l j nan) (get_or l (j + 1) nan))
-delay_stop sps level l j h e =
-    delay_step sps level l j h ∙ ap (λ (t : Bool). choose t (Some (delay_at sps level j (get_or l j nan) (get_or l (j + 1) nan))) (delay_from sps level (j + 1) (drop (j + 1) l))) e
+pub delay_stop : (level : Float) (l : List Float) (j : ℕ) → j + 1 < length l → crosses level (get_or l j nan) (get_or l (j + 1) nan) ≡ true
+    → delay_from level j (drop j l) ≡ Some (delay_at level j (get_or l j nan) (get_or l (j + 1) nan))
+delay_stop level l j h e =
+    delay_step level l j h ∙ ap (λ (t : Bool). choose t (Some (delay_at level j (get_or l j nan) (get_or l (j + 1) nan))) (delay_from level (j + 1) (drop (j + 1) l))) e
 
-pub delay_on : (sps : ℕ) (level : Float) (l : List Float) (j : ℕ) → j + 1 < length l → crosses level (get_or l j nan) (get_or l (j + 1) nan) ≡ false
-    → delay_from sps level j (drop j l) ≡ delay_from sps level (j + 1) (drop (j + 1) l)
-delay_on sps level l j h e =
-    delay_step sps level l j h ∙ ap (λ (t : Bool). choose t (Some (delay_at sps level j (get_or l j nan) (get_or l (j + 1) nan))) (delay_from sps level (j + 1) (drop (j + 1) l))) e
+pub delay_on : (level : Float) (l : List Float) (j : ℕ) → j + 1 < length l → crosses level (get_or l j nan) (get_or l (j + 1) nan) ≡ false
+    → delay_from level j (drop j l) ≡ delay_from level (j + 1) (drop (j + 1) l)
+delay_on level l j h e =
+    delay_step level l j h ∙ ap (λ (t : Bool). choose t (Some (delay_at level j (get_or l j nan) (get_or l (j + 1) nan))) (delay_from level (j + 1) (drop (j + 1) l))) e

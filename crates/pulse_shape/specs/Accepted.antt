@@ -15,7 +15,7 @@ unfoldable pub all_within16 : List Float → Bool
 all_within16 [] = true
 all_within16 (x ∷ xs) = within16 x && all_within16 xs
 
--- a Mode S lowpass has 1,486 taps, a Mode A/C lowpass 1,515
+-- a Mode S lowpass has 1,486 taps at 4 samples per pulse and 2,971 at 8, a Mode A/C lowpass 1,515 and 3,029
 unfoldable pub mode_s_taps_accepted : ℕ → List Float → Bool
 mode_s_taps_accepted sps taps = length taps == mode_s_taps sps && all_within16 taps
 

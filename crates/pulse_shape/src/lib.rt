@@ -2,15 +2,14 @@
 // Each function is equal to a definition of specs/ on every input.
 #![tactic(auto)]
 
-ghost use Rattle.std.specs.Prelude.{◌≡◌, ◌<◌, ◌≤◌};
-ghost use Rattle.constants.specs.Rate.{four};
-ghost use Rattle.constants.specs.Setting.{by_mode};
+ghost use Rattle.std.specs.Prelude.{◌≡◌, ◌<◌, ◌≤◌, ◌^◌, length};
+ghost use Rattle.constants.specs.Setting.{per_pulse, by_mode};
 ghost use Rattle.pulse_shape.specs.Values.{values};
-ghost use Rattle.pulse_shape.specs.Trapezoid.{trapezoid_at};
+ghost use Rattle.pulse_shape.specs.Trapezoid.{trapezoid_at, mode_s_trapezoid, mode_ac_trapezoid};
 ghost use Rattle.pulse_shape.specs.Convolve.{convolve_at};
-ghost use Rattle.pulse_shape.specs.Prototype.{prototype_of, mode_s_prototype, mode_ac_prototype};
+ghost use Rattle.pulse_shape.specs.Prototype.{first_values};
 
-use constants::{Mode, PROTOTYPE_LEN};
+use constants::{Mode, SamplesPerPulse};
 
 // The filters of the two modes: the lowpass taps that a run is opened with, or the prototypes that replies are made by. `Delays` of message_config has numbers: one struct for both would put a type parameter into each definition over delays, and be no plainer.
 #[derive(Clone, Copy)]
@@ -43,7 +42,7 @@ fn trapezoid_at(rise: u32, fall: u32, total: u32, j: u32) -> f32
 
 // The trapezoid of N values with two edges. By a loop: the closure of `from_fn` would want the clauses of `trapezoid_at` again, as N is any number.
 fn trapezoid<const N: usize>(rise: u32, fall: u32) -> [f32; N]
-    requires { (N ≤ 1792) × (fall ≤ N) }
+    requires { (N ≤ 614) × (fall ≤ N) }
     ensures { result ≡ values (trapezoid_at rise fall N) N }
 {
     let mut out = [0.0f32; N];
@@ -55,7 +54,7 @@ fn trapezoid<const N: usize>(rise: u32, fall: u32) -> [f32; N]
 
 // Value j of the convolution of a and b: from 0.0, the products a[k] * b[j - k] of the indices that both have.
 fn convolve_at(a: &[f32], b: &[f32], j: usize) -> f32
-    requires { j < 1792 }
+    requires { j < 2 ^ 63 }
     ensures { result ≡ convolve_at a.now b.now j }
 {
     let start = (j + 1).saturating_sub(b.len());
@@ -67,24 +66,24 @@ fn convolve_at(a: &[f32], b: &[f32], j: usize) -> f32
     sum
 }
 
-// A pulse convolved with a lowpass. By a loop: with `from_fn` the proof did not close.
-fn convolution(pulse: &[f32], lowpass: &[f32]) -> [f32; PROTOTYPE_LEN]
-    ensures { result ≡ prototype_of four pulse.now lowpass.now }
+// The first values of a pulse convolved with a lowpass. By a loop: with `from_fn` the proof did not close.
+fn convolution(pulse: &[f32], lowpass: &[f32], out: &mut [f32])
+    ensures { out.new ≡ first_values (length out.old) pulse.now lowpass.now }
 {
-    let mut out = [0.0f32; PROTOTYPE_LEN];
     for (j, x) in out.iter_mut().enumerate() {
         *x = convolve_at(pulse, lowpass, j);
     }
-    out
 }
 
-// The prototype of a mode, from its lowpass.
+// Writes the prototype of a mode, from its lowpass: as many of its values as there is room for, and 0.0 behind its last one.
 #[tactic(auto, unfolding(constants::specs::Setting::by_mode, crate::specs::Trapezoid::mode_s_trapezoid, crate::specs::Trapezoid::mode_ac_trapezoid))]
-pub fn prototype(mode: Mode, lowpass: &[f32]) -> [f32; PROTOTYPE_LEN]
-    ensures { result ≡ by_mode mode (mode_s_prototype four lowpass.now) (mode_ac_prototype four lowpass.now) }
+pub fn prototype(setting: SamplesPerPulse, mode: Mode, lowpass: &[f32], out: &mut [f32])
+    ensures { out.new ≡ first_values (length out.old) (by_mode mode (mode_s_trapezoid (per_pulse setting)) (mode_ac_trapezoid (per_pulse setting))) lowpass.now }
 {
-    match mode {
-        Mode::S => convolution(&trapezoid::<307>(38, 64), lowpass),
-        Mode::Ac => convolution(&trapezoid::<278>(40, 40), lowpass),
+    match (setting, mode) {
+        (SamplesPerPulse::Four, Mode::S) => convolution(&trapezoid::<307>(38, 64), lowpass, out),
+        (SamplesPerPulse::Four, Mode::Ac) => convolution(&trapezoid::<278>(40, 40), lowpass, out),
+        (SamplesPerPulse::Eight, Mode::S) => convolution(&trapezoid::<614>(76, 128), lowpass, out),
+        (SamplesPerPulse::Eight, Mode::Ac) => convolution(&trapezoid::<556>(80, 80), lowpass, out),
     }
 }

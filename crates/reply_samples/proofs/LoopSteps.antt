@@ -10,11 +10,11 @@ use lib.ListN.{length, get_or, drop, length-set}
 use lib.Seq.{drop-cons}
 use Rattle.std.proofs.Common.{drop_of_length-le}
 use lib.Ieee.{Float, nan, binary64, add}
-use Rattle.constants.specs.Rate.{working_memory}
+use Rattle.constants.specs.Rate.{working_memory, ring_slots}
 use Rattle.math.specs.Phase.{phase_wrap_once}
 use Rattle.reply_samples.specs.declared.Sample.{Sample}
 use Rattle.reply_samples.specs.Samples.{sample_at, rotated}
-use Rattle.reply_samples.specs.RingModel.{ring_slots, added_at, next_slot, added_from, is_slot, added_reply}
+use Rattle.reply_samples.specs.RingModel.{added_at, next_slot, added_from, is_slot, added_reply}
 
 -- ---- the functions that the loop calls
 pub next_on : (sps p : ℕ) → p < ring_slots sps - 1 → p + 1 ≡ next_slot sps p

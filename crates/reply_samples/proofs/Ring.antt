@@ -15,7 +15,8 @@ use Rattle.constants.specs.declared.SamplesPerPulse.TheVariants.{Four, Eight}
 use Rattle.constants.specs.Setting.{per_pulse}
 use Rattle.filterbank.proofs.Padded.{le_or_lt}
 use Rattle.reply_samples.specs.declared.Sample.{Sample}
-use Rattle.reply_samples.specs.RingModel.{ring_slots, added_at, next_slot, added_from, is_slot, added_reply}
+use Rattle.reply_samples.specs.RingModel.{added_at, next_slot, added_from, is_slot, added_reply}
+use Rattle.constants.specs.Rate.{ring_slots}
 use Rattle.reply_samples.proofs.LoopSteps.{added_length}
 
 -- among W slots the next is one more, and 0 after the last

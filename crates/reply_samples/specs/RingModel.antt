@@ -2,12 +2,8 @@
 use Rattle.std.specs.Prelude.{ℕ, ◌+◌, ◌-◌, ◌*◌, Bool, cond, ◌&&◌, List, [], ◌∷◌, ltb, eqb, length, get_or, set, Float}
 use Rattle.std.specs.Float.{nan, binary32}
 use Rattle.std.specs.Float.Ieee.{add}
-use Rattle.constants.specs.Rate.{reply_limit, hold_back, working_memory}
+use Rattle.constants.specs.Rate.{ring_slots, working_memory}
 use Rattle.reply_samples.specs.declared.Sample.{Sample}
-
--- the slots of the ring: 1,126
-abbrev pub ring_slots : ℕ → ℕ
-ring_slots sps = reply_limit sps + hold_back sps
 
 -- a sample added at a slot
 unfoldable pub added_at : List Float → ℕ → Sample → List Float

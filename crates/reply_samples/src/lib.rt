@@ -6,9 +6,9 @@ ghost use Rattle.std.specs.Prelude.{◌≡◌, ◌≤◌, ◌<◌, ◌+◌, ◌*
 ghost use Rattle.std.specs.Float.{binary32, nan};
 ghost use Rattle.std.specs.Float.Ieee.{add};
 ghost use Rattle.constants.specs.Setting.{per_pulse};
-ghost use Rattle.constants.specs.Rate.{working_memory};
+ghost use Rattle.constants.specs.Rate.{working_memory, ring_slots};
 ghost use Rattle.reply_samples.specs.Samples.{sample_at, rotated};
-ghost use Rattle.reply_samples.specs.RingModel.{ring_slots, added_at, next_slot, added_from, added_reply, added_count};
+ghost use Rattle.reply_samples.specs.RingModel.{added_at, next_slot, added_from, added_reply, added_count};
 
 use constants::SamplesPerPulse;
 

@@ -1,2 +1,2 @@
-pub mod InRange
+mod InRange
 mod Decided

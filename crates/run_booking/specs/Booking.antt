@@ -1,7 +1,8 @@
 -- What a booking will use (SPECIFICATION 10.4): opening's checks, then every draw, then the figures of the run.
 use Rattle.std.specs.Prelude.{Result, Ok, Err, option_map}
 use Rattle.std.specs.Prelude.{ℕ, ◌*◌, ◌%◌, cond, List, eqb, length, Float}
-use Rattle.constants.specs.Rate.{four, prototype_length, working_memory}
+use Rattle.constants.specs.Setting.{per_pulse}
+use Rattle.constants.specs.declared.SamplesPerPulse.{SamplesPerPulse}
 use Rattle.pulse_shape.specs.Prototype.{mode_s_prototype, mode_ac_prototype}
 use Rattle.refusals.specs.declared.Refusal as Refusal
 use Rattle.refusals.specs.Answer.{unless}
@@ -11,7 +12,8 @@ use Rattle.run_theory.specs.PlainBench as Bench
 use Rattle.run_call.specs.declared.State.{State}
 use Rattle.run_call.specs.StateGenerator.{gen_of}
 use Rattle.run_call.specs.Given.{refusal_given}
-use Rattle.run_open_checks.specs.Opening.{opened_for}
+use Rattle.run_open_checks.specs.Opening.{opened_at}
+use Rattle.settings.specs.Accepted.{setting_at, at_setting}
 use Rattle.run_booking_walk.specs.Walk.{End, walk_of}
 
 -- samples, noise values, records and draws taken, and which draw ends the run or that draws ran out
@@ -33,14 +35,14 @@ draws_then s mode_s mode_ac time draws =
     unless (option_map refusal_given (Bench.first_fault G 0 (Bench.draws_of G draws))) (figures_of G time (Bench.draws_of G draws))
 
 module _ (taps_s taps_ac : List Float) where
-  -- what opening answers where prototypes and working memory have their lengths
-  abbrev pub opened : List ℕ → (Result State Refusal.Refusal)
-  opened settings = opened_for four taps_s taps_ac settings (prototype_length four) (prototype_length four) (working_memory four)
-
   unfoldable pub opened_then : Float → List ℕ → (Result State Refusal.Refusal) → Result (Figures Float) Refusal.Refusal
-  opened_then time draws (Ok s) = draws_then s (mode_s_prototype four taps_s) (mode_ac_prototype four taps_ac) time draws
+  opened_then time draws (Ok s) = draws_then s (mode_s_prototype (per_pulse s.setting) taps_s) (mode_ac_prototype (per_pulse s.setting) taps_ac) time draws
   opened_then time draws (Err refusal) = Err refusal
 
-  -- what a booking answers: refusal 9 for draw bytes no multiple of 65, and for settings of another length; then opening's others; then 7; then the figures
+  -- refusal 9 for draw bytes no multiple of 65; then opening's others, prototypes and working memory having their lengths; then 7; then the figures
+  unfoldable pub booking_at : Float → List ℕ → List ℕ → SamplesPerPulse → Result (Figures Float) Refusal.Refusal
+  booking_at time settings draws setting = cond (eqb (length draws % draw_length) 0) (opened_then time draws (opened_at taps_s taps_ac settings setting)) (Err Refusal.TheVariants.Length)
+
+  -- what a booking answers: refusal 15 first, but for 9 for settings of another length
   unfoldable pub booking_of : Float → List ℕ → List ℕ → Result (Figures Float) Refusal.Refusal
-  booking_of time settings draws = cond (eqb (length draws % draw_length) 0) (opened_then time draws (opened settings)) (Err Refusal.TheVariants.Length)
+  booking_of time settings draws = at_setting (booking_at time settings draws) (setting_at settings)

@@ -10,7 +10,6 @@ use pulse_shape::Filters;
 use refusals::Refusal;
 use run_booking_walk::End;
 use run_call::State;
-use run_open_checks::Lengths;
 
 // The samples, noise values and records of a run, the draws that it takes, and where they end.
 #[derive(Clone, Copy)]
@@ -28,7 +27,7 @@ fn of_run(s: State, time: f64, draws: &[u8]) -> Result<Figures, Refusal>
     requires { s.total ≤ 2 ^ 52 }
     ensures { booked_read result ≡ draws_then s [] [] time draws.now }
 {
-    let walked = run_booking_walk::walk(s.distributions, s.delays, s.total, time, draws);
+    let walked = run_booking_walk::walk(s.setting, s.distributions, s.delays, s.total, time, draws);
     if let Some((k, field)) = draw_fields::first_fault(draws, s.rates, s.distributions) {
         return Err(Refusal::Draw(k, field));
     }
@@ -42,13 +41,14 @@ fn of_run(s: State, time: f64, draws: &[u8]) -> Result<Figures, Refusal>
 }
 
 // What a run of these settings and filters will use of these draws, the time before the first of them given: 0.0, or where an earlier part of the draws ran out.
-#[tactic(auto, unfolding(crate::specs::Booking::booking_of, crate::specs::Booking::opened_then, crate::specs::Booked::booked_read, run_open_checks::specs::Opening::prepared_of), using(crate::proofs::InRange::few_samples, crate::proofs::Decided::any_prototypes))]
+#[tactic(auto, unfolding(crate::specs::Booking::booking_of, crate::specs::Booking::booking_at, crate::specs::Booking::opened_then, settings::specs::Accepted::at_setting, crate::specs::Booked::booked_read), using(crate::proofs::InRange::few_samples, crate::proofs::Decided::prepared_then))]
 pub fn booking(time: f64, settings: &[u8], taps: Filters, draws: &[u8]) -> Result<Figures, Refusal>
     ensures { booked_read result ≡ booking_of taps.entry.mode_s.now taps.entry.mode_ac.now time settings.now draws.now }
 {
+    let setting = settings::samples_per_pulse(settings)?;
     if draws.len() % DRAW_LEN != 0 {
         return Err(Refusal::Length);
     }
-    let s = run_open_checks::prepare(settings, taps, Lengths::WHOLE).opened?;
-    of_run(s, time, draws)
+    let p = run_open_checks::prepare_at(setting, settings, taps)?;
+    of_run(p.state, time, draws)
 }

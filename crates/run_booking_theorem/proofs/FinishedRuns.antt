@@ -8,7 +8,8 @@ use native.Mathlib.Nat.{zero-add}
 use native.Mathlib.Omega.{arith}
 use lib.ListN.{length}
 use lib.Ieee.{Float, nan}
-use Rattle.constants.specs.Rate.{four, working_memory}
+use Rattle.constants.specs.Rate.{working_memory}
+use Rattle.constants.specs.Setting.{per_pulse}
 use Rattle.pulse_shape.specs.Prototype.{mode_s_prototype, mode_ac_prototype}
 use Rattle.run_theory.specs.FloatGenerator.{nought}
 use Rattle.run_theory.specs.Zeros.{zeros}
@@ -24,6 +25,7 @@ use Rattle.run_call.specs.declared.State.{State}
 use Rattle.run_call.specs.StateGenerator.{filters_of}
 use Rattle.run_call.specs.Buffers.{Left, CallBuffers}
 use Rattle.run_open_checks.specs.Opening as Opening
+use Rattle.run_open_checks.proofs.OpenedSetting.{setting_opened, opened_at_setting}
 use Rattle.run_open_checks.proofs.WhatIsOpened.{opened_run_in_range}
 use Rattle.run_theorem.specs.Seen.{Seen, seen_left, counts_of, seen_result}
 use Rattle.run_theorem.specs.OpenedRuns.{Run, Opens, calls, gen, bench_calls, results, bench, draws_taken, ReachesDone, Demand3}
@@ -32,7 +34,7 @@ use Rattle.run_booking_walk.specs.Walk.{Walk, at_draw, walk_of, walk_from}
 use Rattle.run_booking_theorem.specs.FinishedRuns.{Totals, added, in_all, Follows, Finished, FinishedRuns}
 use Rattle.run_booking_theorem.proofs.Walked.{walk_ends}
 use Rattle.run_booking_theorem.proofs.BenchCounts.{sum_taken, sum_samples, sum_noise, sum_records, Sums, sums}
-use Rattle.run_booking_theorem.proofs.OpenedBooking.{both_in_range, opened_so, booked}
+use Rattle.run_booking_theorem.proofs.OpenedBooking.{both_in_range, booked}
 
 -- ---- counts of calls are those of the plain bench
 abbrev seen_all : List Seen → Totals
@@ -63,9 +65,9 @@ module _ (r : Run) where
   seen_results (x ∷ xs) = ap (added (counts_of x.answer)) (seen_results xs) ∙ counts_in_lem x.answer (totals xs)
 
 -- ---- a run opened to its buffers
-module _ (taps_s taps_ac : List Float) (settings : List ℕ) (given : Opening.OpenBuffers) (s : State) (opens : Opening.opened_of four taps_s taps_ac settings given ≡ Ok s) where
+module _ (taps_s taps_ac : List Float) (settings : List ℕ) (given : Opening.OpenBuffers) (s : State) (opens : Opening.opened_of taps_s taps_ac settings given ≡ Ok s) where
   abbrev run : Run
-  run = record { state = s; buffers = record { mode_s = mode_s_prototype four taps_s; mode_ac = mode_ac_prototype four taps_ac; memory = zeros (working_memory four) } }
+  run = record { state = s; buffers = record { mode_s = mode_s_prototype (per_pulse s.setting) taps_s; mode_ac = mode_ac_prototype (per_pulse s.setting) taps_ac; memory = zeros (working_memory (per_pulse s.setting)) } }
 
   is_opened : Opens taps_s taps_ac settings given run
   unfolding Opening.left_by
@@ -114,7 +116,7 @@ module _ (taps_s taps_ac : List Float) (settings : List ℕ) (given : Opening.Op
     in_range : AllInRange (gen run) (Bench.draws_of (gen run) bytes)
     in_range =
         let q = opened_run_in_range taps_s taps_ac settings given s opens in
-        let b = reached (gen run) (instance_laws (filters_of s (mode_s_prototype four taps_s) (mode_ac_prototype four taps_ac)) q.0 s.total q.1) nan (bench_calls run cs) in
+        let b = reached (gen run) (instance_laws (filters_of s (mode_s_prototype (per_pulse s.setting) taps_s) (mode_ac_prototype (per_pulse s.setting) taps_ac)) q.0 s.total q.1) nan (bench_calls run cs) in
         subst (AllInRange (gen run)) (sym draws_are) (both_in_range (gen run) (bench run cs).taken F.behind b.in_range F.in_range)
 
     finished : Finished taps_s taps_ac settings run cs bytes
@@ -122,7 +124,7 @@ module _ (taps_s taps_ac : List Float) (settings : List ℕ) (given : Opening.Op
       last = found.0;
       taken = ap (λ (n : Totals). n.taken) counts_are ∙ sym (zero-add _) ∙ S.taken ∙ sym all_taken_lem;
       booked =
-          booked taps_s taps_ac settings s nought bytes (opened_so taps_s taps_ac settings given s opens) F.whole in_range
+          booked taps_s taps_ac settings s.setting s nought bytes (setting_opened taps_s taps_ac settings given s opens) (opened_at_setting taps_s taps_ac settings given s opens) F.whole in_range
           ∙ (λ i. Ok (record {
             samples = samples_are i;
             noise = noise_are i;

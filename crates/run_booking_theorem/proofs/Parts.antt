@@ -9,7 +9,8 @@ use native.Mathlib.Omega.{arith}
 use lib.Dec.{eqb}
 use lib.ListN.{length}
 use lib.Ieee.{Float}
-use Rattle.constants.specs.Rate.{four}
+use Rattle.constants.specs.Setting.{per_pulse}
+use Rattle.constants.specs.declared.SamplesPerPulse.{SamplesPerPulse}
 use Rattle.pulse_shape.specs.Prototype.{mode_s_prototype, mode_ac_prototype}
 use Rattle.refusals.specs.declared.Refusal as Refusal
 use Rattle.refusals.specs.Answer.{unless}
@@ -21,11 +22,14 @@ use Rattle.run_theory.specs.PlainBench.{join}
 use Rattle.run_theory.specs.Laws.{AllInRange}
 use Rattle.run_theory.proofs.Refusals.{accepted_draws}
 use Rattle.run_generator.specs.Instance.{RepresentableDraw}
+use Rattle.settings.specs.Accepted.{setting_at}
 use Rattle.run_call.specs.declared.State.{State}
 use Rattle.run_call.specs.Given.{refusal_given}
 use Rattle.run_call.specs.StateGenerator.{filters_of, gen_of}
+use Rattle.run_open_checks.specs.Opening.{opened_at}
+use Rattle.run_open_checks.proofs.OpenedSetting.{at_setting_ok}
 use Rattle.run_booking_walk.specs.Walk.{Walk, End, at_draw, by_kind, walk_from, walk_of}
-use Rattle.run_booking.specs.Booking.{Figures, figures_of, draws_then, opened, opened_then, booking_of}
+use Rattle.run_booking.specs.Booking.{Figures, figures_of, draws_then, opened_then, booking_at, booking_of}
 use Rattle.run_booking_theorem.specs.Parts.{behind, added_to, go_on, and_then, in_parts, WholeDraws, Parts}
 use Rattle.run_booking_theorem.proofs.Walked.{walk_on, walk_out, walk_ends}
 use Rattle.run_booking_theorem.proofs.OpenedBooking.{booked}
@@ -75,41 +79,48 @@ not_accepted q y e = let z : ◌≡◌ {A = ℕ} 0 1 = cc in absurd (omega arith
 
 module _ (taps_s taps_ac : List Float) (settings : List ℕ) where
   abbrev H : State → Generator
-  H s = gen_of s (mode_s_prototype four taps_s) (mode_ac_prototype four taps_ac)
+  H s = gen_of s (mode_s_prototype (per_pulse s.setting) taps_s) (mode_ac_prototype (per_pulse s.setting) taps_ac)
 
   in_range : (s : State) (t : Float) (ds : List RepresentableDraw) → Bench.first_fault (H s) 0 ds ≡ None → AllInRange (H s) ds
   in_range s t [] e = tt
   in_range s t (d ∷ ds) e = (accepted_draws (H s) t None (d ∷ ds) e).in_range
 
   record Accepts (t : Float) (bytes : List ℕ) (f : Figures Float) : Type 0 where
+    setting : SamplesPerPulse
+    is_said : setting_at settings ≡ Ok setting
     state : State
-    is_opened : opened taps_s taps_ac settings ≡ Ok state
-    all_in_range : AllInRange (gen_of state (mode_s_prototype four taps_s) (mode_ac_prototype four taps_ac)) (Bench.draws_of (gen_of state (mode_s_prototype four taps_s) (mode_ac_prototype four taps_ac)) bytes)
-    figures : figures_of (gen_of state (mode_s_prototype four taps_s) (mode_ac_prototype four taps_ac)) t (Bench.draws_of (gen_of state (mode_s_prototype four taps_s) (mode_ac_prototype four taps_ac)) bytes) ≡ f
+    is_opened : opened_at taps_s taps_ac settings setting ≡ Ok state
+    all_in_range : AllInRange (gen_of state (mode_s_prototype (per_pulse state.setting) taps_s) (mode_ac_prototype (per_pulse state.setting) taps_ac)) (Bench.draws_of (gen_of state (mode_s_prototype (per_pulse state.setting) taps_s) (mode_ac_prototype (per_pulse state.setting) taps_ac)) bytes)
+    figures : figures_of (gen_of state (mode_s_prototype (per_pulse state.setting) taps_s) (mode_ac_prototype (per_pulse state.setting) taps_ac)) t (Bench.draws_of (gen_of state (mode_s_prototype (per_pulse state.setting) taps_s) (mode_ac_prototype (per_pulse state.setting) taps_ac)) bytes) ≡ f
 
   what_is_accepted : (t : Float) (bytes : List ℕ) (f : Figures Float) → booking_of taps_s taps_ac t settings bytes ≡ Ok f → Accepts t bytes f
-  unfolding booking_of opened_then draws_then unless
-  what_is_accepted t bytes f e = by_length (eqb (length bytes % 65) 0) e
+  unfolding booking_of booking_at opened_then draws_then unless
+  what_is_accepted t bytes f e =
+      let w = at_setting_ok (booking_at taps_s taps_ac t settings bytes) (setting_at settings) f e in
+      by_setting w.0 w.1 w.2
     where
-      by_fault_lem : (s : State) → opened taps_s taps_ac settings ≡ Ok s → (x : Option Bench.Refusal) → Bench.first_fault (H s) 0 (Bench.draws_of (H s) bytes) ≡ x
-          → unless (option_map refusal_given x) (figures_of (H s) t (Bench.draws_of (H s) bytes)) ≡ Ok f → Accepts t bytes f
-      by_fault_lem s o None k q =
-          let same : figures_of (H s) t (Bench.draws_of (H s) bytes) ≡ f = cc in
-          record { state = s; is_opened = o; all_in_range = in_range s t (Bench.draws_of (H s) bytes) k; figures = same }
-      by_fault_lem s o (Some r) k q = not_accepted _ f q
+      by_setting : (z : SamplesPerPulse) → setting_at settings ≡ Ok z → booking_at taps_s taps_ac t settings bytes z ≡ Ok f → Accepts t bytes f
+      by_setting z b e' = by_length (eqb (length bytes % 65) 0) e'
+        where
+          by_fault_lem : (s : State) → opened_at taps_s taps_ac settings z ≡ Ok s → (x : Option Bench.Refusal) → Bench.first_fault (H s) 0 (Bench.draws_of (H s) bytes) ≡ x
+              → unless (option_map refusal_given x) (figures_of (H s) t (Bench.draws_of (H s) bytes)) ≡ Ok f → Accepts t bytes f
+          by_fault_lem s o None k q =
+              let same : figures_of (H s) t (Bench.draws_of (H s) bytes) ≡ f = cc in
+              record { setting = z; is_said = b; state = s; is_opened = o; all_in_range = in_range s t (Bench.draws_of (H s) bytes) k; figures = same }
+          by_fault_lem s o (Some r) k q = not_accepted _ f q
 
-      by_opened : (x : (Result State Refusal.Refusal)) → opened taps_s taps_ac settings ≡ x → opened_then taps_s taps_ac t bytes x ≡ Ok f → Accepts t bytes f
-      by_opened (Ok s) o q = by_fault_lem s o (Bench.first_fault (H s) 0 (Bench.draws_of (H s) bytes)) refl q
-      by_opened (Err r) o q = not_accepted r f q
+          by_opened : (x : (Result State Refusal.Refusal)) → opened_at taps_s taps_ac settings z ≡ x → opened_then taps_s taps_ac t bytes x ≡ Ok f → Accepts t bytes f
+          by_opened (Ok s) o q = by_fault_lem s o (Bench.first_fault (H s) 0 (Bench.draws_of (H s) bytes)) refl q
+          by_opened (Err r) o q = not_accepted r f q
 
-      by_length : (b : Bool) → cond b (opened_then taps_s taps_ac t bytes (opened taps_s taps_ac settings)) (Err Refusal.TheVariants.Length) ≡ Ok f → Accepts t bytes f
-      by_length true q = by_opened (opened taps_s taps_ac settings) refl q
-      by_length false q = not_accepted _ f q
+          by_length : (whole : Bool) → cond whole (opened_then taps_s taps_ac t bytes (opened_at taps_s taps_ac settings z)) (Err Refusal.TheVariants.Length) ≡ Ok f → Accepts t bytes f
+          by_length true q = by_opened (opened_at taps_s taps_ac settings z) refl q
+          by_length false q = not_accepted _ f q
 
   -- ---- part after part
-  module _ (s : State) (o : opened taps_s taps_ac settings ≡ Ok s) where
+  module _ (z : SamplesPerPulse) (s : State) (b : setting_at settings ≡ Ok z) (o : opened_at taps_s taps_ac settings z ≡ Ok s) where
     abbrev draws_in : List ℕ → List RepresentableDraw
-    draws_in bytes = Bench.draws_of (gen_of s (mode_s_prototype four taps_s) (mode_ac_prototype four taps_ac)) bytes
+    draws_in bytes = Bench.draws_of (gen_of s (mode_s_prototype (per_pulse s.setting) taps_s) (mode_ac_prototype (per_pulse s.setting) taps_ac)) bytes
 
     first_in_range : (ds es : List RepresentableDraw) → AllInRange (H s) (ds ++ es) → AllInRange (H s) ds
     first_in_range [] es h = tt
@@ -138,15 +149,15 @@ module _ (taps_s taps_ac : List Float) (settings : List ℕ) where
             ∙ ap (λ (w : Walk Float). Ok (figured w)) (sym (two_parts (H s) t ds es e))
 
     in_parts_lem : (t : Float) (ps : List (List ℕ)) → Each WholeDraws ps → AllInRange (H s) (draws_in (join ps)) → in_parts taps_s taps_ac settings t ps ≡ Ok (figures_of (H s) t (draws_in (join ps)))
-    in_parts_lem t [] w h = booked taps_s taps_ac settings s t [] o refl h
+    in_parts_lem t [] w h = booked taps_s taps_ac settings z s t [] b o refl h
     in_parts_lem t (p ∷ ps) w h =
-        let joined = draws_joined (filters_of s (mode_s_prototype four taps_s) (mode_ac_prototype four taps_ac)) s.total (length p / 65) p (join ps) (omega (arith, w.0)) in
+        let joined = draws_joined (filters_of s (mode_s_prototype (per_pulse s.setting) taps_s) (mode_ac_prototype (per_pulse s.setting) taps_ac)) s.total (length p / 65) p (join ps) (omega (arith, w.0)) in
         let both = subst (AllInRange (H s)) joined h in
-        ap (λ (x : Result (Figures Float) Refusal.Refusal). and_then x (λ t'. in_parts taps_s taps_ac settings t' ps)) (booked taps_s taps_ac settings s t p o w.0 (first_in_range (draws_in p) (draws_in (join ps)) both))
+        ap (λ (x : Result (Figures Float) Refusal.Refusal). and_then x (λ t'. in_parts taps_s taps_ac settings t' ps)) (booked taps_s taps_ac settings z s t p b o w.0 (first_in_range (draws_in p) (draws_in (join ps)) both))
         ∙ went t (draws_in p) (draws_in (join ps)) (λ t'. in_parts taps_s taps_ac settings t' ps) (λ t'. in_parts_lem t' ps w.1 (rest_in_range (draws_in p) (draws_in (join ps)) both))
         ∙ ap (λ (l : List RepresentableDraw). Ok (figures_of (H s) t l)) (sym joined)
 
 pub parts : Parts
 parts taps_s taps_ac settings t ps w f e =
     let a = what_is_accepted taps_s taps_ac settings t (join ps) f e in
-    in_parts_lem taps_s taps_ac settings a.state a.is_opened t ps w a.all_in_range ∙ ap Ok a.figures
+    in_parts_lem taps_s taps_ac settings a.setting a.state a.is_said a.is_opened t ps w a.all_in_range ∙ ap Ok a.figures

@@ -10,6 +10,7 @@ use lib.ListN.{length, take, drop, length-drop}
 use lib.Seq.{take_all, drop-drop}
 use Rattle.std.proofs.Common.{w64, SFits, to_z, of_z, to_z-of_z}
 use lib.Ieee.{Float}
+use Rattle.constants.specs.declared.SamplesPerPulse.{SamplesPerPulse}
 use Rattle.run_theory.specs.Generator.{Generator, start_from}
 use Rattle.run_theory.specs.PlainRun as Plain
 use Rattle.run_theory.specs.PlainBench.{draws_of}
@@ -44,13 +45,13 @@ seen_is Plain.ignored passed ended replied = refl
 seen_is Plain.ends passed ended replied = refl
 seen_is (Plain.reply first) passed ended replied = refl
 
-module _ (all : Distributions) (delays : Delays) (total : ℕ) (s : List ℕ) where
+module _ (setting : SamplesPerPulse) (all : Distributions) (delays : Delays) (total : ℕ) (s : List ℕ) where
   abbrev G : Generator
-  G = walk_generator all delays total
+  G = walk_generator setting all delays total
 
   -- the walk over the draws from the k-th on
   abbrev pub from : ℕ → ℕ → Float → Walk.Walk Float
-  from k n t = Walk.walk_from (walk_generator all delays total) k n t (draws_of (walk_generator all delays total) (drop (k * 65) s))
+  from k n t = Walk.walk_from (walk_generator setting all delays total) k n t (draws_of (walk_generator setting all delays total) (drop (k * 65) s))
 
   -- what the code makes of the bytes from a draw on
   abbrev message_in : Float → List ℕ → MessageConfig
@@ -58,7 +59,7 @@ module _ (all : Distributions) (delays : Delays) (total : ℕ) (s : List ℕ) wh
 
   module _ (k n : ℕ) (t : Float) (h : k < length s / 65) (message : MessageConfig) (start : ℤ) (kind : Kind.Kind)
       (part : message ≡ message_in t (take (length s - k * 65) (drop (k * 65) s))) (f : SFits w64 start) (b : start ≡ config_start delays message)
-      (e : kind ≡ kind_seen (Plain.kind_of (counted total) (start_from (to_z w64 (of_z w64 start))))) where
+      (e : kind ≡ kind_seen (Plain.kind_of (counted setting total) (start_from (to_z w64 (of_z w64 start))))) where
     abbrev t' : Float
     t' = time_after t (draw_at (drop (k * 65) s))
 
@@ -71,11 +72,11 @@ module _ (all : Distributions) (delays : Delays) (total : ℕ) (s : List ℕ) wh
 
     -- what step 4 makes of the draw
     abbrev made : Plain.Kind
-    made = Plain.kind_of (counted total) (start_from (start_at all delays (time_after t (draw_at (drop (k * 65) s))) (draw_at (drop (k * 65) s))))
+    made = Plain.kind_of (counted setting total) (start_from (start_at all delays (time_after t (draw_at (drop (k * 65) s))) (draw_at (drop (k * 65) s))))
 
     kind_is : kind ≡ kind_seen made
     unfolding pending_of config_with config_of config_start
-    kind_is = e ∙ ap (λ (z : ℤ). kind_seen (Plain.kind_of (counted total) (start_from z))) (to_z-of_z f ∙ b ∙ ap (config_start delays) m)
+    kind_is = e ∙ ap (λ (z : ℤ). kind_seen (Plain.kind_of (counted setting total) (start_from z))) (to_z-of_z f ∙ b ∙ ap (config_start delays) m)
 
     length_is : k * 65 + 65 ≡ (k + 1) * 65
     length_is = omega arith

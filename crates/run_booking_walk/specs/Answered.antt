@@ -1,6 +1,6 @@
 -- What the code answers of a walk, read as `Walk` has it, and the generator that the walk is over.
 use Rattle.std.specs.Prelude.{ℕ, [], Float}
-use Rattle.constants.specs.declared.SamplesPerPulse.TheVariants.{Four}
+use Rattle.constants.specs.declared.SamplesPerPulse.{SamplesPerPulse}
 use Rattle.run_theory.specs.Generator.{Generator}
 use Rattle.run_theory.specs.FloatGenerator.{nought}
 use Rattle.message_config.specs.declared.Delays.{Delays}
@@ -10,10 +10,10 @@ use Rattle.run_booking_walk.specs.declared.End as End
 use Rattle.run_booking_walk.specs.declared.Walked.{Walked}
 use Rattle.run_booking_walk.specs.Walk as Walk
 
--- the generator of distributions, delays and samples: a walk depends on nothing else
-abbrev pub walk_generator : Distributions → Delays → ℕ → Generator
-walk_generator all delays total = instance_of (record {
-  setting = Four;
+-- the generator of samples per pulse, distributions, delays and samples: a walk depends on nothing else
+abbrev pub walk_generator : SamplesPerPulse → Distributions → Delays → ℕ → Generator
+walk_generator setting all delays total = instance_of (record {
+  setting = setting;
   rates = record {
     extended_squitter = nought;
     acquisition_squitter = nought;

@@ -10,7 +10,7 @@ ghost use Rattle.run_booking_walk.specs.Walk.{walk_of};
 ghost use Rattle.run_booking_walk.specs.Answered.{walk_generator, walked_read};
 ghost use Rattle.run_booking_walk.specs.WalkModel.{kind_seen};
 
-use constants::{DRAW_LEN, REPLY_LIMIT};
+use constants::{DRAW_LEN, SamplesPerPulse};
 use message_config::Delays;
 use settings::Distributions;
 
@@ -41,27 +41,34 @@ pub enum Kind {
 
 // Of a draw's start.
 #[tactic(auto, using(run_steps::proofs::Tests::negative_start, crate::proofs::Step4::ignored, crate::proofs::Step4::ends, crate::proofs::Step4::replies))]
-fn kind_of(total: u64, start: i64) -> Kind
-    ensures { result ≡ kind_seen (kind_of (counted total) (start_from start)) }
+fn kind_of(setting: SamplesPerPulse, total: u64, start: i64) -> Kind
+    ensures { result ≡ kind_seen (kind_of (counted setting total) (start_from start)) }
 {
     match u64::try_from(start) {
         Err(_) => Kind::Ignored,
-        Ok(first) if total <= first + REPLY_LIMIT => Kind::Ends,
+        Ok(first) if total <= first + setting.reply_limit() => Kind::Ends,
         Ok(_) => Kind::Reply,
     }
 }
 
 // The walk over all draws in the bytes, the time before the first one given. An ignored draw's time counts.
 #[tactic(auto, using(crate::proofs::Turn::passes, crate::proofs::Turn::stops, crate::proofs::Turn::replies, crate::proofs::Turn::ends))]
-pub fn walk(all: Distributions, delays: Delays, total: u64, time: f64, draws: &[u8]) -> Walked
-    ensures { (walked_read result ≡ walk_of (walk_generator all delays total) time (draws_of (walk_generator all delays total) draws.now)) × (65 * result.taken ≤ length draws.now) }
+pub fn walk(
+    setting: SamplesPerPulse,
+    all: Distributions,
+    delays: Delays,
+    total: u64,
+    time: f64,
+    draws: &[u8],
+) -> Walked
+    ensures { (walked_read result ≡ walk_of (walk_generator setting all delays total) time (draws_of (walk_generator setting all delays total) draws.now)) × (65 * result.taken ≤ length draws.now) }
 {
     let mut records: u64 = 0;
     let mut last = time;
     for k in 0..draws.len() / DRAW_LEN {
         let message = draw_config::pending(all, last, &draws[k * DRAW_LEN..]);
         let start = message.first_sample_index(delays);
-        match kind_of(total, start) {
+        match kind_of(setting, total, start) {
             Kind::Ignored => last = message.time,
             Kind::Ends => {
                 return Walked {

@@ -5,11 +5,13 @@ use mathlib.Core.List.{List, [], ◌∷◌, map, append_assoc}
 use Prim.Native.Nat.{ℕ, ◌+◌, ◌%◌, ◌≤◌, ◌<◌}
 use native.Mathlib.Nat.{mod-lt}
 use native.Mathlib.Numerals.{add-one}
-use lib.Dec.{lit<}
 use lib.ListN.{length, take, drop, length-map}
 use lib.Ieee.{Float, nan}
 use borrow.Author.Tests.{le-leb, eq-eqb, lt-ltb}
-use Rattle.constants.specs.Rate.{four}
+use Rattle.constants.specs.Rate.{ring_slots, working_memory}
+use Rattle.constants.specs.Setting.{per_pulse}
+use Rattle.constants.specs.declared.SamplesPerPulse.{SamplesPerPulse}
+use Rattle.constants.proofs.Settings.{ring_pos}
 use Rattle.le_read.specs.LeBytes as LeBytes
 use Rattle.run_call_model.specs.Machine.{put}
 use Rattle.run_call_model.specs.Buffers.{overwritten}
@@ -23,7 +25,7 @@ use Rattle.draw_config.proofs.Message.{completed_is}
 use Rattle.reply_record.specs.Record.{record_bytes, record_at}
 use Rattle.reply_samples.specs.declared.Sample.{Sample}
 use Rattle.reply_samples.specs.Samples.{reply_samples, reply_count}
-use Rattle.reply_samples.specs.RingModel.{ring_slots, added_at, added_from, is_slot, added_reply, added_count}
+use Rattle.reply_samples.specs.RingModel.{added_at, added_from, is_slot, added_reply, added_count}
 use Rattle.reply_samples.proofs.Ring.{next_ring}
 use Rattle.reply_samples.proofs.Counts.{samples_counted}
 use Rattle.run_add_reply.specs.RecordedModel.{message_at, memory_with, count_with, records_with}
@@ -46,17 +48,17 @@ module _ (f : Filters) (total : ℕ) where
   counts amplitude c = length-map (reply_samples (pulse_samples f) f.mode_s f.mode_ac f.delays amplitude c) pair_of ∙ samples_counted (pulse_samples f) f.mode_s f.mode_ac f.delays amplitude c
 
 -- ---- what the two calls leave, at a slot of working memory and where there is room for a record
-a_slot : (m : List Float) (slot : ℕ) → length m ≡ 2252 → slot < 1126 → is_slot four m slot ≡ true
+a_slot : (sps : ℕ) (m : List Float) (slot : ℕ) → length m ≡ working_memory sps → slot < ring_slots sps → is_slot sps m slot ≡ true
 unfolding is_slot
-a_slot m slot e h = rw (eq-eqb (length m) 2252 e, lt-ltb slot 1126 h)
+a_slot sps m slot e h = rw (eq-eqb (length m) (working_memory sps) e, lt-ltb slot (ring_slots sps) h)
 
-memory_is : (m m' : List Float) (slot : ℕ) (zs : List Sample) → length m ≡ 2252 → slot < 1126 → m' ≡ added_reply four m slot zs → m' ≡ added_from four m slot zs
+memory_is : (sps : ℕ) (m m' : List Float) (slot : ℕ) (zs : List Sample) → length m ≡ working_memory sps → slot < ring_slots sps → m' ≡ added_reply sps m slot zs → m' ≡ added_from sps m slot zs
 unfolding added_reply
-memory_is m m' slot zs e h p = p ∙ ap (λ (b : Bool). cond b (added_from four m slot zs) m) (a_slot m slot e h)
+memory_is sps m m' slot zs e h p = p ∙ ap (λ (b : Bool). cond b (added_from sps m slot zs) m) (a_slot sps m slot e h)
 
-count_is : (m : List Float) (slot n r : ℕ) → length m ≡ 2252 → slot < 1126 → r ≡ added_count four m slot n → r ≡ n
+count_is : (sps : ℕ) (m : List Float) (slot n r : ℕ) → length m ≡ working_memory sps → slot < ring_slots sps → r ≡ added_count sps m slot n → r ≡ n
 unfolding added_count
-count_is m slot n r e h p = p ∙ ap (λ (b : Bool). cond b n 0) (a_slot m slot e h)
+count_is sps m slot n r e h p = p ∙ ap (λ (b : Bool). cond b n 0) (a_slot sps m slot e h)
 
 record_is : (s s' : List ℕ) (at : ℕ) (line : List ℕ) → at + 66 ≤ length s → s' ≡ record_at s at line → s' ≡ overwritten at line s
 unfolding record_at LeBytes.overwritten
@@ -64,26 +66,29 @@ record_is s s' at line h p =
     p ∙ ap (λ (b : Bool). cond b (LeBytes.overwritten s at line) s) (le-leb (at + 66) (length s) h) ∙ append_assoc (take at s) line (drop (at + length line) s)
 
 -- what adding and recording a reply leaves, in working memory and where there is room for a record
-module _ (all : Distributions) (delays : Delays) (time : Float) (first : ℕ) (rest : List ℕ) (last : MessageConfig) (e : last ≡ pending_of all time (draw_at rest)) (m : List Float) (l : length m ≡ 2252) where
-  message : message_at last delays first rest ≡ config_of all time (draw_at rest)
+module _ (s : SamplesPerPulse) (all : Distributions) (delays : Delays) (time : Float) (first : ℕ) (rest : List ℕ) (last : MessageConfig) (e : last ≡ pending_of all time (draw_at rest)) (m : List Float) (l : length m ≡ working_memory (per_pulse s)) where
+  abbrev slot : ℕ
+  slot = first % ring_slots (per_pulse s)
+
+  message : message_at s last delays first rest ≡ config_of all time (draw_at rest)
   message = ap (λ (c : MessageConfig). completed_by c (draw_at rest).kind (draw_at rest).picks) e ∙ completed_is all time (draw_at rest)
 
-  in_ring : first % 1126 < 1126
-  in_ring = mod-lt first (lit< tt)
+  in_ring : slot < ring_slots (per_pulse s)
+  in_ring = mod-lt first (ring_pos s)
 
-  pub added_by : (mode_s mode_ac m' : List Float) → m' ≡ memory_with last delays first rest mode_s mode_ac m
-      → m' ≡ added_from four m (first % 1126) (reply_samples four mode_s mode_ac delays (draw_at rest).amplitude (config_of all time (draw_at rest)))
+  pub added_by : (mode_s mode_ac m' : List Float) → m' ≡ memory_with s last delays first rest mode_s mode_ac m
+      → m' ≡ added_from (per_pulse s) m slot (reply_samples (per_pulse s) mode_s mode_ac delays (draw_at rest).amplitude (config_of all time (draw_at rest)))
   unfolding memory_with
   added_by mode_s mode_ac m' p =
-      memory_is m m' (first % 1126) _ l in_ring (p ∙ ap (λ (c : MessageConfig). added_reply four m (first % 1126) (reply_samples four mode_s mode_ac delays (draw_at rest).amplitude c)) message)
+      memory_is (per_pulse s) m m' slot _ l in_ring (p ∙ ap (λ (c : MessageConfig). added_reply (per_pulse s) m slot (reply_samples (per_pulse s) mode_s mode_ac delays (draw_at rest).amplitude c)) message)
 
-  pub counted_by : (n : ℕ) → n ≡ count_with last delays first rest m → n ≡ reply_count four delays (config_of all time (draw_at rest))
+  pub counted_by : (n : ℕ) → n ≡ count_with s last delays first rest m → n ≡ reply_count (per_pulse s) delays (config_of all time (draw_at rest))
   unfolding count_with
-  counted_by n p = count_is m (first % 1126) (reply_count four delays (message_at last delays first rest)) n l in_ring p ∙ ap (reply_count four delays) message
+  counted_by n p = count_is (per_pulse s) m slot (reply_count (per_pulse s) delays (message_at s last delays first rest)) n l in_ring p ∙ ap (reply_count (per_pulse s) delays) message
 
-  pub recorded_by : (s s' : List ℕ) (at : ℕ) → at + 66 ≤ length s → s' ≡ records_with last delays first rest m at s
-      → s' ≡ overwritten at (record_bytes (config_of all time (draw_at rest)) first (draw_at rest).kind (reply_count four delays (config_of all time (draw_at rest)))) s
+  pub recorded_by : (r r' : List ℕ) (at : ℕ) → at + 66 ≤ length r → r' ≡ records_with s last delays first rest m at r
+      → r' ≡ overwritten at (record_bytes (config_of all time (draw_at rest)) first (draw_at rest).kind (reply_count (per_pulse s) delays (config_of all time (draw_at rest)))) r
   unfolding records_with
-  recorded_by s s' at h p =
-      record_is s s' at _ h p
-      ∙ (λ i. overwritten at (record_bytes (message i) first (draw_at rest).kind (counted_by (count_with last delays first rest m) refl i)) s)
+  recorded_by r r' at h p =
+      record_is r r' at _ h p
+      ∙ (λ i. overwritten at (record_bytes (message i) first (draw_at rest).kind (counted_by (count_with s last delays first rest m) refl i)) r)

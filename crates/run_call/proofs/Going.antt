@@ -7,6 +7,8 @@ use native.Mathlib.Omega.{arith}
 use lib.ListN.{length, take, drop, length-drop}
 use lib.Seq.{take_all}
 use lib.Ieee.{Float, nan}
+use Rattle.constants.specs.Rate.{working_memory}
+use Rattle.constants.specs.Setting.{per_pulse}
 use Rattle.run_call_model.specs.Progress as Theory
 use Rattle.run_call.specs.declared.State.{State}
 use Rattle.run_steps.specs.declared.Progress.{Progress}
@@ -40,16 +42,18 @@ steps_left rest output t = suc (rest / 65 + (output / 2 - t.samples))
 
 pub record Going (s : State) (mode_s mode_ac memory₀ : List Float) (draws : List ℕ) (noise output₀ : List Float) (records₀ : List ℕ)
     (memory output : List Float) (records : List ℕ) (t : Progress) (rest : List ℕ) : Type 0 where
+  pub memory_is : length memory ≡ working_memory (per_pulse s.setting)
   pub output_is : length output ≡ length output₀
   pub records_is : length records ≡ length records₀
   pub inside : Inside t (length noise) (length output) (length records)
   pub tape : 65 * t.taken + length rest ≡ length draws
   pub same : left_by s mode_s mode_ac (Theory.rest_of (gen_of s mode_s mode_ac) nan noise (progress_read s mode_s mode_ac t memory rest output records)) ≡ call_left s mode_s mode_ac memory₀ draws noise output₀ records₀
 
-pub starts : (s : State) (mode_s mode_ac memory : List Float) (draws : List ℕ) (noise output : List Float) (records : List ℕ) (t : Progress) → t ≡ initial_by s
+pub starts : (s : State) (mode_s mode_ac memory : List Float) (draws : List ℕ) (noise output : List Float) (records : List ℕ) (t : Progress) → length memory ≡ working_memory (per_pulse s.setting) → t ≡ initial_by s
     → Going s mode_s mode_ac memory draws noise output records memory output records t draws
 unfolding initial_by call_left
-starts s mode_s mode_ac memory draws noise output records t e = subst (λ (x : Progress). Going s mode_s mode_ac memory draws noise output records memory output records x draws) (sym e) (record {
+starts s mode_s mode_ac memory draws noise output records t m e = subst (λ (x : Progress). Going s mode_s mode_ac memory draws noise output records memory output records x draws) (sym e) (record {
+  memory_is = m;
   output_is = refl;
   records_is = refl;
   inside = record { output_in = omega arith; noise_in_lem = omega arith; records_in_lem = omega arith; added_in = omega arith };
@@ -60,7 +64,7 @@ starts s mode_s mode_ac memory draws noise output records t e = subst (λ (x : P
 -- after a step: what it says, and the lengths that it keeps
 module _ {s : State} {mode_s mode_ac memory₀ : List Float} {draws : List ℕ} {noise output₀ : List Float} {records₀ : List ℕ} {memory output : List Float} {records : List ℕ} {t : Progress} {rest : List ℕ}
     (r : Progress) (memory' output' : List Float) (records' : List ℕ)
-    (g : Going s mode_s mode_ac memory₀ draws noise output₀ records₀ memory output records t rest) (said : StepSays (gen_of s mode_s mode_ac) noise nan r.last (progress_read s mode_s mode_ac t memory rest output records) (progress_read s mode_s mode_ac r memory' (rest_after r.last rest) output' records')) (o_is : length output' ≡ length output) (r_is : length records' ≡ length records) where
+    (g : Going s mode_s mode_ac memory₀ draws noise output₀ records₀ memory output records t rest) (said : StepSays (gen_of s mode_s mode_ac) noise nan r.last (progress_read s mode_s mode_ac t memory rest output records) (progress_read s mode_s mode_ac r memory' (rest_after r.last rest) output' records')) (m_is : length memory' ≡ length memory) (o_is : length output' ≡ length output) (r_is : length records' ≡ length records) where
   abbrev Says : LastStep.LastStep → Type 0
   Says n = StepSays (gen_of s mode_s mode_ac) noise nan n (progress_read s mode_s mode_ac t memory rest output records) (progress_read s mode_s mode_ac r memory' (rest_after n rest) output' records')
 
@@ -69,6 +73,7 @@ module _ {s : State} {mode_s mode_ac memory₀ : List Float} {draws : List ℕ} 
 
   on : (rest' : List ℕ) → added_of r ≤ 65535 * r.taken → Went (gen_of s mode_s mode_ac) noise nan (progress_read s mode_s mode_ac t memory rest output records) (progress_read s mode_s mode_ac r memory' rest' output' records') → 65 * r.taken + length rest' ≡ length draws → Going s mode_s mode_ac memory₀ draws noise output₀ records₀ memory' output' records' r rest'
   on rest' few w q = record {
+    memory_is = m_is ∙ g.memory_is;
     output_is = o_is ∙ g.output_is;
     records_is = r_is ∙ g.records_is;
     inside = record { output_in = w.within.output_in; noise_in_lem = w.within.noise_in_lem; records_in_lem = w.within.records_in_lem; added_in = few };
@@ -102,7 +107,7 @@ module _ {s : State} {mode_s mode_ac memory₀ : List Float} {draws : List ℕ} 
   at_stop w q =
       (λ j. record {
         ran = record {
-          state = record { written = r.written; total = s.total; time = r.time; latest = r.latest; ended = r.ended; rates = s.rates; delays = s.delays; distributions = s.distributions };
+          state = record { written = r.written; total = s.total; time = r.time; latest = r.latest; ended = r.ended; rates = s.rates; delays = s.delays; distributions = s.distributions; setting = s.setting };
           counts = record { taken = r.taken; samples = r.samples; noise = 2 * r.samples; records = r.records; added_high = high_half (added_of r); added_low = low_half (added_of r) };
           answer = Ok (sym (given_read w) j);
         };

@@ -37,14 +37,14 @@ low_is h l b = omega arith
 pub stopped_is : (s : State) (t : Progress) (w : Stop) → t.added_low < 2 ^ 64
     → ◌≡◌ {A = Ran}
     (record {
-      state = record { written = t.written; total = s.total; time = t.time; latest = t.latest; ended = t.ended; rates = s.rates; delays = s.delays; distributions = s.distributions };
+      state = record { written = t.written; total = s.total; time = t.time; latest = t.latest; ended = t.ended; rates = s.rates; delays = s.delays; distributions = s.distributions; setting = s.setting };
       counts = record { taken = t.taken; samples = t.samples; noise = 2 * t.samples; records = t.records; added_high = t.added_high; added_low = t.added_low };
       answer = Ok w;
     })
     (ran_by s t w)
 unfolding ran_by
 stopped_is s t w b = λ i. record {
-  state = record { written = t.written; total = s.total; time = t.time; latest = t.latest; ended = t.ended; rates = s.rates; delays = s.delays; distributions = s.distributions };
+  state = record { written = t.written; total = s.total; time = t.time; latest = t.latest; ended = t.ended; rates = s.rates; delays = s.delays; distributions = s.distributions; setting = s.setting };
   counts = record { taken = t.taken; samples = t.samples; noise = 2 * t.samples; records = t.records; added_high = high_is t.added_high t.added_low b i; added_low = low_is t.added_high t.added_low b i };
   answer = Ok w;
 }

@@ -6,6 +6,7 @@ use mathlib.Core.List.{List, [], ◌∷◌}
 use Prim.Native.Nat.{ℕ, suc}
 use lib.ListN.{length}
 use lib.Ieee.{Float}
+use Rattle.constants.specs.Setting.{per_pulse}
 use Rattle.run_theory.specs.Generator.{Generator}
 use Rattle.run_theory.specs.PlainBench as Bench
 use Rattle.refusals.specs.declared.Refusal as Refusal
@@ -58,14 +59,14 @@ module _ (s : State) (mode_s mode_ac memory : List Float) (draws : List ℕ) (no
       (λ i. record { ran = k i; memory = memory; output = output; records = records })
       ∙ sym (ap (λ (o : Option Bench.Refusal). run_by s memory output records (call_left s mode_s mode_ac memory draws noise output records) o) e)
 
-  pub buffers_refused : (wrong_memory (length memory) (length mode_s) (length mode_ac) || wrong_buffers (length output) (length draws)) ≡ true → (x : Ran) → x ≡ refused_by s Refusal.TheVariants.Length → Same x
+  pub buffers_refused : (wrong_memory (per_pulse s.setting) (length memory) (length mode_s) (length mode_ac) || wrong_buffers (length output) (length draws)) ≡ true → (x : Ran) → x ≡ refused_by s Refusal.TheVariants.Length → Same x
   unfolding refusal_given
-  buffers_refused e x k = refused_with_lem Bench.wrong_length x (first_of Bench.wrong_length after_lengths (wrong_memory (length memory) (length mode_s) (length mode_ac)) (wrong_buffers (length output) (length draws)) e) k
+  buffers_refused e x k = refused_with_lem Bench.wrong_length x (first_of Bench.wrong_length after_lengths (wrong_memory (per_pulse s.setting) (length memory) (length mode_s) (length mode_ac)) (wrong_buffers (length output) (length draws)) e) k
 
-  module _ (lengths : (wrong_memory (length memory) (length mode_s) (length mode_ac) || wrong_buffers (length output) (length draws)) ≡ false) (f : Option (ℕ × ℕ)) (drawn : fault_read f ≡ asks) where
+  module _ (lengths : (wrong_memory (per_pulse s.setting) (length memory) (length mode_s) (length mode_ac) || wrong_buffers (length output) (length draws)) ≡ false) (f : Option (ℕ × ℕ)) (drawn : fault_read f ≡ asks) where
     is : call_refusal s mode_s mode_ac memory draws noise output records ≡ Bench.or_else G (fault_read f) (Bench.first_out_of_range G 0 noise)
     is =
-        neither Bench.wrong_length after_lengths (wrong_memory (length memory) (length mode_s) (length mode_ac)) (wrong_buffers (length output) (length draws)) lengths
+        neither Bench.wrong_length after_lengths (wrong_memory (per_pulse s.setting) (length memory) (length mode_s) (length mode_ac)) (wrong_buffers (length output) (length draws)) lengths
         ∙ ap (λ (o : Option Bench.Refusal). Bench.or_else G o (Bench.first_out_of_range G 0 noise)) (sym drawn)
 
     pub draw_refused : (k n : ℕ) → f ≡ Some (k, n) → (x : Ran) → x ≡ refused_by s (Refusal.TheVariants.Draw k n) → Same x
@@ -81,7 +82,6 @@ module _ (s : State) (mode_s mode_ac memory : List Float) (draws : List ℕ) (no
       unfolding noise_fault_read refusal_given
       noise_refused p e x r = refused_with_lem (Bench.wrong_noise p) x (then_noise ∙ ap noise_fault_read e) r
 
-      -- `whole` is memory, lent as an array
-      pub not_refused : l ≡ None → (whole : List Float) → whole ≡ memory → (left : Left) → left ≡ call_left s mode_s mode_ac whole draws noise output records → left ≡ run_left s mode_s mode_ac memory draws noise output records
+      pub not_refused : l ≡ None → (left : Left) → left ≡ call_left s mode_s mode_ac memory draws noise output records → left ≡ run_left s mode_s mode_ac memory draws noise output records
       unfolding noise_fault_read run_left
-      not_refused e whole w left k = k ∙ ap (λ (m : List Float). call_left s mode_s mode_ac m draws noise output records) w ∙ sym (ap (λ (o : Option Bench.Refusal). run_by s memory output records (call_left s mode_s mode_ac memory draws noise output records) o) (then_noise ∙ ap noise_fault_read e))
+      not_refused e left k = k ∙ sym (ap (λ (o : Option Bench.Refusal). run_by s memory output records (call_left s mode_s mode_ac memory draws noise output records) o) (then_noise ∙ ap noise_fault_read e))

@@ -6,6 +6,8 @@ use mathlib.Core.List.{List}
 use lib.ListN.{length}
 use lib.Ieee.{Float, nan}
 use borrow.Author.Tests.{eq-eqb}
+use Rattle.constants.specs.Rate.{working_memory, prototype_length}
+use Rattle.constants.specs.Setting.{per_pulse}
 use Rattle.run_theory.specs.PlainBench as Bench
 use Rattle.run_call_model.specs.Machine as Machine
 use Rattle.run_call_model.proofs.Progress.{call_state, call_result}
@@ -27,7 +29,7 @@ module _ (s : State) (mode_s mode_ac memory : List Float) (c : Bench.Call (gen_o
   by_refusal None = λ i. left_given s mode_s mode_ac (call_result (gen_of s mode_s mode_ac) nan (machine_of s mode_s mode_ac memory) c i) (call_state (gen_of s mode_s mode_ac) nan (machine_of s mode_s mode_ac memory) c i)
   by_refusal (Some q) = refl
 
-  pub run_is : length memory ≡ 2252 → length mode_s ≡ 1792 → length mode_ac ≡ 1792
+  pub run_is : length memory ≡ working_memory (per_pulse s.setting) → length mode_s ≡ prototype_length (per_pulse s.setting) → length mode_ac ≡ prototype_length (per_pulse s.setting)
       → run_left s mode_s mode_ac memory c.draws c.noise c.output c.records
       ≡ left_given s mode_s mode_ac (Bench.result_of (gen_of s mode_s mode_ac) c (Machine.machine_run (gen_of s mode_s mode_ac) nan (machine_of s mode_s mode_ac memory) c).0) (Machine.machine_run (gen_of s mode_s mode_ac) nan (machine_of s mode_s mode_ac memory) c).1
   unfolding run_left
@@ -39,5 +41,5 @@ module _ (s : State) (mode_s mode_ac memory : List Float) (c : Bench.Call (gen_o
       lengths_right : call_refusal s mode_s mode_ac memory c.draws c.noise c.output c.records ≡ check_generator
       lengths_right = ap (λ (x : Bool). cond x (Some Bench.wrong_length) check_generator) right
         where
-          right : wrong_memory (length memory) (length mode_s) (length mode_ac) ≡ false
-          right = rw (eq-eqb (length memory) 2252 m, eq-eqb (length mode_s) 1792 p, eq-eqb (length mode_ac) 1792 a)
+          right : wrong_memory (per_pulse s.setting) (length memory) (length mode_s) (length mode_ac) ≡ false
+          right = rw (eq-eqb (length memory) (working_memory (per_pulse s.setting)) m, eq-eqb (length mode_s) (prototype_length (per_pulse s.setting)) p, eq-eqb (length mode_ac) (prototype_length (per_pulse s.setting)) a)

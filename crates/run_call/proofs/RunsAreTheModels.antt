@@ -3,6 +3,8 @@ use mathlib.Core.Path.{◌≡◌, refl, ap, ◌∙◌}
 use mathlib.Core.List.{List, [], ◌∷◌}
 use lib.ListN.{length}
 use lib.Ieee.{Float, nan}
+use Rattle.constants.specs.Rate.{working_memory, prototype_length}
+use Rattle.constants.specs.Setting.{per_pulse}
 use Rattle.run_theory.specs.PlainBench as Bench
 use Rattle.run_call_model.specs.Machine as Machine
 use Rattle.run_call.specs.declared.State.{State}
@@ -21,8 +23,8 @@ module _ (s : State) (mode_s mode_ac : List Float) where
   given_state (Bench.refused q) z = refl
   given_state (Bench.ran d n v l a w) z = refl
 
-module _ (s : State) (mode_s mode_ac : List Float) (p : length mode_s ≡ 1792) (a : length mode_ac ≡ 1792) where
-  pub runs_are : (ls : List CallBuffers) (z : Machine.State (gen_of s mode_s mode_ac) nan) → length z.memory ≡ 2252 → runs_left (state_of s mode_s mode_ac z) mode_s mode_ac z.memory ls ≡ runs_given s mode_s mode_ac z ls
+module _ (s : State) (mode_s mode_ac : List Float) (p : length mode_s ≡ prototype_length (per_pulse s.setting)) (a : length mode_ac ≡ prototype_length (per_pulse s.setting)) where
+  pub runs_are : (ls : List CallBuffers) (z : Machine.State (gen_of s mode_s mode_ac) nan) → length z.memory ≡ working_memory (per_pulse s.setting) → runs_left (state_of s mode_s mode_ac z) mode_s mode_ac z.memory ls ≡ runs_given s mode_s mode_ac z ls
   unfolding runs_left runs_given left_given run_left ran_given
   runs_are [] z m = refl
   runs_are (l ∷ ls) z m =

@@ -8,7 +8,8 @@ use native.Mathlib.Omega.{arith}
 use lib.Dec.{lit<}
 use lib.ListN.{length, take, drop}
 use lib.Ieee.{Float, nan}
-use Rattle.constants.specs.Rate.{four}
+use Rattle.constants.specs.Rate.{working_memory}
+use Rattle.constants.specs.Setting.{per_pulse}
 use Rattle.run_theory.specs.Generator.{Generator, start_from}
 use Rattle.run_theory.specs.PlainRun.{kind_of}
 use Rattle.run_theory.specs.PlainBench as Bench
@@ -82,11 +83,11 @@ pub record Planned : Type 0 where
   pub records : List ℕ
   pub last : MessageConfig
   pub plan : Plan.Plan
-  pub memory_is : length memory ≡ 2252
+  pub memory_is : length memory ≡ working_memory (per_pulse s.setting)
   pub inside : Inside t (length noise) (length output) (length records)
   pub sized : Sized s.total t.taken (length rest) (length output) (length records)
   pub next_is : last ≡ pending_of s.distributions (time_after t.time (draw_at rest)) (draw_at rest)
-  pub chose : plan_read plan ≡ chosen t.ended t.written s.total s.delays last (length rest) (length output - 2 * t.samples) (length noise - 2 * t.samples) (length records - 66 * t.records)
+  pub chose : plan_read plan ≡ chosen s.setting t.ended t.written s.total s.delays last (length rest) (length output - 2 * t.samples) (length noise - 2 * t.samples) (length records - 66 * t.records)
 
 module _ (P : Planned) where
   open P use {s, mode_s, mode_ac, noise, t, memory, rest, output, records, last, plan, memory_is, inside, sized, next_is, chose}
@@ -104,8 +105,8 @@ module _ (P : Planned) where
   chosen_is : plan_read plan ≡ Theory.plan_of G nan noise z
   unfolding chosen time_after
   chosen_is =
-      chose ∙ ap (λ (c : MessageConfig). chosen t.ended t.written s.total s.delays c (length rest) (length output - 2 * t.samples) (length noise - 2 * t.samples) (length records - 66 * t.records)) next_is
-      ∙ (λ i. Plans.plan (counted s.total) t.ended t.written (length rest) (pending_time s.distributions (time_after t.time (draw_at rest)) (draw_at rest) i) (kind_of (counted s.total) (start_from (pending_start s.distributions (time_after t.time (draw_at rest)) (draw_at rest) s.delays i)))
+      chose ∙ ap (λ (c : MessageConfig). chosen s.setting t.ended t.written s.total s.delays c (length rest) (length output - 2 * t.samples) (length noise - 2 * t.samples) (length records - 66 * t.records)) next_is
+      ∙ (λ i. Plans.plan (counted s.setting s.total) t.ended t.written (length rest) (pending_time s.distributions (time_after t.time (draw_at rest)) (draw_at rest) i) (kind_of (counted s.setting s.total) (start_from (pending_start s.distributions (time_after t.time (draw_at rest)) (draw_at rest) s.delays i)))
       (length output - 2 * t.samples) (length noise - 2 * t.samples) (length records - 66 * t.records))
 
   within : Turns.Within G nan noise z
@@ -141,13 +142,13 @@ module _ (P : Planned) where
 
   -- ---- samples
   abbrev SamplesWritten : ℕ → List Float → List Float → Type 0
-  SamplesWritten n memory' output' = ◌≡◌ {A = DueBuffers} (record { memory = memory'; output = output' }) (due_of noise t.written t.samples n (record { memory = memory; output = output }))
+  SamplesWritten n memory' output' = ◌≡◌ {A = DueBuffers} (record { memory = memory'; output = output' }) (due_of s.setting noise t.written t.samples n (record { memory = memory; output = output }))
 
   samples_written_is : (n : ℕ) (m : Float) → Theory.Written G nan noise z n m → (memory' output' : List Float) → SamplesWritten n memory' output' → progress_read s mode_s mode_ac (progress_after_samples t n m) memory' rest output' records ≡ progress_with_samples G nan noise z n m
   unfolding progress_after_samples
   samples_written_is n m f memory' output' e = λ j. record {
     state = record {
-      memory = (samples_written_memory noise memory output memory' output' t.written t.samples n memory_is f.noise_fits f.output_fits e ∙ sym (any_memory (draws (filters_of s mode_s mode_ac)) s.total memory t.written n)) j;
+      memory = (samples_written_memory s.setting noise memory output memory' output' t.written t.samples n memory_is f.noise_fits f.output_fits e ∙ sym (any_memory (draws (filters_of s mode_s mode_ac)) s.setting s.total memory t.written n)) j;
       written = not_over (t.written + n) (t.written + n) refl (omega (arith, f.below, sized.run_in)) j;
       time = t.time;
       over = t.ended;
@@ -158,8 +159,8 @@ module _ (P : Planned) where
     lines = t.records;
     added = added_of t;
     rest = rest;
-    output = (samples_written_output noise memory output memory' output' t.written t.samples n memory_is f.noise_fits f.output_fits e
-        ∙ ap (λ (l : List Float). overwritten (2 * t.samples) l output) (sym (any_samples (draws (filters_of s mode_s mode_ac)) s.total memory t.written (take (2 * n) (drop (2 * t.samples) noise))))) j;
+    output = (samples_written_output s.setting noise memory output memory' output' t.written t.samples n memory_is f.noise_fits f.output_fits e
+        ∙ ap (λ (l : List Float). overwritten (2 * t.samples) l output) (sym (any_samples (draws (filters_of s mode_s mode_ac)) s.setting s.total memory t.written (take (2 * n) (drop (2 * t.samples) noise))))) j;
     records = records;
   }
 
@@ -234,7 +235,7 @@ module _ (P : Planned) where
   wrote n (inr h) r memory' output' k e = dued n h.0 h.1 r memory' output' k e
 
   pub added : (time : Float) (first : ℕ) → plan ≡ Plan.TheVariants.Add time first → (n : ℕ) → n ≤ 65535 → (r : Progress) (memory' : List Float) (records' : List ℕ) → r ≡ progress_after_step t (Plan.TheVariants.Add time first) n
-      → memory' ≡ memory_with last s.delays first rest mode_s mode_ac memory → records' ≡ records_with last s.delays first rest memory (66 * t.records) records → n ≡ count_with last s.delays first rest memory → Step r memory' output records'
+      → memory' ≡ memory_with s.setting last s.delays first rest mode_s mode_ac memory → records' ≡ records_with s.setting last s.delays first rest memory (66 * t.records) records → n ≡ count_with s.setting last s.delays first rest memory → Step r memory' output records'
   unfolding plan_read progress_after_step progress_after_draw time_after
   added time first h n small r memory' records' k p o counted_is =
       let f = says (Plan.TheVariants.Add time first) h in
@@ -250,7 +251,7 @@ module _ (P : Planned) where
       draw_taken_reply : Theory.Added G nan noise z time first → progress_read s mode_s mode_ac (progress_after_draw t time t.ended 1 n) memory' (drop 65 rest) output records' ≡ next_progress G nan noise z (add_reply time first)
       draw_taken_reply f = λ j. record {
         state = record {
-          memory = (added_by s.distributions s.delays at first rest last next_is memory memory_is mode_s mode_ac memory' p ∙ added_put (filters_of s mode_s mode_ac) s.total (reply_samples four mode_s mode_ac s.delays (draw_at rest).amplitude message) memory first) j;
+          memory = (added_by s.setting s.distributions s.delays at first rest last next_is memory memory_is mode_s mode_ac memory' p ∙ added_put (filters_of s mode_s mode_ac) s.total (reply_samples (per_pulse s.setting) mode_s mode_ac s.delays (draw_at rest).amplitude message) memory first) j;
           written = t.written;
           time = f.taken.at j;
           over = t.ended;
@@ -261,9 +262,9 @@ module _ (P : Planned) where
         lines = not_over (t.records + 1) (t.records + 1) refl (omega (arith, f.fits, sized.records_in_lem)) j;
         added =
             (added_exact f.taken.bytes n small
-            ∙ ap (λ (k : ℕ). added_of t + k) (counted_by s.distributions s.delays at first rest last next_is memory memory_is n counted_is ∙ sym (counts (filters_of s mode_s mode_ac) s.total (draw_at rest).amplitude message))) j;
+            ∙ ap (λ (k : ℕ). added_of t + k) (counted_by s.setting s.distributions s.delays at first rest last next_is memory memory_is n counted_is ∙ sym (counts (filters_of s mode_s mode_ac) s.total (draw_at rest).amplitude message))) j;
         rest = drop 65 rest;
         output = output;
-        records = (recorded_by s.distributions s.delays at first rest last next_is memory memory_is records records' (66 * t.records) (omega (arith, f.fits)) o
+        records = (recorded_by s.setting s.distributions s.delays at first rest last next_is memory memory_is records records' (66 * t.records) (omega (arith, f.fits)) o
             ∙ ap (λ (n : ℕ). overwritten (66 * t.records) (record_bytes message first (draw_at rest).kind n) records) (sym (counts (filters_of s mode_s mode_ac) s.total (draw_at rest).amplitude message))) j;
       }

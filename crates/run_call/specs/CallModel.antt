@@ -14,6 +14,7 @@ use Rattle.run_call.specs.Given.{stop_given, refusal_given}
 use Rattle.run_call.specs.Buffers.{Left}
 use Rattle.run_theory.specs.PlainBench as Bench
 use Rattle.refusals.specs.declared.Refusal as Refusal
+use Rattle.constants.specs.Setting.{per_pulse}
 use Rattle.run_call_checks.specs.Checks.{wrong_memory}
 
 -- a call before its first step
@@ -23,7 +24,7 @@ initial_by s = record { written = s.written; time = s.time; latest = s.latest; e
 -- the answer at a stop: the state with what moved, and the counts
 unfoldable pub ran_by : State → Progress → Stop.Stop → Ran
 ran_by s t w = record {
-  state = record { written = t.written; total = s.total; time = t.time; latest = t.latest; ended = t.ended; rates = s.rates; delays = s.delays; distributions = s.distributions };
+  state = record { written = t.written; total = s.total; time = t.time; latest = t.latest; ended = t.ended; rates = s.rates; delays = s.delays; distributions = s.distributions; setting = s.setting };
   counts = record { taken = t.taken; samples = t.samples; noise = 2 * t.samples; records = t.records; added_high = high_half (added_of t); added_low = low_half (added_of t) };
   answer = Ok w;
 }
@@ -33,7 +34,7 @@ module _ (s : State) (mode_s mode_ac : List Float) where
   unfoldable pub left_by : Theory.Ended (gen_of s mode_s mode_ac) nan → Left
   left_by e = record {
     ran = record {
-      state = record { written = e.state.written; total = s.total; time = e.state.time; latest = e.state.mark; ended = e.state.over; rates = s.rates; delays = s.delays; distributions = s.distributions };
+      state = record { written = e.state.written; total = s.total; time = e.state.time; latest = e.state.mark; ended = e.state.over; rates = s.rates; delays = s.delays; distributions = s.distributions; setting = s.setting };
       counts = record { taken = e.taken; samples = e.samples; noise = 2 * e.samples; records = e.lines; added_high = high_half e.added; added_low = low_half e.added };
       answer = Ok (stop_given e.stop);
     };
@@ -61,7 +62,7 @@ module _ (s : State) (mode_s mode_ac memory : List Float) (draws : List ℕ) (no
   -- 9, then every draw, then every noise value (SPECIFICATION 3.2)
   abbrev pub call_refusal : Option Bench.Refusal
   call_refusal =
-      cond (wrong_memory (length memory) (length mode_s) (length mode_ac)) (Some Bench.wrong_length)
+      cond (wrong_memory (per_pulse s.setting) (length memory) (length mode_s) (length mode_ac)) (Some Bench.wrong_length)
       (Bench.refusal_of (gen_of s mode_s mode_ac) s.time (Some s.latest) (record { draws = draws; noise = noise; output = output; records = records }))
 
   unfoldable pub run_left : Left

@@ -2,6 +2,7 @@
 use Rattle.std.specs.Prelude.{ℕ}
 use Rattle.run_theory.specs.PlainBench as Bench
 use Rattle.run_steps.specs.declared.Stop as Stop
+use Rattle.run_steps.specs.PlanModel.{stop_read}
 use Rattle.refusals.specs.declared.Refusal as Refusal
 
 -- a stop of the theory, as the code answers it
@@ -12,13 +13,9 @@ stop_given Bench.wants_noise = Stop.TheVariants.WantsNoise
 stop_given Bench.wants_draws = Stop.TheVariants.WantsDraws
 stop_given Bench.records_full = Stop.TheVariants.RecordsFull
 
--- the code's stops, numbered as in SPECIFICATION 9.2, as the plain bench's are
+-- the code's stops have the numbers of the plain bench's (SPECIFICATION 9.2)
 unfoldable pub stop_number : Stop.Stop → ℕ
-stop_number Stop.TheVariants.Done = 0
-stop_number Stop.TheVariants.OutputFull = 1
-stop_number Stop.TheVariants.WantsNoise = 2
-stop_number Stop.TheVariants.WantsDraws = 3
-stop_number Stop.TheVariants.RecordsFull = 4
+stop_number w = Bench.stop_number (stop_read w)
 
 -- a refusal of the theory, as the code answers it: the same number and values
 unfoldable pub refusal_given : Bench.Refusal → Refusal.Refusal

@@ -18,7 +18,7 @@ module _ (s : State) (mode_s mode_ac : List Float) where
 
   -- the state that stands for a machine's
   abbrev pub state_of : Machine.State (gen_of s mode_s mode_ac) nan → State
-  state_of z = record { written = z.written; total = s.total; time = z.time; latest = z.mark; ended = z.over; rates = s.rates; delays = s.delays; distributions = s.distributions }
+  state_of z = record { written = z.written; total = s.total; time = z.time; latest = z.mark; ended = z.over; rates = s.rates; delays = s.delays; distributions = s.distributions; setting = s.setting }
 
   unfoldable pub ran_given : Bench.Answer → Machine.State (gen_of s mode_s mode_ac) nan → Ran
   ran_given (Bench.refused q) z = record { state = state_of z; counts = record { taken = 0; samples = 0; noise = 0; records = 0; added_high = 0; added_low = 0 }; answer = Err (refusal_given q) }

@@ -3,12 +3,14 @@
 
 ghost use Rattle.std.specs.Prelude.{◌≡◌, ◌+◌, ◌-◌, ◌*◌, ◌≤◌, ◌<◌, ◌^◌, length};
 ghost use Rattle.std.specs.Float.{nan};
+ghost use Rattle.constants.specs.Rate.{working_memory};
+ghost use Rattle.constants.specs.Setting.{per_pulse};
 ghost use Rattle.run_call.specs.CallModel.{initial_by, ran_by, call_left, refused_by, run_left};
 ghost use Rattle.run_call.specs.StepModel.{Inside, progress_read, rest_after, StepSays};
 ghost use Rattle.run_call.specs.StateGenerator.{gen_of};
 ghost use Rattle.run_steps.specs.PlanModel.{plan_read, chosen};
 
-use constants::{DRAW_LEN, MEMORY_LEN, RECORD_LEN};
+use constants::{DRAW_LEN, RECORD_LEN, SamplesPerPulse};
 use message_config::{Delays, MessageConfig};
 use pulse_shape::Filters;
 use refusals::Refusal;
@@ -27,6 +29,7 @@ pub struct State {
     pub rates: MessagesPerSecond,
     pub delays: Delays,
     pub distributions: Distributions,
+    pub setting: SamplesPerPulse,
 }
 
 // Of one call: draws taken, samples written, noise values used, records written, and reply samples added to working memory, in two halves.
@@ -62,9 +65,11 @@ fn left(t: Progress, noise: usize, output: usize, records: usize) -> Room
 
 // What comes next in a call.
 fn next(s: State, t: Progress, last: MessageConfig, rest: usize, room: Room) -> Plan
-    ensures { plan_read result ≡ chosen t.ended t.written s.total s.delays last rest room.output room.noise room.records }
+    ensures { plan_read result ≡ chosen s.setting t.ended t.written s.total s.delays last rest room.output room.noise room.records }
 {
-    run_steps::choose(t.ended, t.written, s.total, s.delays, last, rest, room)
+    run_steps::choose(
+        s.setting, t.ended, t.written, s.total, s.delays, last, rest, room,
+    )
 }
 
 // The buffers are passed apart, as C lends them: of a struct of `&mut` slices each contract would have to promise besides that every field is still the same borrow (its `ghost_name`), and the draws that are left change with each step.
@@ -73,13 +78,13 @@ fn step(
     s: State,
     t: Progress,
     prototypes: Filters,
-    memory: &mut [f32; MEMORY_LEN],
+    memory: &mut [f32],
     rest: &[u8],
     noise: &[f32],
     output: &mut [f32],
     records: &mut [u8],
 ) -> Progress
-    requires { (Inside t (length noise.now) (length output.old) (length records.old)) × (65 * t.taken + length rest.now < 2 ^ 64) × (s.total < 2 ^ 64) }
+    requires { (length memory.old ≡ working_memory (per_pulse s.setting)) × (Inside t (length noise.now) (length output.old) (length records.old)) × (65 * t.taken + length rest.now < 2 ^ 64) × (s.total < 2 ^ 64) }
     ensures { StepSays (gen_of s prototypes.entry.mode_s.now prototypes.entry.mode_ac.now) noise.now nan result.last (progress_read s prototypes.entry.mode_s.now prototypes.entry.mode_ac.now t memory.old rest.now output.old records.old) (progress_read s prototypes.entry.mode_s.now prototypes.entry.mode_ac.now result memory.new (rest_after result.last rest.now) output.new records.new) }
 {
     let last = draw_config::pending(s.distributions, t.time, rest);
@@ -89,11 +94,12 @@ fn step(
     match p {
         Plan::Halt(_) | Plan::Skip(_) | Plan::End(_) => r,
         Plan::Drain(n) | Plan::Due(n, _) => {
-            run_due_samples::write_due(memory, noise, output, t.written, t.samples, n);
+            run_due_samples::write_due(s.setting, memory, noise, output, t.written, t.samples, n);
             r
         }
         Plan::Add(_, first) => {
             let count = run_add_reply::add(
+                s.setting,
                 last,
                 s.delays,
                 first,
@@ -158,12 +164,13 @@ fn stopped_at(s: State, t: Progress, w: Stop) -> Ran
 fn steps(
     s: State,
     prototypes: Filters,
-    memory: &mut [f32; MEMORY_LEN],
+    memory: &mut [f32],
     draws: &[u8],
     noise: &[f32],
     output: &mut [f32],
     records: &mut [u8],
 ) -> Ran
+    requires { length memory.old ≡ working_memory (per_pulse s.setting) }
     ensures { record { ran = result; memory = memory.new; output = output.new; records = records.new } ≡ call_left s prototypes.entry.mode_s.now prototypes.entry.mode_ac.now memory.old draws.now noise.now output.old records.old }
 {
     let mut t = initial_progress(s);
@@ -214,6 +221,7 @@ pub fn run(
     ensures { record { ran = result; memory = memory.new; output = output.new; records = records.new } ≡ run_left s prototypes.entry.mode_s.now prototypes.entry.mode_ac.now memory.old draws.now noise.now output.old records.old }
 {
     if run_call_checks::lengths_wrong(
+        s.setting,
         memory.len(),
         prototypes.mode_s.len(),
         prototypes.mode_ac.len(),
@@ -229,8 +237,5 @@ pub fn run(
     if let Some(p) = run_call_checks::check_noise(noise) {
         return refused(s, Refusal::Noise(p));
     }
-    let Some(whole) = memory.as_mut_array::<MEMORY_LEN>() else {
-        unreachable!()
-    };
-    steps(s, prototypes, whole, draws, noise, output, records)
+    steps(s, prototypes, memory, draws, noise, output, records)
 }

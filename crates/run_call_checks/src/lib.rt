@@ -2,28 +2,30 @@
 #![tactic(auto)]
 
 ghost use Rattle.std.specs.Prelude.{◌≡◌, ◌||◌, false, cond, None, Some};
+ghost use Rattle.constants.specs.Setting.{per_pulse};
 ghost use Rattle.run_theory.specs.PlainBench.{draw_refusal, draws_of};
 ghost use Rattle.run_call_checks.specs.Checks.{wrong_memory};
 ghost use Rattle.run_call_checks.specs.ChecksModel.{wrong_buffers, jump_of, fault_read, check_generator};
 ghost use Rattle.run_generator.specs.Instance.{out_of_range};
 ghost use Rattle.run_call_checks.specs.NoiseModel.{out_of_range_from, noise_fault_read};
 
-use constants::{DRAW_LEN, MEMORY_LEN, PROTOTYPE_LEN};
+use constants::{DRAW_LEN, SamplesPerPulse};
 use settings::{Distributions, MessagesPerSecond};
 
 // Refusal 9.
 pub fn lengths_wrong(
+    setting: SamplesPerPulse,
     memory: usize,
     mode_s: usize,
     mode_ac: usize,
     output: usize,
     draws: usize,
 ) -> bool
-    ensures { result ≡ (wrong_memory memory mode_s mode_ac || wrong_buffers output draws) }
+    ensures { result ≡ (wrong_memory (per_pulse setting) memory mode_s mode_ac || wrong_buffers output draws) }
 {
-    memory != MEMORY_LEN
-        || mode_s != PROTOTYPE_LEN
-        || mode_ac != PROTOTYPE_LEN
+    memory != setting.memory_len()
+        || mode_s != setting.prototype_len()
+        || mode_ac != setting.prototype_len()
         || output == 0
         || output % 2 != 0
         || draws % DRAW_LEN != 0

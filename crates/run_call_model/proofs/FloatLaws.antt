@@ -18,11 +18,11 @@ use Rattle.run_theory.proofs.Times.{GoodTime, Gap, not_before_itself, not_before
 -- what is asked of draws
 pub record DrawLaws (S : Draws) (sps total : ℕ) : Type 0 where
   pub gap_in_range : (d : S.Draw) → S.fault d ≢ Some 0 → Gap (S.gap d)
-  -- Hold-back: of two replies, the one at a later or equal time starts at most 32 samples earlier
+  -- Hold-back: of two replies, the one at a later or equal time starts no more samples earlier than are held back
   pub held :
       (t t' : Float) (d d' : S.Draw) (s s' : ℕ) → GoodTime t → GoodTime t' → S.fault d ≡ None → S.fault d' ≡ None → lt t' t ≡ false
       → kind (generator S sps total) t d ≡ reply s → kind (generator S sps total) t' d' ≡ reply s' → s ≤ s' + hold_back sps
-  -- Count bound: a reply adds to at most 1,094 samples
+  -- Count bound: a reply adds to no more samples than the limit
   pub short : (t : Float) (d : S.Draw) (s : ℕ) → GoodTime t → S.fault d ≡ None → kind (generator S sps total) t d ≡ reply s → length (S.adds t d s) ≤ reply_limit sps
   pub some_limit : 0 < reply_limit sps
   pub entry_length : (t : Float) (d : S.Draw) (s n : ℕ) → length (S.entry t d s n) ≡ 66

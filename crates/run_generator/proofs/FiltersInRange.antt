@@ -53,14 +53,14 @@ module _ (setting : SamplesPerPulse) (s : Settings) (H : HeldSettings s) (level 
 
     pub opened_in_range :
         accepted_of sps s ≡ Ok (n, all) → all_within16 (mode_s_prototype sps mode_s) ≡ true → all_within16 (mode_ac_prototype sps mode_ac) ≡ true
-        → group_delay sps level (mode_s_prototype sps mode_s) ≡ Some a → mode_ac_group_delay sps level (mode_ac_prototype sps mode_ac) ≡ Some b
+        → group_delay level (mode_s_prototype sps mode_s) ≡ Some a → mode_ac_group_delay level (mode_ac_prototype sps mode_ac) ≡ Some b
         → FiltersInRange opened × (n ≤ 2 ^ 52)
     opened_in_range e w v g h =
         let r = accepted_in_range sps s H n all e in (
           record {
             delays = record {
-              mode_s_lem = delay_in_range sps (rate_pos setting) a (delay_most sps level (mode_s_prototype sps mode_s) a (rate_pos setting) (rate_few setting) F above (prototype_held sps _ mode_s) w (long _ mode_s) g);
-              mode_ac_lem = delay_in_range sps (rate_pos setting) b (mode_ac_delay_most sps level (mode_ac_prototype sps mode_ac) b (rate_pos setting) (rate_few setting) F above (prototype_held sps _ mode_ac) v (long _ mode_ac) h);
+              mode_s_lem = delay_in_range sps (rate_pos setting) a (delay_most sps level (mode_s_prototype sps mode_s) a (rate_few setting) F above (prototype_held sps _ mode_s) w (long _ mode_s) g);
+              mode_ac_lem = delay_in_range sps (rate_pos setting) b (mode_ac_delay_most sps level (mode_ac_prototype sps mode_ac) b (rate_few setting) F above (prototype_held sps _ mode_ac) v (long _ mode_ac) h);
             };
             distributions = r.1;
           },

@@ -4,7 +4,6 @@
 ghost use Rattle.std.specs.Prelude.{◌≡◌, length};
 ghost use Rattle.run_theory.specs.Zeros.{zeros};
 ghost use Rattle.run_open.specs.FillModel.{over};
-ghost use Rattle.constants.specs.Rate.{four};
 ghost use Rattle.run_open_checks.specs.Opening.{opened_of, left_by};
 
 use pulse_shape::Filters;
@@ -31,7 +30,7 @@ pub fn fill(prototypes: Filters, mode_s: &mut [f32], mode_ac: &mut [f32], memory
 }
 
 // Opens a run (SPECIFICATION 8).
-#[tactic(auto, unfolding(run_open_checks::specs::Opening::prepared_of, run_open_checks::specs::Opening::opened_of, run_open_checks::specs::Opening::left_by))]
+#[tactic(auto, unfolding(run_open_checks::specs::Opening::with_prototypes, run_open_checks::specs::Opening::prepared_read, run_open_checks::specs::Opening::opened_of, run_open_checks::specs::Opening::left_by))]
 pub fn open(
     settings: &[u8],
     taps: Filters,
@@ -39,15 +38,14 @@ pub fn open(
     mode_ac: &mut [f32],
     memory: &mut [f32],
 ) -> Result<State, Refusal>
-    ensures { (result ≡ opened_of four taps.entry.mode_s.now taps.entry.mode_ac.now settings.now (record { mode_s = mode_s.old; mode_ac = mode_ac.old; memory = memory.old })) × (record { mode_s = mode_s.new; mode_ac = mode_ac.new; memory = memory.new } ≡ left_by four taps.entry.mode_s.now taps.entry.mode_ac.now result (record { mode_s = mode_s.old; mode_ac = mode_ac.old; memory = memory.old })) }
+    ensures { (result ≡ opened_of taps.entry.mode_s.now taps.entry.mode_ac.now settings.now (record { mode_s = mode_s.old; mode_ac = mode_ac.old; memory = memory.old })) × (record { mode_s = mode_s.new; mode_ac = mode_ac.new; memory = memory.new } ≡ left_by taps.entry.mode_s.now taps.entry.mode_ac.now result (record { mode_s = mode_s.old; mode_ac = mode_ac.old; memory = memory.old })) }
 {
     let lengths = Lengths {
         mode_s: mode_s.len(),
         mode_ac: mode_ac.len(),
         memory: memory.len(),
     };
-    let p = run_open_checks::prepare(settings, taps, lengths);
-    let state = p.opened?;
+    let p = run_open_checks::prepare(settings, taps, lengths)?;
     fill(p.prototypes(), mode_s, mode_ac, memory);
-    Ok(state)
+    Ok(p.state)
 }

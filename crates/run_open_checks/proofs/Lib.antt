@@ -1,3 +1,7 @@
+pub mod AtSetting
 pub mod Decided
 pub mod FirstCause
+pub mod InUse
+pub mod OpenedAs
+pub mod OpenedSetting
 pub mod WhatIsOpened

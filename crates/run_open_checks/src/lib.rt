@@ -1,35 +1,36 @@
-// What opening a run answers: refusal 9 for the lengths of the buffers, refusals 1 to 4, 14, 5 and 6, or the first state; and the prototypes. It writes nothing: `run_open` does.
+// What opening a run answers: refusals 15, 9, 1 to 4, 14, 5 and 6, or the first state with the prototypes. It writes nothing: `run_open` does.
 #![tactic(auto)]
 
-ghost use Rattle.std.specs.Prelude.{◌≡◌};
-ghost use Rattle.constants.specs.Rate.{four};
-ghost use Rattle.constants.specs.Setting.{by_mode};
+ghost use Rattle.std.specs.Prelude.{◌≡◌, take};
+ghost use Rattle.constants.specs.Rate.{prototype_length};
+ghost use Rattle.constants.specs.Setting.{per_pulse, by_mode};
 ghost use Rattle.pulse_shape.specs.Prototype.{mode_s_prototype, mode_ac_prototype};
-ghost use Rattle.run_open_checks.specs.Opening.{buffers_fit, mode_s_delay, mode_ac_delay, delays_then, taps_of, opened_for, prepared_of};
+ghost use Rattle.run_open_checks.specs.Opening.{buffers_fit, mode_s_delay, mode_ac_delay, delays_then, taps_of, opened_at, opened_for, with_prototypes, prepared_read};
 
-use constants::{MEMORY_LEN, Mode, PROTOTYPE_LEN, SamplesPerPulse};
+use constants::{MAX_PROTOTYPE_LEN, Mode, SamplesPerPulse};
 use message_config::Delays;
 use pulse_shape::Filters;
 use refusals::Refusal;
 use run_call::State;
-use settings::{Distributions, MessagesPerSecond, SETTINGS_LEN};
+use settings::{Distributions, MessagesPerSecond, Settings};
 
-// What opening answers, and the prototypes that a run is opened with.
+// The first state of a run, and the prototypes that it is opened with, each at the start of its array.
 #[derive(Clone, Copy)]
 pub struct Prepared {
-    pub opened: Result<State, Refusal>,
-    pub mode_s: [f32; PROTOTYPE_LEN],
-    pub mode_ac: [f32; PROTOTYPE_LEN],
+    pub state: State,
+    pub mode_s: [f32; MAX_PROTOTYPE_LEN],
+    pub mode_ac: [f32; MAX_PROTOTYPE_LEN],
 }
 
 impl Prepared {
     // The prototypes as a run takes them.
     pub fn prototypes(&self) -> Filters<'_>
-        ensures { (result.mode_s.now ≡ self.now.mode_s) × (result.mode_ac.now ≡ self.now.mode_ac) }
+        ensures { (result.mode_s.now ≡ take (prototype_length (per_pulse self.now.state.setting)) self.now.mode_s) × (result.mode_ac.now ≡ take (prototype_length (per_pulse self.now.state.setting)) self.now.mode_ac) }
     {
+        let n = self.state.setting.prototype_len();
         Filters {
-            mode_s: &self.mode_s,
-            mode_ac: &self.mode_ac,
+            mode_s: &self.mode_s[..n],
+            mode_ac: &self.mode_ac[..n],
         }
     }
 }
@@ -42,30 +43,20 @@ pub struct Lengths {
     pub memory: usize,
 }
 
-impl Lengths {
-    // Those that a run asks for.
-    pub const WHOLE: Lengths = Lengths {
-        mode_s: PROTOTYPE_LEN,
-        mode_ac: PROTOTYPE_LEN,
-        memory: MEMORY_LEN,
-    };
-}
-
-// Whether the settings, the prototypes and working memory have their lengths.
+// Whether the prototypes and working memory have their lengths.
 #[tactic(auto, unfolding(crate::specs::Opening::buffers_fit))]
-fn buffers_fit(settings: usize, lengths: Lengths) -> bool
-    ensures { result ≡ buffers_fit four settings lengths.mode_s lengths.mode_ac lengths.memory }
+fn buffers_fit(setting: SamplesPerPulse, lengths: Lengths) -> bool
+    ensures { result ≡ buffers_fit (per_pulse setting) lengths.mode_s lengths.mode_ac lengths.memory }
 {
-    settings == SETTINGS_LEN
-        && lengths.memory == MEMORY_LEN
-        && lengths.mode_s == PROTOTYPE_LEN
-        && lengths.mode_ac == PROTOTYPE_LEN
+    lengths.memory == setting.memory_len()
+        && lengths.mode_s == setting.prototype_len()
+        && lengths.mode_ac == setting.prototype_len()
 }
 
 // The delay of a prototype of a mode; none where a value is not finite or above 16 in size.
 #[tactic(auto, unfolding(constants::specs::Setting::by_mode, crate::specs::Opening::mode_s_delay, crate::specs::Opening::mode_ac_delay))]
 fn delay(mode: Mode, level: f32, prototype: &[f32]) -> Option<f64>
-    ensures { result ≡ by_mode mode (mode_s_delay four level prototype.now) (mode_ac_delay four level prototype.now) }
+    ensures { result ≡ by_mode mode (mode_s_delay level prototype.now) (mode_ac_delay level prototype.now) }
 {
     if pulse_taps_check::all_within_16(prototype) {
         pulse_group_delay::group_delay(mode, level, prototype)
@@ -77,13 +68,14 @@ fn delay(mode: Mode, level: f32, prototype: &[f32]) -> Option<f64>
 // The state before the first run call, or refusal 6.
 #[tactic(auto, unfolding(crate::specs::Opening::first_state, crate::specs::Opening::delays_then, crate::specs::Opening::delays_given, pulse_shape::specs::GroupDelay::crossing_answer))]
 fn first_state(
+    setting: SamplesPerPulse,
     rates: MessagesPerSecond,
     total: u64,
     all: Distributions,
     mode_s: Option<f64>,
     mode_ac: Option<f64>,
 ) -> Result<State, Refusal>
-    ensures { result ≡ delays_then rates total all mode_s mode_ac }
+    ensures { result ≡ delays_then setting rates total all mode_s mode_ac }
 {
     let delays = Delays {
         mode_s: mode_s.ok_or(Refusal::Prototype)?,
@@ -98,66 +90,72 @@ fn first_state(
         rates,
         delays,
         distributions: all,
+        setting,
     })
 }
 
-// Refusal 5, then 6.
-#[tactic(auto, unfolding(constants::specs::Setting::by_mode, crate::specs::Opening::taps_of, crate::specs::Opening::delays_of))]
+// The prototype of a mode, at the start of an array that holds one at either setting.
+#[tactic(auto, unfolding(constants::specs::Setting::by_mode, pulse_shape::specs::Prototype::prototype_of))]
+fn prototype(setting: SamplesPerPulse, mode: Mode, lowpass: &[f32]) -> [f32; MAX_PROTOTYPE_LEN]
+    ensures { take (prototype_length (per_pulse setting)) result ≡ by_mode mode (mode_s_prototype (per_pulse setting) lowpass.now) (mode_ac_prototype (per_pulse setting) lowpass.now) }
+{
+    let n = setting.prototype_len();
+    let mut values = [0.0; MAX_PROTOTYPE_LEN];
+    pulse_shape::prototype(setting, mode, lowpass, &mut values[..n]);
+    values
+}
+
+// Refusal 5, then 6, of settings that give a run of these samples and distributions. Where it is 5, no prototype is made.
+#[tactic(auto, unfolding(constants::specs::Setting::by_mode, crate::specs::Opening::taps_of, crate::specs::Opening::delays_of, crate::specs::Opening::with_prototypes, crate::specs::Opening::prepared_read))]
 fn check_taps(
-    rates: MessagesPerSecond,
+    setting: SamplesPerPulse,
+    s: Settings,
     total: u64,
     all: Distributions,
-    level: f32,
     taps: Filters,
-    prototypes: Filters,
-) -> Result<State, Refusal>
-    requires { (prototypes.mode_s.now ≡ mode_s_prototype four taps.mode_s.now) × (prototypes.mode_ac.now ≡ mode_ac_prototype four taps.mode_ac.now) }
-    ensures { result ≡ taps_of four level taps.entry.mode_s.now taps.entry.mode_ac.now rates total all }
+) -> Result<Prepared, Refusal>
+    ensures { prepared_read result ≡ with_prototypes taps.entry.mode_s.now taps.entry.mode_ac.now (taps_of setting s.trigger_level taps.entry.mode_s.now taps.entry.mode_ac.now s.rates total all) }
 {
-    if !pulse_taps_check::taps_accepted(SamplesPerPulse::Four, Mode::S, taps.mode_s)
-        || !pulse_taps_check::taps_accepted(SamplesPerPulse::Four, Mode::Ac, taps.mode_ac)
+    if !pulse_taps_check::taps_accepted(setting, Mode::S, taps.mode_s)
+        || !pulse_taps_check::taps_accepted(setting, Mode::Ac, taps.mode_ac)
     {
         return Err(Refusal::Taps);
     }
-    let delay_s = delay(Mode::S, level, prototypes.mode_s);
-    let delay_ac = delay(Mode::Ac, level, prototypes.mode_ac);
-    first_state(rates, total, all, delay_s, delay_ac)
-}
-
-// Refusal 9, then 1 to 4, 14, 5 and 6, or the state.
-#[tactic(auto, unfolding(crate::specs::Opening::opened_for, crate::specs::Opening::settings_then))]
-fn check_open(
-    settings: &[u8],
-    taps: Filters,
-    prototypes: Filters,
-    lengths: Lengths,
-) -> Result<State, Refusal>
-    requires { (prototypes.mode_s.now ≡ mode_s_prototype four taps.mode_s.now) × (prototypes.mode_ac.now ≡ mode_ac_prototype four taps.mode_ac.now) }
-    ensures { result ≡ opened_for four taps.entry.mode_s.now taps.entry.mode_ac.now settings.now lengths.mode_s lengths.mode_ac lengths.memory }
-{
-    if !buffers_fit(settings.len(), lengths) {
-        return Err(Refusal::Length);
-    }
-    let s = settings::read(settings);
-    let (total, all) = settings::check(s)?;
-    check_taps(s.rates, total, all, s.trigger_level, taps, prototypes)
-}
-
-// What opening answers, given prototypes and working memory of these lengths, and the prototypes that a run is opened with: refusal 9, then 1 to 4, 14, 5 and 6, or the state.
-#[tactic(auto, unfolding(constants::specs::Setting::by_mode, crate::specs::Opening::prepared_of))]
-pub fn prepare(settings: &[u8], taps: Filters, lengths: Lengths) -> Prepared
-    ensures { result ≡ prepared_of four taps.entry.mode_s.now taps.entry.mode_ac.now settings.now lengths.mode_s lengths.mode_ac lengths.memory }
-{
-    let mode_s = pulse_shape::prototype(Mode::S, taps.mode_s);
-    let mode_ac = pulse_shape::prototype(Mode::Ac, taps.mode_ac);
-    let prototypes = Filters {
-        mode_s: &mode_s,
-        mode_ac: &mode_ac,
-    };
-    let opened = check_open(settings, taps, prototypes, lengths);
-    Prepared {
-        opened,
+    let n = setting.prototype_len();
+    let mode_s = prototype(setting, Mode::S, taps.mode_s);
+    let mode_ac = prototype(setting, Mode::Ac, taps.mode_ac);
+    let delay_s = delay(Mode::S, s.trigger_level, &mode_s[..n]);
+    let delay_ac = delay(Mode::Ac, s.trigger_level, &mode_ac[..n]);
+    let state = first_state(setting, s.rates, total, all, delay_s, delay_ac)?;
+    Ok(Prepared {
+        state,
         mode_s,
         mode_ac,
+    })
+}
+
+// What opening answers at a setting where every length is right: refusals 1 to 4, 14, 5 and 6, or the state and its prototypes. Refusals 15 and 9 are looked for by the caller, who has the setting from `settings::samples_per_pulse`.
+#[tactic(auto, unfolding(crate::specs::Opening::opened_at, crate::specs::Opening::settings_then, crate::specs::Opening::with_prototypes, crate::specs::Opening::prepared_read))]
+pub fn prepare_at(
+    setting: SamplesPerPulse,
+    settings: &[u8],
+    taps: Filters,
+) -> Result<Prepared, Refusal>
+    ensures { prepared_read result ≡ with_prototypes taps.entry.mode_s.now taps.entry.mode_ac.now (opened_at taps.entry.mode_s.now taps.entry.mode_ac.now settings.now setting) }
+{
+    let s = settings::read(settings);
+    let (total, all) = settings::check(setting, s)?;
+    check_taps(setting, s, total, all, taps)
+}
+
+// What opening answers, given prototypes and working memory of these lengths: refusals 15 and 9, then 1 to 4, 14, 5 and 6, or the state and its prototypes.
+#[tactic(auto, unfolding(crate::specs::Opening::opened_for, settings::specs::Accepted::at_setting, crate::specs::Opening::lengths_then, crate::specs::Opening::with_prototypes, crate::specs::Opening::prepared_read))]
+pub fn prepare(settings: &[u8], taps: Filters, lengths: Lengths) -> Result<Prepared, Refusal>
+    ensures { prepared_read result ≡ with_prototypes taps.entry.mode_s.now taps.entry.mode_ac.now (opened_for taps.entry.mode_s.now taps.entry.mode_ac.now settings.now lengths.mode_s lengths.mode_ac lengths.memory) }
+{
+    let setting = settings::samples_per_pulse(settings)?;
+    if !buffers_fit(setting, lengths) {
+        return Err(Refusal::Length);
     }
+    prepare_at(setting, settings, taps)
 }

@@ -1,6 +1,7 @@
 -- What comes next in a run call, read as the model in `run_call_model` has it.
 use Rattle.std.specs.Prelude.{ℕ, Bool, Float, cond, ltb, Result, Ok, Err}
-use Rattle.constants.specs.Rate.{four}
+use Rattle.constants.specs.declared.SamplesPerPulse.{SamplesPerPulse}
+use Rattle.constants.specs.Setting.{per_pulse}
 use Rattle.run_theory.specs.Generator.{Generator, start_from}
 use Rattle.run_theory.specs.PlainRun.{kind_of}
 use Rattle.run_theory.specs.PlainBench as Bench
@@ -14,8 +15,8 @@ use Rattle.run_steps.specs.declared.Plan as Plan
 use Rattle.run_steps.specs.declared.Room.{Room}
 
 -- a run of n samples, without draws: what is due does not depend on them
-abbrev pub counted : ℕ → Generator
-counted total = generator no_draws four total
+abbrev pub counted : SamplesPerPulse → ℕ → Generator
+counted setting total = generator no_draws (per_pulse setting) total
 
 -- the code's stops and plans, case by case
 unfoldable pub stop_read : Stop.Stop → Bench.Stop
@@ -39,6 +40,6 @@ writable_of due room =
     cond (ltb 0 (Theory.batch due room.output room.noise)) (Ok (Theory.batch due room.output room.noise)) (Err (cond (ltb room.output 2) Stop.TheVariants.OutputFull Stop.TheVariants.WantsNoise))
 
 -- what comes next, from the message of the next draw, the draw bytes that are left, and the numbers left in output and noise and the bytes left for records
-unfoldable pub chosen : Bool → ℕ → ℕ → Delays → MessageConfig → ℕ → ℕ → ℕ → ℕ → Theory.Plan Float
-chosen ended written total delays last rest room noise bytes =
-    Theory.plan (counted total) ended written rest last.time (kind_of (counted total) (start_from (config_start delays last))) room noise bytes
+unfoldable pub chosen : SamplesPerPulse → Bool → ℕ → ℕ → Delays → MessageConfig → ℕ → ℕ → ℕ → ℕ → Theory.Plan Float
+chosen setting ended written total delays last rest room noise bytes =
+    Theory.plan (counted setting total) ended written rest last.time (kind_of (counted setting total) (start_from (config_start delays last))) room noise bytes

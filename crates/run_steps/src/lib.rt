@@ -2,6 +2,9 @@
 #![tactic(auto)]
 
 ghost use Rattle.std.specs.Prelude.{◌≡◌, ◌+◌, ◌-◌, ◌/◌, ◌^◌, ◌<◌, min, false, pos, if◌then◌else◌};
+ghost use Rattle.constants.specs.Rate.{hold_back};
+ghost use Rattle.constants.specs.Setting.{per_pulse};
+ghost use Rattle.constants.specs.declared.SamplesPerPulse.TheVariants.{Four};
 ghost use Rattle.run_theory.specs.Generator.{start_from};
 ghost use Rattle.run_theory.specs.PlainRun.{kind_of};
 ghost use Rattle.run_call_model.specs.Plan.{plan_ended, plan_reply, plan_draw, some_or, due_many};
@@ -9,7 +12,7 @@ ghost use Rattle.run_steps.specs.PlanModel.{counted, plan_read, writable_of, cho
 ghost use Rattle.std.specs.Float.Ieee.{lt};
 ghost use Rattle.run_steps.specs.ProgressModel.{progress_after_samples, progress_after_draw, progress_after_stop, progress_after_step};
 
-use constants::{DRAW_LEN, HOLD_BACK, RECORD_LEN, REPLY_LIMIT};
+use constants::{DRAW_LEN, RECORD_LEN, SamplesPerPulse};
 use message_config::{Delays, MessageConfig};
 
 // Why a call stops, with the numbers that C has for it.
@@ -63,10 +66,10 @@ fn writable(due: u64, room: Room) -> Result<usize, Stop>
     }
 }
 
-// After the end draw: the samples that are left.
+// After the end draw: the samples that are left. They do not depend on the samples per pulse, so that either setting gives them.
 #[tactic(auto, unfolding(crate::specs::PlanModel::plan_read, crate::specs::PlanModel::stop_read, crate::specs::PlanModel::writable_of))]
 fn drain(written: u64, total: u64, room: Room) -> Plan
-    ensures { plan_read result ≡ plan_ended (counted total) written room.output room.noise }
+    ensures { plan_read result ≡ plan_ended (counted Four total) written room.output room.noise }
 {
     if total <= written {
         return Plan::Halt(Stop::Done);
@@ -77,11 +80,13 @@ fn drain(written: u64, total: u64, room: Room) -> Plan
     }
 }
 
-// How many samples are due before a start, 32 of them held back.
-fn due_before(first: u64, written: u64) -> u64
-    ensures { result ≡ first - 32 - written }
+// How many samples are due before a start, those held back left out.
+fn due_before(setting: SamplesPerPulse, first: u64, written: u64) -> u64
+    ensures { result ≡ first - hold_back (per_pulse setting) - written }
 {
-    first.saturating_sub(HOLD_BACK).saturating_sub(written)
+    first
+        .saturating_sub(setting.hold_back())
+        .saturating_sub(written)
 }
 
 // The samples due by the start of a draw at its time.
@@ -97,10 +102,10 @@ fn due(n: u64, time: f64, room: Room) -> Plan
 
 // A reply that starts at a sample.
 #[tactic(auto, unfolding(crate::specs::PlanModel::plan_read, crate::specs::PlanModel::stop_read))]
-fn reply(written: u64, time: f64, first: u64, room: Room) -> Plan
-    ensures { plan_read result ≡ plan_reply (counted 0) (first - 32 - written) time first room.output room.noise room.records }
+fn reply(setting: SamplesPerPulse, written: u64, time: f64, first: u64, room: Room) -> Plan
+    ensures { plan_read result ≡ plan_reply (counted setting 0) (first - hold_back (per_pulse setting) - written) time first room.output room.noise room.records }
 {
-    let n = due_before(first, written);
+    let n = due_before(setting, first, written);
     if 0 < n {
         return due(n, time, room);
     }
@@ -112,21 +117,29 @@ fn reply(written: u64, time: f64, first: u64, room: Room) -> Plan
 
 // What comes of a draw with this time and start.
 #[tactic(auto, using(crate::proofs::Tests::negative_start, crate::proofs::Tests::skips, crate::proofs::Tests::ends_run, crate::proofs::Tests::replies))]
-fn classify(written: u64, total: u64, time: f64, start: i64, room: Room) -> Plan
-    ensures { plan_read result ≡ plan_draw (counted total) written time (kind_of (counted total) (start_from start)) room.output room.noise room.records }
+fn classify(
+    setting: SamplesPerPulse,
+    written: u64,
+    total: u64,
+    time: f64,
+    start: i64,
+    room: Room,
+) -> Plan
+    ensures { plan_read result ≡ plan_draw (counted setting total) written time (kind_of (counted setting total) (start_from start)) room.output room.noise room.records }
 {
     let Ok(first) = u64::try_from(start) else {
         return Plan::Skip(time);
     };
-    if total <= first + REPLY_LIMIT {
+    if total <= first + setting.reply_limit() {
         return Plan::End(time);
     }
-    reply(written, time, first, room)
+    reply(setting, written, time, first, room)
 }
 
 // What comes next, given the message of the next draw and how much is left of the buffers: the draw bytes, the numbers of output and noise, and the bytes for records.
 #[tactic(auto, using(crate::proofs::Tests::chose_ended, crate::proofs::Tests::chose_none, crate::proofs::Tests::chose_draw))]
 pub fn choose(
+    setting: SamplesPerPulse,
     ended: bool,
     written: u64,
     total: u64,
@@ -135,7 +148,7 @@ pub fn choose(
     rest: usize,
     room: Room,
 ) -> Plan
-    ensures { plan_read result ≡ chosen ended written total delays last rest room.output room.noise room.records }
+    ensures { plan_read result ≡ chosen setting ended written total delays last rest room.output room.noise room.records }
 {
     if ended {
         return drain(written, total, room);
@@ -144,7 +157,7 @@ pub fn choose(
         return Plan::Halt(Stop::WantsDraws);
     }
     let start = last.first_sample_index(delays);
-    classify(written, total, last.time, start, room)
+    classify(setting, written, total, last.time, start, room)
 }
 
 // A call so far: what of the state moves, the counts, and how the call came here. The reply samples added are counted in two halves.

@@ -8,7 +8,10 @@ use lib.Dec.{lit<}
 use lib.ListN.{length, take, drop, length-append, length-map, take-append-drop}
 use lib.Seq.{drop_at, take_at}
 use borrow.Author.Tests.{le-leb}
-use Rattle.constants.specs.Rate.{four, reply_limit}
+use Rattle.constants.specs.Rate.{reply_limit}
+use Rattle.constants.specs.Setting.{per_pulse}
+use Rattle.constants.specs.declared.SamplesPerPulse.{SamplesPerPulse}
+use Rattle.constants.specs.declared.SamplesPerPulse.TheVariants.{Four, Eight}
 use Rattle.le_read.specs.LeBytes.{le_of, bytes_of, le_at, read_at, number_at}
 use Rattle.le_read.proofs.Halves.{length_bytes}
 use Rattle.le_read.proofs.RoundTrip.{le_bytes}
@@ -54,8 +57,9 @@ module _ (c : MessageConfig) (first type n : ℕ) (more : List ℕ) where
       ∙ le_bytes 2 n
       ∙ mod-eq_of_lt h
 
-limit_small : reply_limit four < 2 ^ 16
-limit_small = lit< tt
+limit_small : (s : SamplesPerPulse) → reply_limit (per_pulse s) < 2 ^ 16
+limit_small Four = lit< tt
+limit_small Eight = lit< tt
 
 sum_most : (m : ℕ) (ns : List ℕ) → Each (λ n. n ≤ m) ns → sum_of ns ≤ m * length ns
 sum_most m [] h = omega arith
@@ -63,6 +67,9 @@ sum_most m (n ∷ ns) h = omega (arith, h.0, sum_most m ns h.1, mul-suc m (lengt
 
 -- ---- the counts in the records of replies
 module _ (r : Run) where
+  abbrev sps : ℕ
+  sps = per_pulse r.state.setting
+
   abbrev Replies : Type 0
   Replies = List (Reply (gen r))
 
@@ -75,7 +82,7 @@ module _ (r : Run) where
   line_is : (x : Reply (gen r)) → Recorded (gen r) x → (more : List ℕ) → (number_at 2 (x.line ++ more) 49 ≡ count x) × (drop 66 (x.line ++ more) ≡ more)
   unfolding count
   line_is x k more = (
-    ap (λ (l : List ℕ). number_at 2 (l ++ more) 49) k.line ∙ count_read (config_of r.state.distributions k.time k.draw.draw) x.first k.draw.draw.kind (length x.values) more (omega (arith, k.few, limit_small)),
+    ap (λ (l : List ℕ). number_at 2 (l ++ more) 49) k.line ∙ count_read (config_of r.state.distributions k.time k.draw.draw) x.first k.draw.draw.kind (length x.values) more (omega (arith, k.few, limit_small r.state.setting)),
     drop_at x.line more 66 (ap length k.line ∙ line_length r.state.distributions k.time k.draw.draw x.first (length x.values)),
   )
 
@@ -88,19 +95,19 @@ module _ (r : Run) where
       ∙ (λ i. k.0 i ∷ record_counts (length new) (k.1 i))
       ∙ ap (λ (l : List ℕ). count x ∷ l) (counts_are new more h.1)
 
-  each_few : (new : Replies) → Each (Recorded (gen r)) new → Each (λ n. n ≤ reply_limit four) (map count new)
+  each_few : (new : Replies) → Each (Recorded (gen r)) new → Each (λ n. n ≤ reply_limit sps) (map count new)
   unfolding count
   each_few [] h = tt
   each_few (x ∷ new) h = (h.0.few, each_few new h.1)
 
   -- a call that wrote the records of these replies, and whose number is the sum of their counts
   pub counts_added : (new : Replies) (l : Left) → Each (Recorded (gen r)) new → l.ran.counts.records ≡ length new
-      → take (66 * length new) l.records ≡ Bench.join (map (λ x. x.line) new) → samples_added l ≡ sum_of (map (λ x. length x.values) new) → CountsAdded l
+      → take (66 * length new) l.records ≡ Bench.join (map (λ x. x.line) new) → samples_added l ≡ sum_of (map (λ x. length x.values) new) → CountsAdded sps l
   unfolding count lines
   counts_added new l h many bytes added = record {
     sum = added ∙ ap sum_of (sym written);
-    each = subst (Each (λ n. n ≤ reply_limit four)) (sym written) (each_few new h);
-    most = subst (λ (n : ℕ). samples_added l ≤ reply_limit four * n) (length-map new count ∙ sym many) (subst (λ (n : ℕ). n ≤ reply_limit four * length (map count new)) (sym added) (sum_most (reply_limit four) (map count new) (each_few new h)));
+    each = subst (Each (λ n. n ≤ reply_limit sps)) (sym written) (each_few new h);
+    most = subst (λ (n : ℕ). samples_added l ≤ reply_limit sps * n) (length-map new count ∙ sym many) (subst (λ (n : ℕ). n ≤ reply_limit sps * length (map count new)) (sym added) (sum_most (reply_limit sps) (map count new) (each_few new h)));
   }
     where
       split : l.records ≡ lines new ++ drop (66 * length new) l.records

@@ -8,7 +8,8 @@ use mathlib.Core.Path.{◌≡◌, refl, sym, ap, ◌∙◌, subst}
 use native.Mathlib.Omega.{arith}
 use lib.ListN.{length, length-replicate, take}
 use lib.Ieee.{Float, nan}
-use Rattle.constants.specs.Rate.{four}
+use Rattle.constants.specs.Rate.{working_memory}
+use Rattle.constants.specs.Setting.{per_pulse}
 use Rattle.run_theory.specs.FloatGenerator.{nought}
 use Rattle.run_theory.specs.Added.{high_half, low_half, whole_of}
 use Rattle.run_theory.specs.Each.{Each}
@@ -94,7 +95,7 @@ module _ (r : Run) where
   added_given a z = ap (λ (n : Counts). whole_of n.added_high n.added_low) (counts_given a z) ∙ whole_back (Theory.samples_added a)
 
   -- each adds what its records count
-  adds_given : (x : Bench.Result G) (z : Machine.State G nan) → Theory.Adds G x → CountsAdded (left_given s p_s p_ac x z)
+  adds_given : (x : Bench.Result G) (z : Machine.State G nan) → Theory.Adds G x → CountsAdded (per_pulse s.setting) (left_given s p_s p_ac x z)
   unfolding left_given
   adds_given x z a =
       counts_added r a.new (left_given s p_s p_ac x z) a.recorded
@@ -118,7 +119,7 @@ module _ (r : Run) where
     used : all_used cs ls ≡ Theory.all_used G (bench_calls r cs) xs
     taken : all_taken r cs ls ≡ Theory.all_taken G (bench_calls r cs) xs
     added : total_added ls ≡ Theory.all_added G xs
-    adds : Each (Theory.Adds G) xs → Each CountsAdded ls
+    adds : Each (Theory.Adds G) xs → Each (CountsAdded (per_pulse s.setting)) ls
     done : ReachesDone ls → Theory.reaches_done G xs ≡ true
 
   either : (b c : Bool) → c ≡ true → b || c ≡ true
@@ -158,16 +159,16 @@ module _ (r : Run) where
       ap (λ (x : State). last_state x (runs_given s p_s p_ac t.1 cs)) (given_state s p_s p_ac t.0.answer t.1) ∙ state_given cs t.1
 
 -- ---- an opened run
-module _ (taps_s taps_ac : List Float) (settings : List ℕ) (given : Opening.OpenBuffers) (s : State) (opens : Opening.opened_of four taps_s taps_ac settings given ≡ Ok s) where
+module _ (taps_s taps_ac : List Float) (settings : List ℕ) (given : Opening.OpenBuffers) (s : State) (opens : Opening.opened_of taps_s taps_ac settings given ≡ Ok s) where
   memory : List Float
-  memory = (Opening.left_by four taps_s taps_ac (Ok s) given).memory
+  memory = (Opening.left_by taps_s taps_ac (Ok s) given).memory
 
-  memory_length_lem : length memory ≡ 2252
+  memory_length_lem : length memory ≡ working_memory (per_pulse s.setting)
   unfolding memory Opening.left_by
-  memory_length_lem = length-replicate 2252 nought
+  memory_length_lem = length-replicate (working_memory (per_pulse s.setting)) nought
 
   abbrev run : Run
-  run = record { state = s; buffers = record { mode_s = mode_s_prototype four taps_s; mode_ac = mode_ac_prototype four taps_ac; memory = memory } }
+  run = record { state = s; buffers = record { mode_s = mode_s_prototype (per_pulse s.setting) taps_s; mode_ac = mode_ac_prototype (per_pulse s.setting) taps_ac; memory = memory } }
 
   is_opened : Opens taps_s taps_ac settings given run
   unfolding memory Opening.left_by
@@ -179,12 +180,12 @@ module _ (taps_s taps_ac : List Float) (settings : List ℕ) (given : Opening.Op
   shown : Theory.Demand3 (gen run) (Machine.runs (gen run) nan)
   shown =
       let q = opened_run_in_range taps_s taps_ac settings given s opens in
-      instance_demand3 (filters_of s (mode_s_prototype four taps_s) (mode_ac_prototype four taps_ac)) q.0 s.total q.1 nan
+      instance_demand3 (filters_of s (mode_s_prototype (per_pulse s.setting) taps_s) (mode_ac_prototype (per_pulse s.setting) taps_ac)) q.0 s.total q.1 nan
 
   calls_are : (cs : List CallBuffers) → calls run cs ≡ runs_given s run.buffers.mode_s run.buffers.mode_ac first cs
   unfolding memory
   calls_are cs =
-      runs_are s run.buffers.mode_s run.buffers.mode_ac (length_prototype four _ taps_s) (length_prototype four _ taps_ac) cs (machine_of s run.buffers.mode_s run.buffers.mode_ac memory) memory_length_lem
+      runs_are s run.buffers.mode_s run.buffers.mode_ac (length_prototype (per_pulse s.setting) _ taps_s) (length_prototype (per_pulse s.setting) _ taps_ac) cs (machine_of s run.buffers.mode_s run.buffers.mode_ac memory) memory_length_lem
       ∙ ap (λ (z : Machine.State (gen run) nan). runs_given s run.buffers.mode_s run.buffers.mode_ac z cs) (opened_first taps_s taps_ac settings given s opens)
 
   as_shown : (cs : List CallBuffers) → Alike run cs (calls run cs) (Machine.runs (gen run) nan (bench_calls run cs))
@@ -212,11 +213,11 @@ module _ (taps_s taps_ac : List Float) (settings : List ℕ) (given : Opening.Op
   unfolding memory
   state_is cs =
       let q = opened_run_in_range taps_s taps_ac settings given s opens in
-      let m = matched (gen run) (instance_laws (filters_of s (mode_s_prototype four taps_s) (mode_ac_prototype four taps_ac)) q.0 s.total q.1) nan (bench_calls run cs) in
+      let m = matched (gen run) (instance_laws (filters_of s (mode_s_prototype (per_pulse s.setting) taps_s) (mode_ac_prototype (per_pulse s.setting) taps_ac)) q.0 s.total q.1) nan (bench_calls run cs) in
       ap (λ (ls : List Left). last_state s ls) (calls_are cs)
       ∙ ap (λ (z : Machine.State (gen run) nan). last_state (state_of s run.buffers.mode_s run.buffers.mode_ac z) (runs_given s run.buffers.mode_s run.buffers.mode_ac first cs)) (opened_first taps_s taps_ac settings given s opens)
       ∙ state_given run cs first
-      ∙ (λ i. record { written = m.written i; total = s.total; time = m.time i; latest = m.mark i; ended = m.over i; rates = s.rates; delays = s.delays; distributions = s.distributions })
+      ∙ (λ i. record { written = m.written i; total = s.total; time = m.time i; latest = m.mark i; ended = m.over i; rates = s.rates; delays = s.delays; distributions = s.distributions; setting = s.setting })
 
   claim : Demand3 taps_s taps_ac settings run
   claim = record {

@@ -8,7 +8,7 @@ use mathlib.Core.List.{List, [], ◌∷◌}
 use lib.IntN.{pos}
 use lib.Ieee.{Float, nan, inf, fin, up}
 use lib.Ieee.Bits.{is_true}
-use Rattle.constants.specs.Rate.{four}
+use Rattle.constants.specs.Setting.{per_pulse}
 use Rattle.float_rounding.proofs.AtMost.{AtMost}
 use Rattle.float_rounding.proofs.Order.{fin_le}
 use Rattle.float_narrow.specs.Range.{abs, within}
@@ -35,13 +35,13 @@ finite_53 nan h = absurd h
 finite_53 (inf s) h = absurd h
 finite_53 (fin s m e) h = is_true (within (fin s m e) (fin false 1 (pos 53))) (fin_le false m e false 1 (pos 53) (le_trans (le_of_eq (mul-one (m * up e))) h))
 
-module _ (taps_s taps_ac : List Float) (bytes : List ℕ) (lent : Opening.OpenBuffers) (s : State) (opens : Opening.opened_of four taps_s taps_ac bytes lent ≡ Ok s) where
+module _ (taps_s taps_ac : List Float) (bytes : List ℕ) (lent : Opening.OpenBuffers) (s : State) (opens : Opening.opened_of taps_s taps_ac bytes lent ≡ Ok s) where
   abbrev G : Generator
-  G = gen_of s (mode_s_prototype four taps_s) (mode_ac_prototype four taps_ac)
+  G = gen_of s (mode_s_prototype (per_pulse s.setting) taps_s) (mode_ac_prototype (per_pulse s.setting) taps_ac)
 
   pub opened_finite : (run : List (Bench.Call G) → List (Bench.Result G)) → Demand3 G run → (cs : List (Bench.Call G)) → Each Finite53 (all_samples G (run cs))
   opened_finite run D cs =
       let r = opened_run_in_range taps_s taps_ac bytes lent s opens in
       let w = what_is_opened taps_s taps_ac bytes lent s opens in
       each_on (AtMost (2 ^ 53)) Finite53 finite_53 (all_samples G (run cs))
-      (samples_sized (filters_of s (mode_s_prototype four taps_s) (mode_ac_prototype four taps_ac)) r.0 s.total r.1 (record { whole = length_prototype four _ taps_s; small = w.delay_s.0 }) (record { whole = length_prototype four _ taps_ac; small = w.delay_ac.0 }) run D cs)
+      (samples_sized (filters_of s (mode_s_prototype (per_pulse s.setting) taps_s) (mode_ac_prototype (per_pulse s.setting) taps_ac)) r.0 s.total r.1 (record { whole = length_prototype (per_pulse s.setting) _ taps_s; small = w.delay_s.0 }) (record { whole = length_prototype (per_pulse s.setting) _ taps_ac; small = w.delay_ac.0 }) run D cs)

@@ -14,6 +14,7 @@ use Rattle.run_theory.specs.Generator.{Generator}
 use Rattle.run_theory.specs.PlainBench as Bench
 use Rattle.run_theory.specs.Refusals.{Cause}
 use Rattle.run_theory.proofs.Refusals.{refused_for, refused_if}
+use Rattle.constants.specs.Setting.{per_pulse}
 use Rattle.run_call_checks.specs.Checks.{wrong_memory}
 use Rattle.run_call.specs.declared.State.{State}
 use Rattle.run_call.specs.StateGenerator.{gen_of}
@@ -31,7 +32,7 @@ module _ (s : State) (mode_s mode_ac memory : List Float) (l : CallBuffers) wher
   call = call_of s mode_s mode_ac l
 
   abbrev memory_wrong : Bool
-  memory_wrong = wrong_memory (length memory) (length mode_s) (length mode_ac)
+  memory_wrong = wrong_memory (per_pulse s.setting) (length memory) (length mode_s) (length mode_ac)
 
   abbrev inside : Option Bench.Refusal
   inside = Bench.refusal_of G s.time (Some s.latest) call

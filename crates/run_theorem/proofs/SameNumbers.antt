@@ -4,6 +4,7 @@ use mathlib.Core.List.{◌∷◌}
 use Rattle.run_theory.specs.PlainBench as Bench
 use Rattle.refusals.specs.Number.{number_of, values_of}
 use Rattle.run_call.specs.Given.{refusal_given, stop_number, stop_given}
+use Rattle.run_steps.specs.PlanModel.{stop_read}
 
 pub same_numbers : (q : Bench.Refusal) → number_of (refusal_given q) ∷ values_of (refusal_given q) ≡ Bench.numbers q
 unfolding refusal_given number_of values_of
@@ -12,7 +13,7 @@ same_numbers (Bench.wrong_draw draw field) = refl
 same_numbers (Bench.wrong_noise index) = refl
 
 pub same_stops : (s : Bench.Stop) → stop_number (stop_given s) ≡ Bench.stop_number s
-unfolding stop_number stop_given
+unfolding stop_number stop_given stop_read
 same_stops Bench.done = refl
 same_stops Bench.output_full = refl
 same_stops Bench.wants_noise = refl

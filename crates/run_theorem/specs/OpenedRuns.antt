@@ -2,7 +2,8 @@
 -- the state that comes back is the plain bench's, and every number written is finite.
 use Rattle.std.specs.Prelude.{None, Ok, ℕ, zero, suc, ◌+◌, ◌*◌, ◌≤◌, true, false, List, [], ◌∷◌, ◌++◌, map, ◌⊎◌, ◌≡◌, pos, length, take, drop, Float}
 use Rattle.std.specs.Float.{fin}
-use Rattle.constants.specs.Rate.{four, reply_limit}
+use Rattle.constants.specs.Rate.{reply_limit}
+use Rattle.constants.specs.Setting.{per_pulse}
 use Rattle.float_narrow.specs.Range.{within}
 use Rattle.le_read.specs.LeBytes.{number_at}
 use Rattle.run_theory.specs.Added.{sum_of, whole_of}
@@ -28,8 +29,8 @@ pub record Run : Type 0 where
 
 -- Opening with these settings and filters, given these buffers, answers the run and leaves its buffers. (So the contract of `open` says it.)
 pub record Opens (taps_s taps_ac : List Float) (settings : List ℕ) (given : Opening.OpenBuffers) (r : Run) : Type 0 where
-  pub answers : Opening.opened_of four taps_s taps_ac settings given ≡ Ok r.state
-  pub leaves : r.buffers ≡ Opening.left_by four taps_s taps_ac (Ok r.state) given
+  pub answers : Opening.opened_of taps_s taps_ac settings given ≡ Ok r.state
+  pub leaves : r.buffers ≡ Opening.left_by taps_s taps_ac (Ok r.state) given
 
 -- ---- a list of run calls on a run
 -- what each call answers and leaves, given state, prototypes and memory as the last call left them (by the contract of `run`)
@@ -100,11 +101,11 @@ record_counts (suc n) bytes = number_at 2 bytes 49 ∷ record_counts n (drop 66 
 abbrev pub counts_written : Left → List ℕ
 counts_written l = record_counts l.ran.counts.records l.records
 
--- The number is the sum of the counts in the records that the call wrote, each of which is at most the reply limit.
-pub record CountsAdded (l : Left) : Type 0 where
+-- The number is the sum of the counts in the records that the call wrote, each of which is at most the reply limit of these samples per pulse.
+pub record CountsAdded (sps : ℕ) (l : Left) : Type 0 where
   pub sum : samples_added l ≡ sum_of (counts_written l)
-  pub each : Each (λ n. n ≤ reply_limit four) (counts_written l)
-  pub most : samples_added l ≤ reply_limit four * l.ran.counts.records
+  pub each : Each (λ n. n ≤ reply_limit sps) (counts_written l)
+  pub most : samples_added l ≤ reply_limit sps * l.ran.counts.records
 
 -- some call answers Done
 abbrev pub ReachesDone : List Left → Type 0
@@ -127,6 +128,7 @@ state_after r b = record {
   rates = r.state.rates;
   delays = r.state.delays;
   distributions = r.state.distributions;
+  setting = r.state.setting;
 }
 
 -- finite, since neither an infinity nor a NaN is within a number in size, and at most 2^53
@@ -157,10 +159,10 @@ pub record Demand3 (taps_s taps_ac : List Float) (settings : List ℕ) (r : Run)
       → draws_taken r cs ≡ draws_taken r' cs' → noise_used r cs ≡ noise_used r' cs'
       → (samples_written r cs ≡ samples_written r' cs') × (records_written r cs ≡ records_written r' cs')
   pub whole : (cs : List CallBuffers) → ReachesDone (calls r cs) → (ended (gen r) (gen r).t0 (draws_taken r cs) ≡ true) × (length (samples_written r cs) ≡ 2 * r.state.total)
-  -- (e) No reply adds before its first sample, nor to more than 1,094.
+  -- (e) No reply adds before its first sample, nor to more than the reply limit (1,094 at 4 samples per pulse, 2,187 at 8).
   pub reach : (cs : List CallBuffers) → Each (Reach (gen r)) (replies (gen r) (gen r).t0 (draws_taken r cs))
   -- Reply samples added (SPECIFICATION 9.5): of each call, those of the replies whose records it wrote; in all, those of the plain run. So a run's total is the same however it was cut.
-  pub adds : (cs : List CallBuffers) → Each CountsAdded (calls r cs)
+  pub adds : (cs : List CallBuffers) → Each (CountsAdded (per_pulse r.state.setting)) (calls r cs)
   pub total : (cs : List CallBuffers) → total_added (calls r cs) ≡ plain_added (gen r) (draws_taken r cs)
   pub same_total :
       (given' : Opening.OpenBuffers) (r' : Run) → Opens taps_s taps_ac settings given' r' → (cs cs' : List CallBuffers) → ReachesDone (calls r cs) → ReachesDone (calls r' cs')

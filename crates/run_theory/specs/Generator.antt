@@ -42,7 +42,7 @@ pub record Generator : Type 1 where
   pub draw_bytes : ℕ
   pub record_bytes : ℕ
   pub draw_at : List Byte → Draw
-  -- the most samples that a reply adds to (1,094), the samples held back (32), and the run's samples
+  -- the most samples that a reply adds to (1,094 at 4 samples per pulse, 2,187 at 8), the samples held back (32, and 64), and the run's samples
   pub limit : ℕ
   pub hold : ℕ
   pub total : ℕ

@@ -152,7 +152,7 @@ module _ (G : Generator) where
   step4 d ends ds vs room slots = taking d ends (record { draws = ds; noise = vs; room = room; slots = slots })
   step4 d (reply s) ds vs room slots = step5 d s ds vs room slots
 
-  -- the next draw does not end the run, and its start minus 32 exceeds the samples written; a negative one never does
+  -- the next draw does not end the run, and its start minus the samples held back exceeds the samples written; a negative one never does
   abbrev pub due_by : ℕ → Kind → Bool
   due_by written ignored = false
   due_by written ends = false

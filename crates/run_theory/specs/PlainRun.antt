@@ -18,7 +18,7 @@ module _ (G : Generator) where
     pub values : List (Sample G)
     pub line : List Byte
 
-  -- Step 4: start negative first, then start + 1,094 >= the run's samples.
+  -- Step 4: start negative first, then start + limit >= the run's samples.
   abbrev pub kind_of : Start → Kind
   kind_of negative = ignored
   kind_of (from s) = cond (leb total (s + limit)) ends (reply s)

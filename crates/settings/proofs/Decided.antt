@@ -1,9 +1,16 @@
 -- What each test of settings decides: which answer of the definitions it gives.
 use Rattle.std.specs.Prelude.{Some, None, Result, Ok, Err}
 use Prim.Native.Nat.{ℕ}
-use mathlib.Core.Path.{◌≡◌, sym, ap, ◌∙◌}
+use mathlib.Core.Path.{◌≡◌, refl, sym, ap, ◌∙◌}
 use mathlib.Core.Bool.{Bool, true, false, cond}
+use mathlib.Core.List.{List}
+use lib.Dec.{eqb}
+use lib.ListN.{length, get_or}
 use lib.Ieee.{Float}
+use borrow.Author.Tests.{eqb-true, eqb-false, ne_eqb}
+use Rattle.constants.specs.declared.SamplesPerPulse.{SamplesPerPulse}
+use Rattle.constants.specs.declared.SamplesPerPulse.TheVariants.{Four, Eight}
+use Rattle.constants.specs.Setting.{per_pulse}
 use Rattle.distributions.specs.Accepted.{carrier_offset, carrier_phase, clock_error}
 use Rattle.distributions.specs.declared.CarrierOffset.{CarrierOffset}
 use Rattle.distributions.specs.declared.CarrierPhase.{CarrierPhase}
@@ -13,8 +20,49 @@ use Rattle.refusals.specs.declared.Refusal as Refusals
 use Rattle.refusals.specs.declared.Refusal.TheVariants as Refusal
 use Rattle.settings.specs.declared.Settings.{Settings}
 use Rattle.settings.specs.declared.Distributions.{Distributions}
-use Rattle.settings.specs.Settings.{rates_of}
-use Rattle.settings.specs.Accepted.{first_bad_rate, total_of, total_fits, with_clock, with_phase, with_offset, distributions_of, total_then, rates_then, duration_then, values_of, level_in_range, level_then}
+use Rattle.settings.specs.Settings.{settings_length, rates_of}
+use Rattle.settings.specs.Accepted.{setting_by, setting_at, first_bad_rate, total_of, total_fits, with_clock, with_phase, with_offset, distributions_of, total_then, rates_then, duration_then, values_of, level_in_range, level_then}
+
+-- the samples per pulse, by the length of the settings and their last byte
+module _ (bytes : List ℕ) where
+  by_length : (b : Bool) → eqb (length bytes) settings_length ≡ b → setting_at bytes ≡ cond b (setting_by (get_or bytes 123 0)) (Err Refusal.Length)
+  unfolding setting_at
+  by_length b = ap (λ (x : Bool). cond x (setting_by (get_or bytes 123 0)) (Err Refusal.Length))
+
+  pub length_refused : (length bytes ≡ settings_length → ⊥) → setting_at bytes ≡ Err Refusal.Length
+  length_refused h = by_length false (ne_eqb (length bytes) settings_length h)
+
+  pub setting_refused : length bytes ≡ settings_length → ((s : SamplesPerPulse) → get_or bytes 123 0 ≡ per_pulse s → ⊥) → setting_at bytes ≡ Err Refusal.SamplesPerPulse
+  unfolding setting_at setting_by
+  setting_refused l h =
+      let four = ne_eqb (get_or bytes 123 0) 4 (h Four) in
+      let eight = ne_eqb (get_or bytes 123 0) 8 (h Eight) in
+      rw (l, four, eight)
+
+  pub setting_passes : (s : SamplesPerPulse) → length bytes ≡ settings_length → get_or bytes 123 0 ≡ per_pulse s → setting_at bytes ≡ Ok s
+  unfolding setting_at setting_by
+  setting_passes Four l e = rw (l, e)
+  setting_passes Eight l e = rw (l, e)
+
+  -- what holds of each answer for its own cause holds of the one that is given
+  pub by_setting : (P : Result SamplesPerPulse Refusals.Refusal → Type 0)
+      → ((length bytes ≡ settings_length → ⊥) → P (Err Refusal.Length))
+      → (length bytes ≡ settings_length → ((s : SamplesPerPulse) → get_or bytes 123 0 ≡ per_pulse s → ⊥) → P (Err Refusal.SamplesPerPulse))
+      → ((s : SamplesPerPulse) → length bytes ≡ settings_length → get_or bytes 123 0 ≡ per_pulse s → P (Ok s))
+      → P (setting_at bytes)
+  unfolding setting_at setting_by
+  by_setting P short other is = go (eqb (length bytes) settings_length) refl (eqb (get_or bytes 123 0) 4) refl (eqb (get_or bytes 123 0) 8) refl
+    where
+      neither : eqb (get_or bytes 123 0) 4 ≡ false → eqb (get_or bytes 123 0) 8 ≡ false → (s : SamplesPerPulse) → get_or bytes 123 0 ≡ per_pulse s → ⊥
+      neither f e Four = eqb-false (get_or bytes 123 0) 4 f
+      neither f e Eight = eqb-false (get_or bytes 123 0) 8 e
+
+      go : (b : Bool) → eqb (length bytes) settings_length ≡ b → (x : Bool) → eqb (get_or bytes 123 0) 4 ≡ x → (y : Bool) → eqb (get_or bytes 123 0) 8 ≡ y
+          → P (cond b (cond x (Ok Four) (cond y (Ok Eight) (Err Refusal.SamplesPerPulse))) (Err Refusal.Length))
+      go false l x f y e = short (eqb-false (length bytes) settings_length l)
+      go true l true f y e = is Four (eqb-true (length bytes) settings_length l) (eqb-true (get_or bytes 123 0) 4 f)
+      go true l false f true e = is Eight (eqb-true (length bytes) settings_length l) (eqb-true (get_or bytes 123 0) 8 e)
+      go true l false f false e = other (eqb-true (length bytes) settings_length l) (neither f e)
 
 module _ (sps : ℕ) (s : Settings) where
   pub duration_refused : (q : Refusals.Refusal) → duration_of sps s.seconds s.nanoseconds ≡ Err q → values_of sps s ≡ Err q

@@ -40,7 +40,7 @@ zero_f = fin false 0 (pos 0)
 abbrev pub Held : Float → Type 0
 Held x = T (fits binary64 x)
 
--- distribution 0 (SPECIFICATION 4.2): the value at most 4,000,000 in size, max from 0 to 4,000,000, sigma finite and not negative
+-- distribution 0 (SPECIFICATION 4.2): the value at most the limit in size, max from 0 to the limit, sigma finite and not negative
 abbrev pub OffsetInRange : ℕ → Offset.CarrierOffset → Type 0
 OffsetInRange sps (Offset.TheVariants.Constant x) = Held x × T (within x (offset_limit sps))
 OffsetInRange sps (Offset.TheVariants.ClampedNormal sigma max) = Held sigma × Held max × T (finite_not_negative sigma) × T (up_to max (offset_limit sps))

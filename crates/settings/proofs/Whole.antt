@@ -1,4 +1,4 @@
--- Whole settings: where there are 123 bytes, each number is the one that its bytes stand for, and no 0 past the end is read (`whole`).
+-- Whole settings: where there are 124 bytes, each number is the one that its bytes stand for, and no 0 past the end is read (`whole`).
 use Prim.Native.Nat.{ℕ, ◌+◌, ◌≤◌}
 use mathlib.Core.Path.{◌≡◌, ap}
 use mathlib.Core.List.{List}
@@ -50,7 +50,7 @@ asked_there : (s : List ℕ) (at : ℕ) → at + 17 ≤ length s → raw_distrib
 unfolding raw_distribution_at
 asked_there s at h = λ i. record { kind = get_or s at 0; first = float_there s (at + 1) (omega arith) i; second = float_there s (at + 9) (omega arith) i }
 
--- the settings read from 123 bytes or more, with nothing read past their end
+-- the settings read from 124 bytes or more, with nothing read past their end
 abbrev pub whole_settings : List ℕ → Settings
 whole_settings s = record {
   seconds = le_at 8 s 0;

@@ -1,5 +1,7 @@
--- Refusals 1 to 4 and 14 of settings, in that order (SPECIFICATION 3.2), or what is accepted: the run's samples and its distributions.
-use Rattle.std.specs.Prelude.{Option, Some, None, Result, Ok, Err, ℕ, suc, Bool, ◌&&◌, cond, List, [], ◌∷◌, Float}
+-- Refusals 15, 1 to 4 and 14 of settings, in that order (SPECIFICATION 3.2), or what is accepted: the run's samples and its distributions.
+use Rattle.std.specs.Prelude.{Option, Some, None, Result, Ok, Err, ℕ, suc, Bool, ◌&&◌, cond, eqb, List, [], ◌∷◌, length, get_or, Float}
+use Rattle.constants.specs.declared.SamplesPerPulse.{SamplesPerPulse}
+use Rattle.constants.specs.declared.SamplesPerPulse.TheVariants.{Four, Eight}
 use Rattle.settings.specs.declared.Distributions.{Distributions}
 use Rattle.std.specs.Float.{binary32, binary64}
 use Rattle.std.specs.Float.Ieee.{of_bits, add, lt, le}
@@ -11,7 +13,20 @@ use Rattle.distributions.specs.declared.ClockError.{ClockError}
 use Rattle.settings_duration.specs.Duration.{duration_of}
 use Rattle.refusals.specs.declared.Refusal as Refusal
 use Rattle.settings.specs.declared.Settings.{Settings}
-use Rattle.settings.specs.Settings.{rates_of}
+use Rattle.settings.specs.Settings.{settings_length, rates_of}
+
+-- the samples per pulse that a byte says; another value than 4 and 8 is refusal 15
+unfoldable pub setting_by : ℕ → Result SamplesPerPulse Refusal.Refusal
+setting_by n = cond (eqb n 4) (Ok Four) (cond (eqb n 8) (Ok Eight) (Err Refusal.TheVariants.SamplesPerPulse))
+
+-- those of settings, their last byte: all other numbers are read by it, so that it comes before every other refusal but 9 for settings of another length, which have no such byte (docs/DECISIONS.md)
+unfoldable pub setting_at : List ℕ → Result SamplesPerPulse Refusal.Refusal
+setting_at s = cond (eqb (length s) settings_length) (setting_by (get_or s 123 0)) (Err Refusal.TheVariants.Length)
+
+-- what follows at the samples per pulse of settings, where they have any
+unfoldable pub at_setting : {X : Type 0} → (SamplesPerPulse → Result X Refusal.Refusal) → Result SamplesPerPulse Refusal.Refusal → Result X Refusal.Refusal
+at_setting next (Ok setting) = next setting
+at_setting next (Err q) = Err q
 
 -- the first rate that is negative or not finite, the rates counted from k
 unfoldable pub first_bad_rate : ℕ → List Float → Option ℕ

@@ -1,4 +1,4 @@
--- Settings, read from their 123 bytes (SPECIFICATION 4.1).
+-- Settings, read from their 124 bytes (SPECIFICATION 4.1): all but the samples per pulse, which `setting_at` of Accepted has.
 use Rattle.std.specs.Prelude.{ℕ, ◌+◌, List, [], ◌∷◌, get_or, Float}
 use Rattle.std.specs.Float.{binary32, binary64}
 use Rattle.std.specs.Float.Ieee.{of_bits}
@@ -10,7 +10,7 @@ use Rattle.settings.specs.declared.Settings.{Settings}
 
 -- the bytes of settings
 abbrev pub settings_length : ℕ
-settings_length = 123
+settings_length = 124
 
 unfoldable pub rates_at : List ℕ → ℕ → MessagesPerSecond
 rates_at s at = record {
@@ -26,7 +26,7 @@ rates_at s at = record {
 unfoldable pub raw_distribution_at : List ℕ → ℕ → RawDistribution
 raw_distribution_at s at = record { kind = get_or s at 0; first = f64_at s (at + 1); second = f64_at s (at + 9) }
 
--- the settings at the start of bytes, of which there are 123 or more (fewer are refused before they are read)
+-- the settings at the start of bytes, of which there are 124 or more (fewer are refused before they are read)
 unfoldable pub settings_of : List ℕ → Settings
 settings_of s = record {
   seconds = number_at 8 s 0;

@@ -1,17 +1,17 @@
-// A run's settings: their 123 bytes, the rate of a type, and refusals 1 to 4 and 14. Each function is equal to a definition of specs/ on every input.
+// A run's settings: their 124 bytes, the rate of a type, and refusals 15, 1 to 4 and 14. Each function is equal to a definition of specs/ on every input.
 #![tactic(auto)]
 
 ghost use Rattle.std.specs.Prelude.{◌≡◌, ◌≤◌};
 ghost use Rattle.settings.specs.Settings.{settings_length, rates_at, raw_distribution_at, settings_of, rate_of, rates_of};
-ghost use Rattle.constants.specs.Rate.{four};
-ghost use Rattle.settings.specs.Accepted.{first_bad_rate, total_of, total_fits, distributions_of, rates_then, values_of, level_in_range, accepted_of};
+ghost use Rattle.constants.specs.Setting.{per_pulse};
+ghost use Rattle.settings.specs.Accepted.{setting_at, first_bad_rate, total_of, total_fits, distributions_of, rates_then, values_of, level_in_range, accepted_of};
 
 use constants::SamplesPerPulse;
 use distributions::{CarrierOffset, CarrierPhase, ClockError, RawDistribution};
 use refusals::Refusal;
 
 // Bytes of settings.
-pub const SETTINGS_LEN: usize = 123;
+pub const SETTINGS_LEN: usize = 124;
 
 // The least and the greatest trigger level: the nearest f32 of 0.1 and of 0.9.
 const LEAST_LEVEL: f32 = 0.1;
@@ -92,6 +92,24 @@ pub fn read(s: &[u8]) -> Settings
     }
 }
 
+// Where the samples per pulse stand, in the last byte of settings.
+const SETTING_OFFSET: usize = 123;
+
+// The samples per pulse of settings, or refusal 9 for their length, or 15 for another value.
+#[tactic(auto, unfolding(crate::specs::Accepted::setting_at, crate::specs::Accepted::setting_by))]
+pub fn samples_per_pulse(s: &[u8]) -> Result<SamplesPerPulse, Refusal>
+    ensures { result ≡ setting_at s.now }
+{
+    if s.len() != SETTINGS_LEN {
+        return Err(Refusal::Length);
+    }
+    match le_read_or_zero::byte_at(s, SETTING_OFFSET) {
+        4 => Ok(SamplesPerPulse::Four),
+        8 => Ok(SamplesPerPulse::Eight),
+        _ => Err(Refusal::SamplesPerPulse),
+    }
+}
+
 // The rate of the type with a number; 0.0 for a number that no type has.
 #[tactic(auto, unfolding(crate::specs::Settings::rate_of, crate::specs::Settings::rates_of))]
 pub fn rate_of(r: MessagesPerSecond, n: u64) -> f64
@@ -143,10 +161,14 @@ fn total_fits(total: f64) -> bool
 
 // Refusal 4, or the run's samples and its distributions.
 #[tactic(auto, unfolding(crate::specs::Accepted::distributions_of, crate::specs::Accepted::with_offset, crate::specs::Accepted::with_phase, crate::specs::Accepted::with_clock))]
-fn check_distributions(n: u64, s: Settings) -> Result<(u64, Distributions), Refusal>
-    ensures { result ≡ distributions_of four n s }
+fn check_distributions(
+    setting: SamplesPerPulse,
+    n: u64,
+    s: Settings,
+) -> Result<(u64, Distributions), Refusal>
+    ensures { result ≡ distributions_of (per_pulse setting) n s }
 {
-    let carrier = distributions::carrier_offset(s.carrier)?;
+    let carrier = distributions::carrier_offset(setting, s.carrier)?;
     let phase = distributions::carrier_phase(s.phase)?;
     let clock = distributions::clock_error(s.clock)?;
     let all = Distributions {
@@ -159,8 +181,12 @@ fn check_distributions(n: u64, s: Settings) -> Result<(u64, Distributions), Refu
 
 // Refusals 2 and 3, then 4.
 #[tactic(auto, unfolding(crate::specs::Accepted::rates_then, crate::specs::Accepted::total_then))]
-fn check_rates(n: u64, s: Settings) -> Result<(u64, Distributions), Refusal>
-    ensures { result ≡ rates_then four n s }
+fn check_rates(
+    setting: SamplesPerPulse,
+    n: u64,
+    s: Settings,
+) -> Result<(u64, Distributions), Refusal>
+    ensures { result ≡ rates_then (per_pulse setting) n s }
 {
     if let Some(k) = first_bad_rate(s.rates) {
         return Err(Refusal::Rate(k));
@@ -168,20 +194,16 @@ fn check_rates(n: u64, s: Settings) -> Result<(u64, Distributions), Refusal>
     if !total_fits(total_of(s.rates)) {
         return Err(Refusal::Total);
     }
-    check_distributions(n, s)
+    check_distributions(setting, n, s)
 }
 
 // Refusals 1 to 4, in that order, or the run's samples and its distributions.
 #[tactic(auto, unfolding(crate::specs::Accepted::values_of, crate::specs::Accepted::duration_then))]
-fn check_values(s: Settings) -> Result<(u64, Distributions), Refusal>
-    ensures { result ≡ values_of four s }
+fn check_values(setting: SamplesPerPulse, s: Settings) -> Result<(u64, Distributions), Refusal>
+    ensures { result ≡ values_of (per_pulse setting) s }
 {
-    let n = settings_duration::duration_as_samples(
-        SamplesPerPulse::Four,
-        s.seconds,
-        s.nanoseconds,
-    )?;
-    check_rates(n, s)
+    let n = settings_duration::duration_as_samples(setting, s.seconds, s.nanoseconds)?;
+    check_rates(setting, n, s)
 }
 
 #[tactic(auto, unfolding(crate::specs::Accepted::level_in_range))]
@@ -193,10 +215,10 @@ fn level_in_range(level: f32) -> bool
 
 // Refusals 1 to 4 and 14, in that order, or the run's samples and its distributions.
 #[tactic(auto, unfolding(crate::specs::Accepted::accepted_of, crate::specs::Accepted::level_then))]
-pub fn check(s: Settings) -> Result<(u64, Distributions), Refusal>
-    ensures { result ≡ accepted_of four s }
+pub fn check(setting: SamplesPerPulse, s: Settings) -> Result<(u64, Distributions), Refusal>
+    ensures { result ≡ accepted_of (per_pulse setting) s }
 {
-    let accepted = check_values(s)?;
+    let accepted = check_values(setting, s)?;
     if !level_in_range(s.trigger_level) {
         return Err(Refusal::TriggerLevel);
     }

@@ -4,7 +4,7 @@ use Rattle.refusals.specs.declared.Refusal.{Refusal}
 use Rattle.refusals.specs.declared.Refusal.TheVariants.{Duration}
 use Rattle.constants.specs.Rate.{sample_rate}
 
--- seconds times 8,000,000 plus nanoseconds / 125 rounded down, at 4 samples per pulse of 500 ns
+-- seconds times 8,000,000 plus nanoseconds / 125 rounded down at 4 samples per pulse of 500 ns; at 8, seconds times 16,000,000 plus 2 * nanoseconds / 125, the quotient rounded down once
 abbrev pub samples_of : ℕ → ℕ → ℕ → ℕ
 samples_of sps seconds nanoseconds = seconds * sample_rate sps + nanoseconds * sps / 500
 

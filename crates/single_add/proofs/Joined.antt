@@ -11,12 +11,12 @@ use borrow.Rule.Slice.PartMut.{put_mid}
 use lib.ListN.{length, take, drop, length-drop, length-replicate}
 use lib.Seq.{length-take-le, drop-drop}
 use lib.Ieee.{Float}
-use Rattle.constants.specs.Rate.{working_memory}
+use Rattle.constants.specs.Rate.{working_memory, ring_slots}
 use Rattle.run_theory.specs.FloatGenerator.{nought}
 use Rattle.run_theory.specs.Zeros.{zeros}
 use Rattle.run_call_model.specs.Buffers.{overwritten}
 use Rattle.reply_samples.specs.declared.Sample.{Sample}
-use Rattle.reply_samples.specs.RingModel.{ring_slots, added_reply}
+use Rattle.reply_samples.specs.RingModel.{added_reply}
 use Rattle.single_add.specs.Stretch.{first_reached, passed_over}
 use Rattle.single_add.specs.StretchModel.{memory_with, windowed, added_window}
 

@@ -11,13 +11,13 @@ use lib.IntN.{ℤ}
 use lib.ListN.{length, get_or, set, take, drop, length-drop, length-append, length-replicate, take-append-drop}
 use lib.Seq.{take_all, take-append_seam, drop-append_seam, length-take-le, take-nil, drop-nil, drop-drop, get_or-append-add, set-append_seam, get_or-append_seam, append_snoc, drop-length}
 use lib.Ieee.{Float, nan, binary32, add}
-use Rattle.constants.specs.Rate.{working_memory}
+use Rattle.constants.specs.Rate.{working_memory, ring_slots}
 use Rattle.filterbank.proofs.Padded.{le_or_lt}
 use Rattle.run_theory.specs.FloatGenerator.{nought}
 use Rattle.run_theory.specs.Zeros.{zeros}
 use Rattle.run_call_model.proofs.FlatLists.{length_overwritten}
 use Rattle.reply_samples.specs.declared.Sample.{Sample}
-use Rattle.reply_samples.specs.RingModel.{ring_slots, added_at, next_slot, added_from, added_reply}
+use Rattle.reply_samples.specs.RingModel.{added_at, next_slot, added_from, added_reply}
 use Rattle.reply_samples.proofs.LoopSteps.{next_on, added_here}
 use Rattle.single_add.specs.Stretch.{laid, numbers_of, added_to, first_reached, passed_over, with_reply}
 use Rattle.single_add.specs.StretchModel.{memory_with, windowed, added_window, stretch_of}

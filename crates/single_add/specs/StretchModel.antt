@@ -1,10 +1,10 @@
 -- A model of code: the part of the samples that a reply reaches goes to working memory, the reply is added there from slot 0 on, and the part comes back. `with_reply` says the same without memory. `sps` is the samples per pulse.
 use Rattle.std.specs.Prelude.{ℕ, ◌-◌, ◌*◌, ◌/◌, min, cond, ◌&&◌, List, eqb, leb, ltb, ℤ, length, take, drop, Float}
-use Rattle.constants.specs.Rate.{working_memory}
+use Rattle.constants.specs.Rate.{working_memory, ring_slots}
 use Rattle.run_theory.specs.Zeros.{zeros}
 use Rattle.run_call_model.specs.Buffers.{overwritten}
 use Rattle.reply_samples.specs.declared.Sample.{Sample}
-use Rattle.reply_samples.specs.RingModel.{ring_slots, added_reply}
+use Rattle.reply_samples.specs.RingModel.{added_reply}
 use Rattle.single_add.specs.Stretch.{laid, first_reached, passed_over}
 
 -- the numbers that both the output, from an offset on, and working memory, past others, hold

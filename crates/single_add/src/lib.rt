@@ -10,11 +10,8 @@ ghost use Rattle.run_theory.specs.Zeros.{zeros};
 ghost use Rattle.single_add.specs.Stretch.{laid, first_reached, passed_over};
 ghost use Rattle.single_add.specs.StretchModel.{windowed, added_window, stretch_of};
 
-use constants::NOISE_SCALE;
+use constants::{MAX_MEMORY_LEN, NOISE_SCALE};
 use reply_add::ReplySignal;
-
-// Working memory at 8 samples per pulse, in f32. At 4 a part of it is used.
-const MOST_MEMORY: usize = 4502;
 
 // Writes noise over the output, scaled.
 #[tactic(auto, unfolding(crate::specs::Stretch::laid))]
@@ -32,7 +29,8 @@ fn add_window(r: ReplySignal, output: &mut [f32], at: usize, past: usize)
     requires { (at ≤ length output.old) × (past ≤ working_memory (per_pulse r.setting)) }
     ensures { output.new ≡ windowed (per_pulse r.entry.setting) at past (samples_of r.entry) output.old }
 {
-    let mut whole = [0.0; MOST_MEMORY];
+    // at 4 samples per pulse a part of it is used
+    let mut whole = [0.0; MAX_MEMORY_LEN];
     let memory = &mut whole[..r.setting.memory_len()];
     let len = (output.len() - at).min(memory.len() - past);
     memory[past..past + len].copy_from_slice(&output[at..at + len]);

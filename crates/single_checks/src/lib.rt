@@ -1,15 +1,14 @@
-// The checks of one reply alone: refusals 9, 1 and 12, then what opening refuses, then 7 and 8.
+// The checks of one reply alone, but for those of opening: refusals 9, 1 and 12 come before them, 7 and 8 after.
 #![tactic(auto)]
 
 ghost use Rattle.std.specs.Prelude.{◌≡◌, not, ◌*◌, eqb};
 ghost use Rattle.constants.specs.Setting.{per_pulse};
 ghost use Rattle.settings_duration.specs.Duration.{samples_of};
-ghost use Rattle.single_theory.specs.Single.{wrong_lengths, wrong_stretch, checked_of};
+ghost use Rattle.single_theory.specs.Single.{wrong_lengths, wrong_stretch, lengths_checked, values_checked};
 
 use constants::{DRAW_LEN, SamplesPerPulse};
 use refusals::Refusal;
 use run_call::State;
-use settings::SETTINGS_LEN;
 
 // A pulse, in nanoseconds.
 const PULSE_NANOSECONDS: u64 = 500;
@@ -26,7 +25,7 @@ fn has_samples(setting: SamplesPerPulse, seconds: u64, nanoseconds: u32) -> bool
 fn lengths_wrong(setting: SamplesPerPulse, settings: &[u8], draw: usize, output: usize) -> bool
     ensures { result ≡ wrong_lengths (per_pulse setting) settings.now draw output }
 {
-    if settings.len() != SETTINGS_LEN || draw != DRAW_LEN || output % 2 != 0 {
+    if draw != DRAW_LEN || output % 2 != 0 {
         return true;
     }
     let s = settings::read(settings);
@@ -48,32 +47,38 @@ fn stretch_wrong(n: u64, output: usize, noise: usize) -> bool
     !is_twice(output, n) || !is_twice(noise, n)
 }
 
-// All checks in their order, given what opening answers and the length of the output.
-#[tactic(auto, unfolding(single_theory::specs::Single::checked_of, single_theory::specs::Single::duration_then, single_theory::specs::Single::opened_then, single_theory::specs::Single::draw_then, single_theory::specs::Single::noise_then, run_call_checks::specs::NoiseModel::noise_fault_read, run_call::specs::Given::refusal_given))]
-pub fn check(
+// Refusals 9, 1 and 12, of a draw, noise and an output of these lengths.
+#[tactic(auto, unfolding(single_theory::specs::Single::lengths_checked, single_theory::specs::Single::stretch_then))]
+pub fn check_lengths(
     setting: SamplesPerPulse,
     settings: &[u8],
+    draw: usize,
+    noise: usize,
     output: usize,
-    draw: &[u8],
-    noise: &[f32],
-    opened: Result<State, Refusal>,
-) -> Result<State, Refusal>
-    ensures { result ≡ checked_of (per_pulse setting) settings.now output draw.now noise.now opened }
+) -> Result<(), Refusal>
+    ensures { result ≡ lengths_checked (per_pulse setting) settings.now draw noise output }
 {
-    if lengths_wrong(setting, settings, draw.len(), output) {
+    if lengths_wrong(setting, settings, draw, output) {
         return Err(Refusal::Length);
     }
     let s = settings::read(settings);
     let n = settings_duration::duration_as_samples(setting, s.seconds, s.nanoseconds)?;
-    if stretch_wrong(n, output, noise.len()) {
+    if stretch_wrong(n, output, noise) {
         return Err(Refusal::StretchLength);
     }
-    let state = opened?;
+    Ok(())
+}
+
+// Refusals 7 and 8, of a run's draw and noise.
+#[tactic(auto, unfolding(single_theory::specs::Single::values_checked, single_theory::specs::Single::draw_then, refusals::specs::Answer::unless, run_call_checks::specs::NoiseModel::noise_fault_read, run_call::specs::Given::refusal_given))]
+pub fn check_values(state: State, draw: &[u8], noise: &[f32]) -> Result<(), Refusal>
+    ensures { result ≡ values_checked state draw.now noise.now }
+{
     if let Some((k, field)) = draw_fields::first_fault(draw, state.rates, state.distributions) {
         return Err(Refusal::Draw(k, field));
     }
     if let Some(index) = run_call_checks::check_noise(noise) {
         return Err(Refusal::Noise(index));
     }
-    Ok(state)
+    Ok(())
 }

@@ -6,12 +6,10 @@ ghost use Rattle.single_theory.specs.Single.{single_run, single_output};
 ghost use Rattle.single_run.specs.Answer.{answer_of};
 ghost use Rattle.single_run.specs.MakeModel.{made_by};
 
-use constants::SamplesPerPulse;
 use pulse_shape::Filters;
 use refusals::Refusal;
 use reply_add::ReplySignal;
 use run_call::State;
-use run_open_checks::Lengths;
 
 // Writes the samples of the reply of the draw at the start of the bytes, its gap being its time.
 // The draw, the noise and the output are passed apart, as C lends them, for the reason given beside `run_call::step`.
@@ -22,7 +20,7 @@ fn make(state: State, prototypes: Filters, draw: &[u8], noise: &[f32], output: &
     let kind = draw::byte_at(draw, 8);
     let amplitude = le_read_or_zero::number::<f32>(draw, 17);
     let r = ReplySignal {
-        setting: SamplesPerPulse::Four,
+        setting: state.setting,
         prototypes,
         delays: state.delays,
         config: draw_config::completed(pending, kind, draw_fields::picks(draw)),
@@ -32,6 +30,7 @@ fn make(state: State, prototypes: Filters, draw: &[u8], noise: &[f32], output: &
 }
 
 // One reply alone (SPECIFICATION 14). The prototypes are the function's own.
+#[tactic(auto, unfolding(single_theory::specs::Single::single_run, single_theory::specs::Single::single_at, single_theory::specs::Single::after, single_theory::specs::Single::opened_then, single_theory::specs::Single::single_output, single_theory::specs::Single::left_in, settings::specs::Accepted::at_setting, run_open_checks::specs::Opening::with_prototypes, run_open_checks::specs::Opening::prepared_read, crate::specs::Answer::answer_of))]
 pub fn single(
     settings: &[u8],
     taps: Filters,
@@ -41,9 +40,10 @@ pub fn single(
 ) -> Result<(), Refusal>
     ensures { (result ≡ answer_of (single_run settings.now taps.entry.mode_s.now taps.entry.mode_ac.now draw.now noise.now (length output.old))) × (output.new ≡ single_output settings.now taps.entry.mode_s.now taps.entry.mode_ac.now draw.now noise.now output.old) }
 {
-    let p = run_open_checks::prepare(settings, taps, Lengths::WHOLE);
-    let setting = SamplesPerPulse::Four;
-    let state = single_checks::check(setting, settings, output.len(), draw, noise, p.opened)?;
-    make(state, p.prototypes(), draw, noise, output);
+    let setting = settings::samples_per_pulse(settings)?;
+    single_checks::check_lengths(setting, settings, draw.len(), noise.len(), output.len())?;
+    let p = run_open_checks::prepare_at(setting, settings, taps)?;
+    single_checks::check_values(p.state, draw, noise)?;
+    make(p.state, p.prototypes(), draw, noise, output);
     Ok(())
 }

@@ -2,7 +2,7 @@
 use mathlib.Core.Path.{◌≡◌, refl, sym, ap, ◌∙◌, subst}
 use mathlib.Core.Logic.{inl, inr}
 use Prim.Native.Nat.{ℕ, zero, suc, ◌+◌, ◌-◌, ◌*◌, ◌/◌, ◌^◌, ◌≤◌, ◌<◌, min}
-use native.Mathlib.Nat.{le_trans, le_of_eq, lt_of_le_of_lt, one-mul, zero-mul, mul-one, zero-div, mul-le-mul, mul-le-mul_right, mul_right_comm, sub-le, div-mul-le_self, lt-div-mul-add, div-lt_iff_lt-mul, suc-mul}
+use native.Mathlib.Nat.{le_trans, lt_of_le_of_lt, zero-mul, mul-one, zero-div, mul-le-mul, mul-le-mul_right, mul_right_comm, sub-le, div-mul-le_self, lt-div-mul-add, div-lt_iff_lt-mul, suc-mul}
 use native.Mathlib.Omega.{arith}
 use mathlib.Core.Bool.{Bool, true, false, false≢true, true≢false}
 use lib.IntN.{ℤ, pos, negsuc, neg_ℤ}
@@ -13,12 +13,12 @@ use lib.Ieee.Back.{round_whole}
 use lib.Ieee.Exact.{HasValue}
 use lib.Ieee.Fits.{mul-fits, down_pos}
 use lib.Ieee.Nearest.{div_same}
-use lib.Ieee.Scale.{overflow, finite}
+use lib.Ieee.Scale.{finite}
 use Rattle.constants.specs.declared.SamplesPerPulse.{SamplesPerPulse}
 use Rattle.constants.specs.Setting.{per_pulse}
 use Rattle.constants.proofs.Settings.{rate_three, rate_few}
 use Rattle.float_rounding.proofs.Units.{G, G-le, Units}
-use Rattle.float_rounding.proofs.More.{sub_all, mul_all, nonneg, sub_is}
+use Rattle.float_rounding.proofs.More.{sub_all, nonneg, sub_is}
 use Rattle.float_rounding.proofs.Val.{Val, val_units, neg_val}
 use Rattle.float_rounding.proofs.Size.{Within, units_within, le_or_lt}
 use Rattle.float_narrow.specs.Ceil.{ceil_signed}
@@ -30,7 +30,8 @@ use Rattle.message_config.specs.Config.{config_start, config_clock_error, config
 use Rattle.filterbank.proofs.ClockSteps.{tenth}
 use Rattle.filterbank.proofs.EndsByItself.{InRange}
 use Rattle.message_config.proofs.InRange.{TimeInRange, DelaysInRange, ErrorInRange, delay_of_lem, tenth_units, within_tenth, filter_fits}
-use Rattle.message_config.proofs.Starts.{Counted, counted, one_plus, eleven_tenths, clocked_delay, held_few, without_half, later, sooner}
+use Rattle.message_config.proofs.FirstClock.{ToOne, to_one, product, phase_is}
+use Rattle.message_config.proofs.Starts.{Counted, counted, eleven_tenths, clocked_delay, held_few, without_half, later, sooner}
 use Rattle.single_theory.proofs.Sums.{plus_comm}
 
 abbrev is_pos : ℤ → Bool
@@ -94,14 +95,6 @@ turned : (x y : Float) → sub binary64 (neg y) (neg x) ≡ sub binary64 x y
 turned x y = sub_is (neg y) (neg x) ∙ ap (λ (z : Float). add binary64 (neg y) z) (neg_neg x) ∙ plus_comm binary64 (neg y) x ∙ sym (sub_is x y)
 
 -- ---- the first sample less the unrounded start: from 0 to 1
-abbrev ToOne : Float → Type 0
-ToOne x = (g : ℕ) × Units x g × (g ≤ 1 * 2 ^ 1074)
-
-to_one : (x : Float) (a : ℕ) → a ≤ 2 ^ 1074 → (G a (2 ^ 1074) < overflow binary64 → Units x (G a (2 ^ 1074))) → ToOne x
-to_one x a h u =
-    let m : G a (2 ^ 1074) ≤ 1 * 2 ^ 1074 = G-le a (2 ^ 1074) 1 1074 (pow_pos 1074) (lit< tt) (mul-le-mul_right (2 ^ 1074) (le_trans h (le_of_eq (sym (one-mul (2 ^ 1074)))))) in
-    (G a (2 ^ 1074), u (lt_of_le_of_lt m (lit< {m = 1 * 2 ^ 1074} {n = overflow binary64} tt)), m)
-
 past_start : (t d : Float) (C : Counted t) (k H j : ℕ) → Units d k → H ≤ 2 ^ 40 → k ≤ H * 2 ^ 1074 → ceil_signed 63 (sub binary64 t d) ≡ negsuc j → ToOne (sub binary64 (of_int binary64 (negsuc j)) (sub binary64 t d))
 past_start t d C k H j D few K e = elim (le_or_lt k C.count) [
   | inl h ↦ absurd (not_negative x (G (C.count - k) (2 ^ 1074)) j (later t d C k D h) e)
@@ -144,19 +137,6 @@ past_start t d C k H j D few K e = elim (le_or_lt k C.count) [
 
     rest : (g a u : ℕ) → g < a + u → g - a ≤ u
     rest g a u h = omega arith
-
--- ---- times 1 + the filter's clock error
-product : (x f : Float) → ToOne x → Within f tenth_units → (p : ℕ) × Units (mul binary64 x (add binary64 one f)) p × (p ≤ eleven_tenths)
-product x f o w =
-    let c = one_plus f w in
-    let a = o.0 * c.0 in
-    let b = 2 ^ 1074 * 2 ^ 1074 in
-    let m : G a b ≤ eleven_tenths = G-le a b 2476979795053773 1023 (pow_pos 2148) (lit< tt) (mul-le-mul_right (2 ^ 1074) (mul-le-mul o.2 c.3)) in
-    (G a b, mul_all x (add binary64 one f) o.0 c.0 o.1 c.1 (lt_of_le_of_lt m (lit< {m = eleven_tenths} {n = overflow binary64} tt)), m)
-
-phase_is : (t d e f : Float) (z : ℤ) → start_of t d e ≡ z → clock_phase t d e f ≡ mul binary64 (sub binary64 (of_int binary64 z) (unrounded_start t d e)) (add binary64 one f)
-unfolding clock_phase
-phase_is t d e f z h = ap (λ (y : ℤ). mul binary64 (sub binary64 (of_int binary64 y) (unrounded_start t d e)) (add binary64 one f)) h
 
 phase_fits : (t d e f : Float) → T (fits binary64 (clock_phase t d e f))
 unfolding clock_phase

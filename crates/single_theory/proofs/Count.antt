@@ -10,12 +10,12 @@ use mathlib.Core.Logic.{◌⊎◌, inl, inr, ◌≢◌}
 use borrow.Author.Tests.{eqb-true, ltb-false}
 use lib.Dec.{T, eqb, ltb, leb, lit<}
 use lib.IntN.{ℤ, pos, negsuc}
-use lib.ListN.{length, length-replicate}
+use lib.ListN.{length}
 use lib.Ieee.{Float, binary64, fits}
 use Rattle.constants.specs.declared.SamplesPerPulse.{SamplesPerPulse}
 use Rattle.constants.specs.declared.SamplesPerPulse.TheVariants.{Four, Eight}
 use Rattle.constants.specs.Setting.{per_pulse}
-use Rattle.constants.specs.Rate.{four, prototype_length, reply_limit, hold_back, working_memory}
+use Rattle.constants.specs.Rate.{reply_limit, hold_back, ring_slots}
 use Rattle.float_rounding.proofs.Size.{le_or_lt}
 use Rattle.pulse_shape.specs.Prototype.{mode_s_prototype, mode_ac_prototype}
 use Rattle.refusals.specs.declared.Refusal.{Refusal}
@@ -27,33 +27,30 @@ use Rattle.message_config.proofs.FirstClock.{first_clock_of}
 use Rattle.settings.specs.declared.Distributions.{Distributions}
 use Rattle.settings.specs.declared.MessagesPerSecond.{MessagesPerSecond}
 use Rattle.settings.specs.Settings.{settings_of}
+use Rattle.settings.specs.Accepted.{setting_at}
 use Rattle.settings_duration.specs.Duration.{samples_of, duration_of}
-use Rattle.draw.specs.Draw.{draw_at}
+use Rattle.draw.specs.Draw.{draw_length, draw_at}
 use Rattle.draw.specs.Fault.{draw_fault, fault_at, fault_from, first_fault}
 use Rattle.draw.specs.Config.{time_after, config_with, config_of}
 use Rattle.draw.proofs.Bytes.{read_held}
 use Rattle.draw.proofs.InRange.{in_range}
 use Rattle.reply_samples.specs.declared.Sample.{Sample}
 use Rattle.reply_samples.specs.Samples.{reply_samples}
-use Rattle.reply_samples.specs.RingModel.{ring_slots}
 use Rattle.reply_samples.proofs.Counts.{ClockInRange, samples_counted, count_most}
 use Rattle.run_theory.specs.FloatGenerator.{nought}
-use Rattle.run_theory.specs.PlainBench as Bench
-use Rattle.run_theory.specs.Zeros.{zeros}
 use Rattle.run_theory.proofs.Times.{good_on}
 use Rattle.run_generator.specs.Instance.{Filters, RepresentableDraw, pulse_samples}
 use Rattle.run_generator.proofs.DrawInRange.{gap_of, message_error}
 use Rattle.run_generator.proofs.FiltersInRange.{FiltersInRange}
 use Rattle.run_generator.proofs.InstanceDrawLaws.{time_in_range}
-use Rattle.run_call_checks.specs.NoiseModel.{out_of_range_from}
 use Rattle.run_call.specs.declared.State.{State}
 use Rattle.run_call.specs.StateGenerator.{filters_of}
-use Rattle.run_open_checks.specs.Opening.{OpenBuffers, opened_for, opened_of}
-use Rattle.run_open_checks.proofs.WhatIsOpened.{opened_run_in_range}
+use Rattle.run_open_checks.specs.Opening.{opened_at}
+use Rattle.run_open_checks.proofs.AtSetting.{opened_at_in_range}
 use Rattle.single_add.specs.Stretch.{first_reached}
 use Rattle.single_add.specs.StretchModel.{stretch_of}
 use Rattle.single_add.proofs.Window.{stretch_is, stretch_past}
-use Rattle.single_theory.specs.Single.{single_samples, samples_asked, wrong_lengths, wrong_stretch, noise_then, draw_then, opened_then, duration_then, checked_of, single_run, left_in}
+use Rattle.single_theory.specs.Single.{single_samples, samples_asked, wrong_lengths, wrong_stretch, stretch_then, lengths_checked, draw_then, values_checked}
 use Rattle.single_theory.proofs.BeforeZero.{before_zero}
 
 zero_fits : T (fits binary64 nought)
@@ -133,14 +130,12 @@ not_false : (a : Bool) → not a ≡ false → a ≡ true
 not_false true e = refl
 not_false false e = absurd (true≢false e)
 
-pub record Accepts (output : ℕ) (draw : List ℕ) (noise : List Float) (opened : Result State Refusal) (state : State) : Type 0 where
-  pub draw_length_lem : length draw ≡ 65
+pub record Lengths (draw noise output : ℕ) : Type 0 where
+  pub draw_is : draw ≡ draw_length
   pub n : ℕ
   pub most : n ≤ 2 ^ 52
   pub output_is : output ≡ 2 * n
-  pub noise_is : length noise ≡ 2 * n
-  pub opens : opened ≡ Ok state
-  pub in_range : first_fault state.rates state.distributions draw ≡ None
+  pub noise_is : noise ≡ 2 * n
 
 -- a duration that is accepted has at most 2^52 samples
 abbrev Short : Result ℕ Refusal → Type 0
@@ -156,56 +151,58 @@ short sps seconds nanoseconds = go (leb 1000000000 nanoseconds) (ltb (2 ^ 52) (s
     go false true q = tt
     go false false q = ltb-false (2 ^ 52) (samples_of sps seconds nanoseconds) q
 
-module _ (sps : ℕ) (settings : List ℕ) (output : ℕ) (draw : List ℕ) (noise : List Float) (opened : Result State Refusal) where
-  abbrev Told : Result State Refusal → Type 0
-  Told (Ok state) = Accepts output draw noise opened state
-  Told (Err q) = Unit {0}
-
-  draw_is : wrong_lengths sps settings (length draw) output ≡ false → length draw ≡ 65
+module _ (sps : ℕ) (settings : List ℕ) (draw noise output : ℕ) where
+  draw_is : wrong_lengths sps settings draw output ≡ false → draw ≡ draw_length
   unfolding wrong_lengths
   draw_is e =
-      let a = not (eqb (length settings) 123) in
-      let b = not (eqb (length draw) 65) in
-      let g = not (eqb (output % 2) 0) in
-      eqb-true (length draw) 65 (not_false (eqb (length draw) 65) (or_right a b (or_left (a || b) g (or_left (a || b || g) (eqb output 0 && not (eqb (samples_asked sps settings) 0)) e))))
+      let a = not (eqb draw draw_length) in
+      let b = not (eqb (output % 2) 0) in
+      eqb-true draw draw_length (not_false (eqb draw draw_length) (or_left a b (or_left (a || b) (eqb output 0 && not (eqb (samples_asked sps settings) 0)) e)))
 
-  stretch_is_n : (n : ℕ) → wrong_stretch n output (length noise) ≡ false → (output ≡ 2 * n) × (length noise ≡ 2 * n)
+  stretch_is_n : (n : ℕ) → wrong_stretch n output noise ≡ false → (output ≡ 2 * n) × (noise ≡ 2 * n)
   unfolding wrong_stretch
   stretch_is_n n e = (
-    eqb-true output (2 * n) (not_false (eqb output (2 * n)) (or_left (not (eqb output (2 * n))) (not (eqb (length noise) (2 * n))) e)),
-    eqb-true (length noise) (2 * n) (not_false (eqb (length noise) (2 * n)) (or_right (not (eqb output (2 * n))) (not (eqb (length noise) (2 * n))) e)),
+    eqb-true output (2 * n) (not_false (eqb output (2 * n)) (or_left (not (eqb output (2 * n))) (not (eqb noise (2 * n))) e)),
+    eqb-true noise (2 * n) (not_false (eqb noise (2 * n)) (or_right (not (eqb output (2 * n))) (not (eqb noise (2 * n))) e)),
   )
 
-  told : Told (checked_of sps settings output draw noise opened)
-  unfolding checked_of duration_then opened_then draw_then noise_then
-  told = go1 (wrong_lengths sps settings (length draw) output) refl
+  abbrev LengthsTold : Result (Unit {0}) Refusal → Type 0
+  LengthsTold (Ok u) = Lengths draw noise output
+  LengthsTold (Err q) = Unit {0}
+
+  lengths_told : LengthsTold (lengths_checked sps settings draw noise output)
+  unfolding lengths_checked stretch_then
+  lengths_told = go (wrong_lengths sps settings draw output) refl
     where
-      duration : Result ℕ Refusal
-      duration = duration_of sps (settings_of settings).seconds (settings_of settings).nanoseconds
+      stretch : draw ≡ draw_length → (n : ℕ) → n ≤ 2 ^ 52 → (b : Bool) → wrong_stretch n output noise ≡ b → LengthsTold (cond b (Err Refused.StretchLength) (Ok tt))
+      stretch l n m true w = tt
+      stretch l n m false w = let s = stretch_is_n n w in record { draw_is = l; n = n; most = m; output_is = s.0; noise_is = s.1 }
 
-      go5 : (n : ℕ) (state : State) → length draw ≡ 65 → n ≤ 2 ^ 52 → (output ≡ 2 * n) × (length noise ≡ 2 * n) → opened ≡ Ok state → (o : Option Bench.Refusal) → first_fault state.rates state.distributions draw ≡ None → Told (noise_then state o)
-      go5 n state l m s p None q = record { draw_length_lem = l; n = n; most = m; output_is = s.0; noise_is = s.1; opens = p; in_range = q }
-      go5 n state l m s p (Some r) q = tt
+      duration : draw ≡ draw_length → (d : Result ℕ Refusal) → Short d → LengthsTold (stretch_then noise output d)
+      duration l (Err q) m = tt
+      duration l (Ok n) m = stretch l n m (wrong_stretch n output noise) refl
 
-      go4 : (n : ℕ) (state : State) → length draw ≡ 65 → n ≤ 2 ^ 52 → (output ≡ 2 * n) × (length noise ≡ 2 * n) → opened ≡ Ok state → (x : (Option (ℕ × ℕ))) → first_fault state.rates state.distributions draw ≡ x → Told (draw_then state noise x)
-      go4 n state l m s p None q = go5 n state l m s p (out_of_range_from 0 noise) q
-      go4 n state l m s p (Some (k, field)) q = tt
+      go : (b : Bool) → wrong_lengths sps settings draw output ≡ b
+          → LengthsTold (cond b (Err Refused.Length) (stretch_then noise output (duration_of sps (settings_of settings).seconds (settings_of settings).nanoseconds)))
+      go true w = tt
+      go false w = duration (draw_is w) (duration_of sps (settings_of settings).seconds (settings_of settings).nanoseconds) (short sps (settings_of settings).seconds (settings_of settings).nanoseconds)
 
-      go3 : (n : ℕ) → length draw ≡ 65 → n ≤ 2 ^ 52 → (b : Bool) → wrong_stretch n output (length noise) ≡ b → (o : Result State Refusal) → opened ≡ o → Told (cond b (Err Refused.StretchLength) (opened_then draw noise o))
-      go3 n l m true w o p = tt
-      go3 n l m false w (Err r) p = tt
-      go3 n l m false w (Ok state) p = go4 n state l m (stretch_is_n n w) p (first_fault state.rates state.distributions draw) refl
+  -- the lengths of a draw, noise and an output that are accepted
+  pub lengths_are : lengths_checked sps settings draw noise output ≡ Ok tt → Lengths draw noise output
+  lengths_are e = subst LengthsTold e lengths_told
 
-      go2 : length draw ≡ 65 → (a : Result ℕ Refusal) → Short a → Told (duration_then output draw noise opened a)
-      go2 l (Err q) m = tt
-      go2 l (Ok n) m = go3 n l m (wrong_stretch n output (length noise)) refl opened refl
+abbrev Passed : Result (Unit {0}) Refusal → Type 0
+Passed (Ok u) = Unit {0}
+Passed (Err q) = ⊥
 
-      go1 : (b : Bool) → wrong_lengths sps settings (length draw) output ≡ b → Told (cond b (Err Refused.Length) (duration_then output draw noise opened duration))
-      go1 true w = tt
-      go1 false w = go2 (draw_is w) duration (short sps (settings_of settings).seconds (settings_of settings).nanoseconds)
-
-  pub accepted_says : (state : State) → checked_of sps settings output draw noise opened ≡ Ok state → Accepts output draw noise opened state
-  accepted_says state e = subst Told e told
+-- a draw that is accepted has no fault
+pub no_fault : (state : State) (draw : List ℕ) (noise : List Float) → values_checked state draw noise ≡ Ok tt → first_fault state.rates state.distributions draw ≡ None
+unfolding values_checked draw_then
+no_fault state draw noise = go (first_fault state.rates state.distributions draw)
+  where
+    go : (x : (Option (ℕ × ℕ))) → draw_then noise x ≡ Ok tt → x ≡ None
+    go None e = refl
+    go (Some (k, field)) e = absurd (subst Passed (sym e) tt)
 
 -- one draw without a fault
 one_fine : (rates : MessagesPerSecond) (all : Distributions) (s : List ℕ) → length s ≡ 65 → first_fault rates all s ≡ None → draw_fault rates all (draw_at s) ≡ None
@@ -216,20 +213,17 @@ one_fine rates all s l e = go (draw_fault rates all (draw_at s)) (sym (ap (λ (n
     go None q = refl
     go (Some k) q = let z : ◌≡◌ {A = ℕ} 0 1 = ap (λ (y : (Option (ℕ × ℕ))). elim y [ None ↦ 1 | Some (i, j) ↦ 0 ]) q in absurd (omega arith)
 
--- opening with buffers of their lengths
-buffers : OpenBuffers
-buffers = record { mode_s = zeros (prototype_length four); mode_ac = zeros (prototype_length four); memory = zeros (working_memory four) }
-
-opened_same : (taps_s taps_ac : List Float) (settings : List ℕ) → opened_of four taps_s taps_ac settings buffers ≡ opened_for four taps_s taps_ac settings (prototype_length four) (prototype_length four) (working_memory four)
-unfolding opened_of buffers
-opened_same taps_s taps_ac settings = (λ i. opened_for four taps_s taps_ac settings (length-replicate 1792 nought i) (length-replicate 1792 nought i) (length-replicate 2252 nought i))
-
 -- what the code makes, of a stretch that is accepted, is what is to be left
-pub accepted_is : (settings : List ℕ) (taps_s taps_ac : List Float) (draw : List ℕ) (noise output out : List Float) (state : State) → single_run settings taps_s taps_ac draw noise (length output) ≡ Ok state
-    → out ≡ stretch_of four (config_start state.delays (config_of state.distributions (time_after nought (draw_at draw)) (draw_at draw))) (reply_samples four (mode_s_prototype four taps_s) (mode_ac_prototype four taps_ac) state.delays (draw_at draw).amplitude (config_of state.distributions (time_after nought (draw_at draw)) (draw_at draw))) noise output
-    → out ≡ left_in settings taps_s taps_ac draw noise output (Ok state)
-unfolding single_run left_in
-accepted_is settings taps_s taps_ac draw noise output out state e p =
-    let A = accepted_says four settings (length output) draw noise (opened_for four taps_s taps_ac settings (prototype_length four) (prototype_length four) (working_memory four)) state e in
-    let R = opened_run_in_range taps_s taps_ac settings buffers state (opened_same taps_s taps_ac settings ∙ A.opens) in
-    p ∙ single_is (filters_of state (mode_s_prototype four taps_s) (mode_ac_prototype four taps_ac)) R.0 (record { draw = draw_at draw; held = read_held draw }) (one_fine state.rates state.distributions draw A.draw_length_lem A.in_range) A.n noise output A.most A.output_is A.noise_is
+module _ (settings : List ℕ) (taps_s taps_ac : List Float) (draw : List ℕ) (noise output : List Float) (z : SamplesPerPulse) (state : State) where
+  abbrev filters : Filters
+  filters = filters_of state (mode_s_prototype (per_pulse state.setting) taps_s) (mode_ac_prototype (per_pulse state.setting) taps_ac)
+
+  abbrev message : MessageConfig
+  message = config_of state.distributions (time_after nought (draw_at draw)) (draw_at draw)
+
+  pub accepted_is : setting_at settings ≡ Ok z → lengths_checked (per_pulse z) settings (length draw) (length noise) (length output) ≡ Ok tt → opened_at taps_s taps_ac settings z ≡ Ok state → values_checked state draw noise ≡ Ok tt
+      → stretch_of (per_pulse state.setting) (config_start state.delays message) (reply_samples (per_pulse state.setting) filters.mode_s filters.mode_ac state.delays (draw_at draw).amplitude message) noise output ≡ single_samples filters (draw_at draw) noise
+  accepted_is s l o v =
+      let L = lengths_are (per_pulse z) settings (length draw) (length noise) (length output) l in
+      let e = one_fine state.rates state.distributions draw L.draw_is (no_fault state draw noise v) in
+      single_is filters (opened_at_in_range taps_s taps_ac settings z state s o).0 (record { draw = draw_at draw; held = read_held draw }) e L.n noise output L.most L.output_is L.noise_is

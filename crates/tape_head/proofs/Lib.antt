@@ -1,3 +1,4 @@
 pub mod Sections
+pub mod Setting
 pub mod Within
 pub mod Prefix

@@ -1,144 +1,200 @@
 -- How the parts of a tape's beginning join.
 use Rattle.std.specs.Prelude.{Option, Some, None, Result, Ok, Err, is_ok}
 use Prim.Native.Nat.{ℕ, ◌+◌, ◌-◌, ◌*◌, ◌/◌, ◌≤◌, min}
-use mathlib.Core.Path.{◌≡◌, refl, sym, ap, ◌∙◌, subst}
+use mathlib.Core.Path.{◌≡◌, refl, sym, ap, ◌∙◌}
 use mathlib.Core.Bool.{false≢true}
 use mathlib.Core.List.{List, ◌++◌, append-nil}
 use native.Mathlib.Omega.{arith}
 use lib.Ieee.{Float}
 use lib.ListN.{length, take, drop, length-drop}
 use lib.Seq.{take_all, drop-length}
-use Rattle.constants.specs.Rate.{four}
+use Rattle.constants.specs.declared.SamplesPerPulse.{SamplesPerPulse}
+use Rattle.constants.specs.Setting.{per_pulse}
+use Rattle.constants.specs.Rate.{mode_s_taps, prototype_length}
 use Rattle.refusals.specs.declared.Refusal.{Refusal}
 use Rattle.refusals.specs.declared.Refusal.TheVariants.{Draw}
-use Rattle.settings.specs.Settings.{settings_of}
-use Rattle.settings.specs.Accepted.{accepted_of}
+use Rattle.settings.specs.Settings.{settings_length, settings_of}
+use Rattle.settings.specs.Accepted.{at_setting, accepted_of}
 use Rattle.settings.specs.declared.Distributions.{Distributions}
 use Rattle.draw.specs.Fault.{first_fault}
 use Rattle.run_call.specs.declared.State.{State}
 use Rattle.run_theory.specs.Zeros.{zeros}
 use Rattle.run_open.specs.FillModel.{over}
-use Rattle.run_open_checks.specs.Opening.{OpenBuffers, opened_of, prepared_of, left_by}
+use Rattle.run_open_checks.specs.Opening.{OpenBuffers, opened_for, opened_of, with_prototypes, prepared_read, left_by}
 use Rattle.run_open_checks.specs.declared.Prepared.{Prepared}
+use Rattle.run_open_checks.proofs.OpenedAs.{OpenedAs, opened_as, refused_as}
 use Rattle.run_open.proofs.Filled.{filled}
 use Rattle.tape_floats.specs.Floats.{floats_of}
 use Rattle.tape_floats.proofs.Rows.{length_floats}
-use Rattle.tape_sections.specs.Sections.{section_at}
+use Rattle.tape_sections.specs.Sections.{taps_offset, taps_count, draws_offset, section_at}
 use Rattle.tape_sections.proofs.Counts.{counted}
 use Rattle.tape_head.specs.declared.Beginning.{Beginning}
-use Rattle.tape_head.specs.Head.{noise_then, fault_then, draws_then, opened_then, taps, taps_s, taps_ac, settings_bytes, opened_from, taps_then, checked_then, settings_then, early_of, Begun, early_then, left_then, beginning_of, head_of}
+use Rattle.tape_head.specs.Head.{noise_then, fault_then, draws_then, opened_then, taps, taps_s, taps_ac, settings_bytes, setting_then, opened_from, taps_then, checked_then, early_of, early_then, at_rate, left_then, beginning_of, head_of}
+use Rattle.tape_head.proofs.Setting.{setting_read, setting_opens}
+use Rattle.tape_head.proofs.Within.{opened_shown}
 
 -- ---- the settings, as the code takes them
-pub settings_part : (tape : List ℕ) → take (127 - 4) (drop 4 tape) ≡ settings_bytes four tape
+pub settings_part : (tape : List ℕ) → take (128 - 4) (drop 4 tape) ≡ settings_bytes tape
 unfolding settings_bytes
 settings_part tape = refl
 
--- ---- the draws and the noise
-module _ (tape : List ℕ) (s : State) (n : ℕ) where
-  module _ {f : (Option (ℕ × ℕ))} (e : f ≡ first_fault s.rates s.distributions (take (12139 + 65 * n - 12139) (drop 12139 tape))) where
-    by_fault : fault_then four tape s n f ≡ draws_then four tape s (Some n)
-    unfolding draws_then
-    by_fault =
-        let same : 12139 + 65 * n - 12139 ≡ 65 * n = omega arith in
-        ap (fault_then four tape s n) (e ∙ ap (λ (k : ℕ). first_fault s.rates s.distributions (take k (drop 12139 tape))) same)
+-- ---- the draws and the noise, where the draws' count stands at k
+behind_start : (a n : ℕ) → a + 65 * n - a ≡ 65 * n
+behind_start a n = omega arith
 
-    pub draws_good : f ≡ None → noise_then four tape s n ≡ draws_then four tape s (Some n)
-    unfolding fault_then
-    draws_good h = ap (fault_then four tape s n) (sym h) ∙ by_fault
+module _ (tape : List ℕ) (s : State) (n : ℕ) {k : ℕ} (offset : k ≡ draws_offset (per_pulse s.setting)) {f : Option (ℕ × ℕ)}
+    (e : f ≡ first_fault s.rates s.distributions (take (k + 4 + 65 * n - (k + 4)) (drop (k + 4) tape))) where
+  by_fault : fault_then (per_pulse s.setting) tape s n f ≡ draws_then (per_pulse s.setting) tape s (Some n)
+  unfolding draws_then
+  by_fault =
+      ap (fault_then (per_pulse s.setting) tape s n)
+      (e
+      ∙ ap (λ (m : ℕ). first_fault s.rates s.distributions (take m (drop (k + 4) tape))) (behind_start (k + 4) n)
+      ∙ ap (λ (m : ℕ). first_fault s.rates s.distributions (take (65 * n) (drop (m + 4) tape))) offset)
 
-    pub draw_refused : (k field : ℕ) → f ≡ Some (k, field) → Err (Draw k field) ≡ draws_then four tape s (Some n)
-    unfolding fault_then
-    draw_refused k field h = ap (fault_then four tape s n) (sym h) ∙ by_fault
+  pub draws_good : f ≡ None → noise_then (per_pulse s.setting) tape s n ≡ draws_then (per_pulse s.setting) tape s (Some n)
+  unfolding fault_then
+  draws_good h = ap (fault_then (per_pulse s.setting) tape s n) (sym h) ∙ by_fault
+
+  pub draw_refused : (m field : ℕ) → f ≡ Some (m, field) → Err (Draw m field) ≡ draws_then (per_pulse s.setting) tape s (Some n)
+  unfolding fault_then
+  draw_refused m field h = ap (fault_then (per_pulse s.setting) tape s n) (sym h) ∙ by_fault
 
 -- ---- the taps
-pub taps_read : (tape : List ℕ) (z : List Float) {t : List Float} {r : ℕ} → 12135 ≤ length tape → length z ≡ 3001 → r ≡ min (length (take (length tape - 131) (drop 131 tape)) / 4) (length z)
-    → t ≡ floats_of r (take (length tape - 131) (drop 131 tape)) ++ drop r z → t ≡ taps four tape
-unfolding taps
-taps_read tape z {t} {r} h l e p =
-    let q : take (length tape - 131) (drop 131 tape) ≡ drop 131 tape = take_all (length tape - 131) (drop 131 tape) (simp length-drop (omega arith)) in
-    let m : length (take (length tape - 131) (drop 131 tape)) ≡ length tape - 131 = ap length q ∙ length-drop 131 tape in
-    let k : r ≡ 3001 = omega arith in
+values_read : (m : ℕ) (tape : List ℕ) (z : List Float) {t : List Float} {r : ℕ} → 132 + 4 * m ≤ length tape → length z ≡ m → r ≡ min (length (take (length tape - 132) (drop 132 tape)) / 4) (length z)
+    → t ≡ floats_of r (take (length tape - 132) (drop 132 tape)) ++ drop r z → t ≡ floats_of m (drop 132 tape)
+values_read m tape z {t} {r} h l e p =
+    let q : take (length tape - 132) (drop 132 tape) ≡ drop 132 tape = take_all (length tape - 132) (drop 132 tape) (simp length-drop (omega arith)) in
+    let bytes : length (take (length tape - 132) (drop 132 tape)) ≡ length tape - 132 = ap length q ∙ length-drop 132 tape in
+    let k : r ≡ m = omega arith in
     p
     ∙ (λ i. floats_of (k i) (q i) ++ drop (k i) z)
-    ∙ ap (λ (x : List Float). floats_of 3001 (drop 131 tape) ++ x) (ap (λ (x : ℕ). drop x z) (sym l) ∙ drop-length z)
-    ∙ append-nil (floats_of 3001 (drop 131 tape))
+    ∙ ap (λ (x : List Float). floats_of m (drop 132 tape) ++ x) (ap (λ (x : ℕ). drop x z) (sym l) ∙ drop-length z)
+    ∙ append-nil (floats_of m (drop 132 tape))
 
-pub taps_length : (tape : List ℕ) → length (taps four tape) ≡ 3001
-unfolding taps
-taps_length tape = length_floats 3001 (drop 131 tape)
+module _ (sps : ℕ) (tape : List ℕ) where
+  pub taps_read : (z : List Float) {t : List Float} {r : ℕ} → draws_offset sps ≤ length tape → length z ≡ taps_count sps → r ≡ min (length (take (length tape - 132) (drop 132 tape)) / 4) (length z)
+      → t ≡ floats_of r (take (length tape - 132) (drop 132 tape)) ++ drop r z → t ≡ taps sps tape
+  unfolding taps
+  taps_read = values_read (taps_count sps) tape
 
--- the second lowpass, as the code takes it
-pub taps_behind : (tape : List ℕ) {t : List Float} → t ≡ taps four tape → take (length t - 1486) (drop 1486 t) ≡ taps_ac four tape
-unfolding taps_ac
-taps_behind tape {t} e = take_all (length t - 1486) (drop 1486 t) (simp length-drop (omega arith)) ∙ ap (drop 1486) e
+  pub taps_length : length (taps sps tape) ≡ taps_count sps
+  unfolding taps
+  taps_length = length_floats (taps_count sps) (drop (taps_offset + 4) tape)
 
-pub taps_before : (tape : List ℕ) {t : List Float} → t ≡ taps four tape → take 1486 t ≡ taps_s four tape
-unfolding taps_s
-taps_before tape e = ap (take 1486) e
+  -- both lowpasses, as the code takes them
+  pub taps_before : {t : List Float} {k : ℕ} → k ≡ mode_s_taps sps → t ≡ taps sps tape → take k t ≡ taps_s sps tape
+  unfolding taps_s
+  taps_before o e = λ i. take (o i) (e i)
 
--- ---- what stands before the taps' values
-module _ (tape : List ℕ) where
-  -- where nothing is refused, the taps lie on the tape
-  Long : (Result (Unit {0}) Refusal) → Type 0
-  Long (Ok u) = 12135 ≤ length tape
-  Long (Err q) = Unit {0}
+  pub taps_behind : {t : List Float} {k : ℕ} → k ≡ mode_s_taps sps → t ≡ taps sps tape → take (length t - k) (drop k t) ≡ taps_ac sps tape
+  unfolding taps_ac
+  taps_behind {t} {k} o e = take_all (length t - k) (drop k t) (simp length-drop (omega arith)) ∙ λ i. drop (o i) (e i)
 
-  taps_long : (q : (Option ℕ)) → q ≡ section_at tape 127 3001 3001 4 → Long (taps_then q)
-  unfolding taps_then Long
-  taps_long (Some n) e = let t = counted tape 127 3001 3001 4 n e refl in omega (arith, t.0, t.2)
-  taps_long None e = tt
+  -- ---- what stands before the taps' values: where nothing is refused, they lie on the tape
+  taps_long : (q : Option ℕ) → q ≡ section_at tape taps_offset (taps_count sps) (taps_count sps) 4 → taps_then q ≡ Ok tt → draws_offset sps ≤ length tape
+  unfolding taps_then
+  taps_long (Some n) e h = let t = counted tape taps_offset (taps_count sps) (taps_count sps) 4 n e refl in long (taps_count sps) n t.0 t.2
+    where
+      long : (m k : ℕ) → m ≤ k → 128 + 4 + 4 * k ≤ length tape → 132 + 4 * m ≤ length tape
+      long m k g h = omega arith
+  taps_long None e h = absurd (false≢true (ap is_ok h))
 
-  checked_long : (x : (Result (ℕ × Distributions) Refusal)) → Long (checked_then four tape x)
-  unfolding checked_then Long
-  checked_long (Ok (samples, all)) = taps_long (section_at tape 127 3001 3001 4) refl
-  checked_long (Err refusal) = tt
+  checked_long : (x : Result (ℕ × Distributions) Refusal) → checked_then sps tape x ≡ Ok tt → draws_offset sps ≤ length tape
+  unfolding checked_then
+  checked_long (Ok (samples, all)) h = taps_long (section_at tape taps_offset (taps_count sps) (taps_count sps) 4) refl h
+  checked_long (Err refusal) h = absurd (false≢true (ap is_ok h))
 
-  settings_long : (q : (Option ℕ)) → Long (settings_then four tape q)
-  unfolding settings_then Long
-  settings_long (Some n) = checked_long (accepted_of four (settings_of (settings_bytes four tape)))
-  settings_long None = tt
+  pub passed_long : {e : Result (Unit {0}) Refusal} → e ≡ early_of sps tape → e ≡ Ok tt → draws_offset sps ≤ length tape
+  unfolding early_of
+  passed_long e f = checked_long (accepted_of sps (settings_of (settings_bytes tape))) (sym e ∙ f)
 
-  pub passed_long : {e : (Result (Unit {0}) Refusal)} → e ≡ early_of four tape → e ≡ Ok tt → 12135 ≤ length tape
-  unfolding early_of Long
-  passed_long e f = subst Long (sym e ∙ f) (settings_long (section_at tape 0 1 1 123))
+-- and where the samples per pulse are read, the settings do
+pub settings_long : (tape : List ℕ) {x : Result SamplesPerPulse Refusal} {z : SamplesPerPulse} → x ≡ setting_then tape (section_at tape 0 1 1 settings_length) → x ≡ Ok z → 4 + settings_length ≤ length tape
+unfolding setting_then
+settings_long tape {x} {z} e f = go (section_at tape 0 1 1 settings_length) refl (sym e ∙ f)
+  where
+    go : (q : Option ℕ) → q ≡ section_at tape 0 1 1 settings_length → setting_then tape q ≡ Ok z → 4 + settings_length ≤ length tape
+    go (Some n) h g = let t = counted tape 0 1 1 settings_length n h refl in omega (arith, t.0, t.2)
+    go None h g = absurd (false≢true (ap is_ok g))
 
 -- ---- the whole
+abbrev state_or : State → Result State Refusal → State
+state_or s (Ok t) = t
+state_or s (Err q) = s
+
 module _ (tape : List ℕ) (lent : OpenBuffers) where
-  begun : (Result Beginning Refusal) → Begun
-  begun b = record { head = b; left = left_then four tape lent b }
+  refused_by : {q : Refusal} → beginning_of tape lent ≡ Err q → record { head = Err q; left = lent } ≡ head_of tape lent
+  unfolding head_of left_then
+  refused_by e = sym (ap (λ (b : Result Beginning Refusal). record { head = b; left = left_then tape lent b }) e)
 
-  by_early : {e : (Result (Unit {0}) Refusal)} → e ≡ early_of four tape → begun (early_then four tape lent e) ≡ head_of four tape lent
-  unfolding head_of beginning_of begun
-  by_early e = ap (λ (x : (Result (Unit {0}) Refusal)). begun (early_then four tape lent x)) e
+  module _ {x : Result SamplesPerPulse Refusal} (said : x ≡ setting_then tape (section_at tape 0 1 1 settings_length)) where
+    by_setting : at_setting (at_rate tape lent) x ≡ beginning_of tape lent
+    unfolding beginning_of
+    by_setting = ap (at_setting (at_rate tape lent)) said
 
-  pub head_refused : {e : (Result (Unit {0}) Refusal)} {q : Refusal} → e ≡ early_of four tape → e ≡ Err q → record { head = Err q; left = lent } ≡ head_of four tape lent
-  unfolding early_then left_then begun
-  head_refused e f = ap (λ (x : (Result (Unit {0}) Refusal)). begun (early_then four tape lent x)) (sym f) ∙ by_early e
+    -- no settings, or refusal 15
+    pub setting_refused : {q : Refusal} → x ≡ Err q → record { head = Err q; left = lent } ≡ head_of tape lent
+    unfolding at_setting
+    setting_refused f = refused_by (sym by_setting ∙ ap (at_setting (at_rate tape lent)) f)
 
-  module _ {e : (Result (Unit {0}) Refusal)} {P : Prepared} (early : e ≡ early_of four tape) (passed : e ≡ Ok tt)
-      (prepared : P ≡ prepared_of four (taps_s four tape) (taps_ac four tape) (settings_bytes four tape) (length lent.mode_s) (length lent.mode_ac) (length lent.memory)) where
-    -- the answer, and what it leaves
-    by_opening : {r : (Result Beginning Refusal)} → r ≡ opened_then four tape P.opened → begun r ≡ head_of four tape lent
-    unfolding prepared_of opened_of opened_from early_then begun
-    by_opening h =
-        ap begun (h ∙ ap (λ (v : Prepared). opened_then four tape v.opened) prepared)
-        ∙ ap (λ (v : (Result (Unit {0}) Refusal)). begun (early_then four tape lent v)) (sym passed)
-        ∙ by_early early
+    module _ {z : SamplesPerPulse} (is : x ≡ Ok z) {e : Result (Unit {0}) Refusal} (early : e ≡ early_of (per_pulse z) tape) where
+      by_early : early_then tape lent (per_pulse z) e ≡ beginning_of tape lent
+      unfolding at_setting at_rate
+      by_early = ap (early_then tape lent (per_pulse z)) early ∙ sym (ap (at_setting (at_rate tape lent)) is) ∙ by_setting
 
-    -- a tape that is refused behind its taps leaves the buffers
-    pub behind_refused : {r : (Result Beginning Refusal)} {q : Refusal} → r ≡ opened_then four tape P.opened → r ≡ Err q → record { head = Err q; left = lent } ≡ head_of four tape lent
-    unfolding left_then begun
-    behind_refused h k = ap begun (sym k) ∙ by_opening h
+      -- refusals 1 to 4 and 14, or no taps
+      pub early_refused : {q : Refusal} → e ≡ Err q → record { head = Err q; left = lent } ≡ head_of tape lent
+      unfolding early_then
+      early_refused f = refused_by (sym by_early ∙ ap (early_then tape lent (per_pulse z)) f)
 
-    module _ {from_s from_ac mode_s mode_ac memory : List Float} (from : (from_s ≡ P.mode_s) × (from_ac ≡ P.mode_ac))
-        (to : (mode_s ≡ over from_s lent.mode_s) × (mode_ac ≡ over from_ac lent.mode_ac) × (memory ≡ zeros (length lent.memory))) where
-      -- a tape that begins a run leaves what opening does
-      left_filled : (o : (Result State Refusal)) (b : Beginning) → P.opened ≡ o → opened_then four tape o ≡ Ok b → record { mode_s = mode_s; mode_ac = mode_ac; memory = memory } ≡ left_then four tape lent (Ok b)
-      unfolding left_then opened_then left_by
-      left_filled (Ok state) b q h = filled (taps_s four tape) (taps_ac four tape) (settings_bytes four tape) lent state prepared q from to
-      left_filled (Err r) b q h = absurd (false≢true (ap is_ok h))
+      by_opening : e ≡ Ok tt → opened_then (per_pulse z) tape (opened_from (per_pulse z) tape lent) ≡ beginning_of tape lent
+      unfolding early_then
+      by_opening passed = sym (ap (early_then tape lent (per_pulse z)) passed) ∙ by_early
 
-      pub head_given : {r : (Result Beginning Refusal)} {b : Beginning} → r ≡ opened_then four tape P.opened → r ≡ Ok b
-          → record { head = Ok b; left = record { mode_s = mode_s; mode_ac = mode_ac; memory = memory } } ≡ head_of four tape lent
-      unfolding begun
-      head_given {r} {b} h k = (λ i. record { head = Ok b; left = left_filled P.opened b refl (sym h ∙ k) i }) ∙ ap begun (sym k) ∙ by_opening h
+      module _ (passed : e ≡ Ok tt) {P : Result Prepared Refusal}
+          (prepared : prepared_read P ≡ with_prototypes (taps_s (per_pulse z) tape) (taps_ac (per_pulse z) tape)
+          (opened_for (taps_s (per_pulse z) tape) (taps_ac (per_pulse z) tape) (settings_bytes tape) (length lent.mode_s) (length lent.mode_ac) (length lent.memory))) where
+        -- refusals 9, 5 and 6
+        pub opening_refused : {q : Refusal} → P ≡ Err q → record { head = Err q; left = lent } ≡ head_of tape lent
+        unfolding opened_then opened_from opened_of
+        opening_refused {q} f =
+            refused_by (sym (by_opening passed) ∙ ap (opened_then (per_pulse z) tape) (refused_as (taps_s (per_pulse z) tape) (taps_ac (per_pulse z) tape) (opened_from (per_pulse z) tape lent) q (sym (ap prepared_read f) ∙ prepared)))
+
+        module _ {p : Prepared} (ready : P ≡ Ok p) {r : Result Beginning Refusal} (drawn : r ≡ draws_then (per_pulse p.state.setting) tape p.state (section_at tape (draws_offset (per_pulse p.state.setting)) 0 400 65)) where
+          opens : OpenedAs (taps_s (per_pulse z) tape) (taps_ac (per_pulse z) tape) (opened_of (taps_s (per_pulse z) tape) (taps_ac (per_pulse z) tape) (settings_bytes tape) lent) p
+          unfolding opened_of
+          opens = opened_as (taps_s (per_pulse z) tape) (taps_ac (per_pulse z) tape) _ p (sym (ap prepared_read ready) ∙ prepared)
+
+          opened : opened_from (per_pulse z) tape lent ≡ Ok p.state
+          unfolding opened_from
+          opened = opens.opens
+
+          -- the run is opened at the samples per pulse that are read
+          same : p.state.setting ≡ z
+          same = setting_opens tape lent (per_pulse z) p.state opened ∙ sym (setting_read tape (section_at tape 0 1 1 settings_length) z (sym said ∙ is))
+
+          by_draws : r ≡ beginning_of tape lent
+          unfolding opened_then
+          by_draws =
+              drawn
+              ∙ ap (λ (w : SamplesPerPulse). opened_then (per_pulse w) tape (Ok p.state)) same
+              ∙ ap (opened_then (per_pulse z) tape) (sym opened)
+              ∙ by_opening passed
+
+          -- refusal 7, or no draws or noise
+          pub draws_refused : {q : Refusal} → r ≡ Err q → record { head = Err q; left = lent } ≡ head_of tape lent
+          draws_refused f = refused_by (sym by_draws ∙ f)
+
+          -- a tape that begins a run leaves what opening does
+          pub head_given : {b : Beginning} {from_s from_ac mode_s mode_ac memory : List Float} → r ≡ Ok b
+              → (from_s ≡ take (prototype_length (per_pulse p.state.setting)) p.mode_s) × (from_ac ≡ take (prototype_length (per_pulse p.state.setting)) p.mode_ac)
+              → (mode_s ≡ over from_s lent.mode_s) × (mode_ac ≡ over from_ac lent.mode_ac) × (memory ≡ zeros (length lent.memory))
+              → record { head = Ok b; left = record { mode_s = mode_s; mode_ac = mode_ac; memory = memory } } ≡ head_of tape lent
+          unfolding head_of left_then opened_then
+          head_given {b} begins from to =
+              let begun : p.state ≡ b.state = ap (state_or p.state) (opened_shown (per_pulse p.state.setting) tape (Ok p.state) b (sym drawn ∙ begins)).opens in
+              let at : z ≡ b.state.setting = sym same ∙ ap (λ (s : State). s.setting) begun in
+              (λ i. record { head = Ok b; left = filled (taps_s (per_pulse z) tape) (taps_ac (per_pulse z) tape) (settings_bytes tape) lent p opens from to i })
+              ∙ (λ i. record { head = Ok b; left = left_by (taps_s (per_pulse (at i)) tape) (taps_ac (per_pulse (at i)) tape) (Ok (begun i)) lent })
+              ∙ ap (λ (x : Result Beginning Refusal). record { head = x; left = left_then tape lent x }) (sym begins ∙ by_draws)

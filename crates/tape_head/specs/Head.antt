@@ -1,12 +1,14 @@
 -- A tape up to its noise (SPECIFICATION 4.6), its faults in the order of SPECIFICATION 11.2.
 use Rattle.std.specs.Prelude.{ℕ, ◌+◌, ◌*◌, Option, Some, None, Result, Ok, Err, List, take, drop, Float}
 use Rattle.constants.specs.Rate.{mode_s_taps}
+use Rattle.constants.specs.Setting.{per_pulse}
+use Rattle.constants.specs.declared.SamplesPerPulse.{SamplesPerPulse}
 use Rattle.le_read.specs.LeBytes.{read_at}
 use Rattle.refusals.specs.declared.Refusal.{Refusal}
 use Rattle.refusals.specs.declared.Refusal.TheVariants.{Draw, Tape}
 use Rattle.settings.specs.declared.Distributions.{Distributions}
 use Rattle.settings.specs.Settings.{settings_length, settings_of}
-use Rattle.settings.specs.Accepted.{accepted_of}
+use Rattle.settings.specs.Accepted.{setting_at, at_setting, accepted_of}
 use Rattle.draw.specs.Fault.{first_fault}
 use Rattle.run_call.specs.declared.State.{State}
 use Rattle.run_open_checks.specs.Opening.{OpenBuffers, opened_of, left_by}
@@ -48,49 +50,54 @@ module _ (sps : ℕ) (tape : List ℕ) where
   unfoldable pub taps_ac : List Float
   taps_ac = drop (mode_s_taps sps) taps
 
-  unfoldable pub settings_bytes : List ℕ
-  settings_bytes = take settings_length (drop 4 tape)
+-- the settings' bytes
+unfoldable pub settings_bytes : List ℕ → List ℕ
+settings_bytes tape = take settings_length (drop 4 tape)
 
-  -- opening, given the taps of a tape
-  unfoldable pub opened_from : OpenBuffers → (Result State Refusal)
-  opened_from lent = opened_of sps taps_s taps_ac settings_bytes lent
+-- behind the settings' count and length: refusal 15, or their samples per pulse
+unfoldable pub setting_then : List ℕ → (Option ℕ) → (Result SamplesPerPulse Refusal)
+setting_then tape (Some n) = setting_at (settings_bytes tape)
+setting_then tape None = Err Tape
 
 -- the taps' count and length
 unfoldable pub taps_then : (Option ℕ) → (Result (Unit {0}) Refusal)
 taps_then (Some n) = Ok tt
 taps_then None = Err Tape
 
--- what stands before the taps' values: refusals 1 to 4 and 14, then the taps' count and length
+-- what stands before the taps' values, at the settings' samples per pulse: refusals 1 to 4 and 14, then the taps' count and length
 module _ (sps : ℕ) (tape : List ℕ) where
   unfoldable pub checked_then : (Result (ℕ × Distributions) Refusal) → (Result (Unit {0}) Refusal)
   checked_then (Ok (samples, all)) = taps_then (section_at tape taps_offset (taps_count sps) (taps_count sps) 4)
   checked_then (Err q) = Err q
 
-  unfoldable pub settings_then : (Option ℕ) → (Result (Unit {0}) Refusal)
-  settings_then (Some n) = checked_then (accepted_of sps (settings_of (settings_bytes sps tape)))
-  settings_then None = Err Tape
-
   unfoldable pub early_of : Result (Unit {0}) Refusal
-  early_of = settings_then (section_at tape 0 1 1 settings_length)
+  early_of = checked_then (accepted_of sps (settings_of (settings_bytes tape)))
+
+  -- opening, given the taps of a tape
+  unfoldable pub opened_from : OpenBuffers → (Result State Refusal)
+  opened_from lent = opened_of (taps_s sps tape) (taps_ac sps tape) (settings_bytes tape) lent
 
 -- a tape's beginning, and what is left in the buffers of opening
 pub record Begun : Type 0 where
   pub head : Result Beginning Refusal
   pub left : OpenBuffers
 
-module _ (sps : ℕ) (tape : List ℕ) (lent : OpenBuffers) where
-  unfoldable pub early_then : (Result (Unit {0}) Refusal) → (Result Beginning Refusal)
-  early_then (Ok u) = opened_then sps tape (opened_from sps tape lent)
-  early_then (Err q) = Err q
+module _ (tape : List ℕ) (lent : OpenBuffers) where
+  unfoldable pub early_then : ℕ → (Result (Unit {0}) Refusal) → (Result Beginning Refusal)
+  early_then sps (Ok u) = opened_then sps tape (opened_from sps tape lent)
+  early_then sps (Err q) = Err q
 
-  -- a run leaves what opening does; a refusal leaves every buffer as it was (SPECIFICATION 3.3)
-  unfoldable pub left_then : (Result Beginning Refusal) → OpenBuffers
-  left_then (Ok b) = left_by sps (taps_s sps tape) (taps_ac sps tape) (Ok b.state) lent
-  left_then (Err q) = lent
+  unfoldable pub at_rate : SamplesPerPulse → Result Beginning Refusal
+  at_rate setting = early_then (per_pulse setting) (early_of (per_pulse setting) tape)
 
   -- settings, taps, draws, and the noise's count
   unfoldable pub beginning_of : Result Beginning Refusal
-  beginning_of = early_then (early_of sps tape)
+  beginning_of = at_setting at_rate (setting_then tape (section_at tape 0 1 1 settings_length))
+
+  -- a run leaves what opening does; a refusal leaves every buffer as it was (SPECIFICATION 3.3)
+  unfoldable pub left_then : (Result Beginning Refusal) → OpenBuffers
+  left_then (Ok b) = left_by (taps_s (per_pulse b.state.setting) tape) (taps_ac (per_pulse b.state.setting) tape) (Ok b.state) lent
+  left_then (Err q) = lent
 
   -- a tape up to its noise
   unfoldable pub head_of : Begun

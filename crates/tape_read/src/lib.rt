@@ -1,10 +1,10 @@
 // A tape from standard input: its bytes before the noise, and values of its noise. What is read is not stated, since it is not known; how much is counted is.
 #![tactic(auto)]
 
-ghost use Rattle.std.specs.Prelude.{◌≡◌, ◌≤◌, ◌<◌, length};
+ghost use Rattle.std.specs.Prelude.{◌≡◌, ◌≤◌, ◌<◌, length, take};
 ghost use Rattle.io.specs.Counts.{IsPrefixLen};
 
-use tape_sections::{CHUNK_BYTES, CHUNK_LEN, DRAWS_OFFSET, LONGEST_HEAD_LEN, STDIN_FILENO};
+use tape_sections::{CHUNK_BYTES, CHUNK_LEN, LONGEST_HEAD_LEN, STDIN_FILENO, TAPS_COUNT_OFFSET};
 
 // A part of known length; no byte is counted where there were fewer, or where there is no room for them.
 fn read_whole(size: usize, bytes: &mut [u8]) -> usize
@@ -29,18 +29,32 @@ pub fn read_values(want: usize, row: &mut [f32]) -> usize
     tape_floats::floats(&bytes[..size], row)
 }
 
-// The bytes of a tape up to its noise, 38,143 at most; how many there are. None are read where there is no room for 38,143.
+// Reads on behind n bytes of a tape, which it leaves, up to `want`; how many there are then.
+fn read_on(bytes: &mut [u8], n: usize, want: usize) -> usize
+    requires { (n ≤ want) × (want ≤ length bytes.old) }
+    ensures prefix_len { IsPrefixLen result bytes.new }
+    ensures kept { take n bytes.new ≡ take n bytes.old }
+{
+    n + io::read_full(STDIN_FILENO, &mut bytes[n..want])
+}
+
+// The bytes of a tape up to its noise, 50,140 at most; how many there are. None are read where there is no room for 50,140. They are read in three parts, since the settings' last byte says how many the taps are, and the draws' count says how many the draws are.
 pub fn read_head(bytes: &mut [u8]) -> usize
     ensures { IsPrefixLen result bytes.new }
 {
     if bytes.len() < LONGEST_HEAD_LEN {
         return 0;
     }
-    let got = io::read_full(STDIN_FILENO, &mut bytes[..DRAWS_OFFSET]);
-    if got < DRAWS_OFFSET {
-        return got;
+    let settings = read_on(bytes, 0, TAPS_COUNT_OFFSET);
+    if settings < TAPS_COUNT_OFFSET {
+        return settings;
     }
-    let want = tape_sections::head_length(&bytes[..DRAWS_OFFSET]);
-    let more = io::read_full(STDIN_FILENO, &mut bytes[DRAWS_OFFSET..want]);
-    DRAWS_OFFSET + more
+    let setting = tape_sections::tape_setting(bytes);
+    let counted = tape_sections::draws_count_offset(setting) + 4;
+    let taps = read_on(bytes, TAPS_COUNT_OFFSET, counted);
+    if taps < counted {
+        return taps;
+    }
+    let want = tape_sections::head_length(&bytes[..counted]);
+    read_on(bytes, counted, want)
 }

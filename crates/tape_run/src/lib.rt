@@ -5,10 +5,10 @@
 ghost use Rattle.std.specs.Prelude.{◌≡◌, ◌≤◌, length};
 ghost use Rattle.tape_theory.specs.Reported.{Reported, records_lent, records_left, records_in};
 
-use constants::{DRAW_LEN, MEMORY_LEN, PROTOTYPE_LEN};
+use constants::{DRAW_LEN, MAX_MEMORY_LEN, MAX_PROTOTYPE_LEN};
 use pulse_shape::Filters;
 use std::io::{Error, Stdout};
-use tape_sections::{DRAWS_OFFSET, LONGEST_HEAD_LEN, MAX_RECORDS_LEN};
+use tape_sections::{LONGEST_HEAD_LEN, MAX_RECORDS_LEN};
 use tape_verdict::Outcome;
 
 // A copy of the bytes given for records: a run that is not done leaves those as they were. A function, since an array passed by value tells a proof its length.
@@ -35,28 +35,23 @@ pub fn run_tape(records: &mut [u8; MAX_RECORDS_LEN], to: Option<Stdout>) -> Outc
 {
     let mut bytes = [0u8; LONGEST_HEAD_LEN];
     let got = tape_read::read_head(&mut bytes);
-    let mut mode_s = [0.0f32; PROTOTYPE_LEN];
-    let mut mode_ac = [0.0f32; PROTOTYPE_LEN];
-    let mut memory = [0.0f32; MEMORY_LEN];
-    match tape_head::head(&bytes[..got], &mut mode_s, &mut mode_ac, &mut memory) {
+    let tape = &bytes[..got];
+    let setting = tape_sections::tape_setting(tape);
+    let mut whole_s = [0.0f32; MAX_PROTOTYPE_LEN];
+    let mut whole_ac = [0.0f32; MAX_PROTOTYPE_LEN];
+    let mut whole_memory = [0.0f32; MAX_MEMORY_LEN];
+    let mode_s = &mut whole_s[..setting.prototype_len()];
+    let mode_ac = &mut whole_ac[..setting.prototype_len()];
+    let memory = &mut whole_memory[..setting.memory_len()];
+    match tape_head::head(tape, mode_s, mode_ac, memory) {
         Err(q) => Outcome::Refused(q, 0),
         Ok(b) => {
-            let end = DRAWS_OFFSET + DRAW_LEN * b.draws as usize;
+            let at = tape_sections::draws_count_offset(setting) + 4;
+            let draws = &tape[at..at + DRAW_LEN * b.draws as usize];
             let f = tape_verdict::start(b.state);
             let mut own = copied(*records);
-            let prototypes = Filters {
-                mode_s: &mode_s,
-                mode_ac: &mode_ac,
-            };
-            let s = tape_stream::feed_section(
-                f,
-                b.noise,
-                &bytes[DRAWS_OFFSET..end],
-                prototypes,
-                &mut memory,
-                &mut own,
-                to,
-            );
+            let prototypes = Filters { mode_s, mode_ac };
+            let s = tape_stream::feed_section(f, b.noise, draws, prototypes, memory, &mut own, to);
             let outcome = tape_verdict::reported(s.end, s.feed);
             keep(outcome, own, records);
             outcome

@@ -2,10 +2,10 @@
 #![tactic(auto)]
 
 ghost use Rattle.std.specs.Prelude.{◌≡◌, ◌+◌, ◌*◌, ◌≤◌, ◌<◌, ◌&&◌, leb};
-ghost use Rattle.constants.specs.Rate.{four};
-ghost use Rattle.tape_sections.specs.Sections.{section_at, head_length};
+ghost use Rattle.constants.specs.Setting.{per_pulse};
+ghost use Rattle.tape_sections.specs.Sections.{taps_count, draws_offset, section_at, tape_setting, tape_sps, head_length};
 
-use constants::DRAW_LEN;
+use constants::{DRAW_LEN, SamplesPerPulse};
 use settings::SETTINGS_LEN;
 
 // The numbers that the system gives standard input and standard error.
@@ -13,24 +13,16 @@ pub const STDIN_FILENO: i32 = 0;
 
 pub const STDERR_FILENO: i32 = 2;
 
-// Offsets in a tape: the taps' count, the taps, the draws' count, the draws.
-pub const TAPS_COUNT_OFFSET: usize = 127;
+// Offsets in a tape: the taps' count and the taps. Behind the taps the offsets depend on the samples per pulse.
+pub const TAPS_COUNT_OFFSET: usize = 128;
 
-pub const TAPS_OFFSET: usize = 131;
+pub const TAPS_OFFSET: usize = 132;
 
-pub const DRAWS_COUNT_OFFSET: usize = 12135;
+// Bytes before the noise with the most draws, at 8 samples per pulse.
+pub const LONGEST_HEAD_LEN: usize = 50140;
 
-pub const DRAWS_OFFSET: usize = 12139;
-
-// Bytes before the noise: with no draws, and with the most.
-pub const SHORTEST_HEAD_LEN: usize = 12143;
-
-pub const LONGEST_HEAD_LEN: usize = 38143;
-
-// Taps of both lowpasses, as a count and as a length.
-pub const TAPS_COUNT: u64 = 3001;
-
-pub const TAPS_LEN: usize = 3001;
+// Taps of both lowpasses at 8 samples per pulse.
+pub const MAX_TAPS_LEN: usize = 6000;
 
 // The most draws of a tape.
 pub const MAX_DRAWS: u64 = 400;
@@ -76,14 +68,39 @@ pub fn section(tape: &[u8], at: usize, least: u64, most: u64, size: u32) -> Opti
     }
 }
 
-// How many bytes of a tape stand before its noise, as its first 12,139 say.
-#[tactic(auto, unfolding(crate::specs::Sections::head_length, crate::specs::Sections::length_then), using(crate::proofs::Counts::at_most))]
-pub fn head_length(tape: &[u8]) -> usize
-    ensures value { result ≡ head_length four tape.now }
-    ensures lower_bound { (12139 ≤ result) × (result ≤ 38143) }
+// Taps of both lowpasses.
+#[tactic(auto, using(constants::proofs::Settings::either_cases))]
+pub fn taps_len(setting: SamplesPerPulse) -> usize
+    ensures { (result ≡ taps_count (per_pulse setting)) × (result ≤ 6000) }
 {
-    match section(tape, DRAWS_COUNT_OFFSET, 0, MAX_DRAWS, 0) {
-        Some(n) => SHORTEST_HEAD_LEN + DRAW_LEN * n as usize,
-        None => DRAWS_OFFSET,
+    setting.either(3001, 6000) as usize
+}
+
+// Where the draws' count stands, behind the taps.
+#[tactic(auto, using(constants::proofs::Settings::either_cases))]
+pub fn draws_count_offset(setting: SamplesPerPulse) -> usize
+    ensures { (result ≡ draws_offset (per_pulse setting)) × (result ≤ 24132) }
+{
+    setting.either(12136, 24132) as usize
+}
+
+// The samples per pulse by which a tape is read, as the last byte of its settings says: a byte that is neither 4 nor 8 is refused by whoever checks it.
+#[tactic(auto, unfolding(crate::specs::Sections::tape_setting))]
+pub fn tape_setting(tape: &[u8]) -> SamplesPerPulse
+    ensures { result ≡ tape_setting tape.now }
+{
+    SamplesPerPulse::from_number(u64::from(le_read_or_zero::byte_at(tape, TAPS_COUNT_OFFSET - 1)))
+}
+
+// How many bytes of a tape stand before its noise, as those up to its draws' count say.
+#[tactic(auto, unfolding(crate::specs::Sections::head_length, crate::specs::Sections::head_length_at, crate::specs::Sections::length_then), using(crate::proofs::Counts::at_most))]
+pub fn head_length(tape: &[u8]) -> usize
+    ensures value { result ≡ head_length tape.now }
+    ensures lower_bound { (draws_offset (tape_sps tape.now) + 4 ≤ result) × (result ≤ 50140) }
+{
+    let at = draws_count_offset(tape_setting(tape));
+    match section(tape, at, 0, MAX_DRAWS, 0) {
+        Some(n) => at + 8 + DRAW_LEN * n as usize,
+        None => at + 4,
     }
 }

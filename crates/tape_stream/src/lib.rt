@@ -6,16 +6,17 @@ ghost use Rattle.std.specs.Prelude.{◌≡◌, false};
 ghost use Rattle.tape_theory.specs.PlainTape.{FedCut};
 ghost use Rattle.tape_verdict.specs.Verdict.{is_cut_short};
 
-use constants::SAMPLE_RATE;
+use constants::SamplesPerPulse;
 use pulse_shape::Filters;
+use run_call::State;
 use std::io::{Error, Stdout, Write};
 use tape_sections::{CHUNK_LEN, CHUNK_OUTPUT_LEN, CHUNK_VALUES, STDERR_FILENO, STDIN_FILENO};
 use tape_verdict::{Feed, SectionEnd};
 
 // A line on standard error for each second of signal.
-fn progress(before: u64, after: u64) {
-    let second = after / SAMPLE_RATE;
-    if before / SAMPLE_RATE < second {
+fn progress(setting: SamplesPerPulse, before: u64, after: u64) {
+    let second = after / setting.sample_rate();
+    if before / setting.sample_rate() < second {
         io::write_all(STDERR_FILENO, b"second ");
         io::print_decimal(STDERR_FILENO, second);
         io::write_all(STDERR_FILENO, b", samples ");
@@ -38,20 +39,21 @@ fn end_of_whole() -> SectionEnd
 }
 
 // The samples that a call wrote, from one number of samples to the next.
-fn write_samples(mut stdout: Stdout, before: u64, after: u64, output: &[f32]) -> Result<(), Error> {
+fn write_samples(mut stdout: Stdout, before: u64, now: State, output: &[f32]) -> Result<(), Error> {
+    let after = now.written;
     let k = after.saturating_sub(before).min(8193) as usize;
     let n = output.len().min(2 * k);
     let mut out = [0u8; 65544];
     tape_floats::float_bytes(&output[..n], &mut out);
     stdout.write_all(&out[..4 * n])?;
-    progress(before, after);
+    progress(now.setting, before, after);
     Ok(())
 }
 
 // Where there is an output for samples, they are written.
-fn put_samples(to: Option<Stdout>, before: u64, after: u64, output: &[f32]) -> Result<(), Error> {
+fn put_samples(to: Option<Stdout>, before: u64, now: State, output: &[f32]) -> Result<(), Error> {
     match to {
-        Some(stdout) => write_samples(stdout, before, after, output),
+        Some(stdout) => write_samples(stdout, before, now, output),
         None => Ok(()),
     }
 }
@@ -86,7 +88,7 @@ pub fn feed_section(
         let n = tape_read::read_values(want as usize, &mut row);
         let before = f.state.written;
         f = tape_feed::feed_noise(f, prototypes, memory, draws, &row[..n], &mut out, records);
-        if let Err(e) = put_samples(to, before, f.state.written, &out) {
+        if let Err(e) = put_samples(to, before, f.state, &out) {
             let end = SectionEnd::Untaken(e);
             return Section { feed: f, end };
         }

@@ -13,6 +13,8 @@ use lib.Dec.{eqb, lit<}
 use lib.ListN.{length, take, drop, length-append, length-drop, take-append-drop}
 use lib.Seq.{drop_at, drop-drop}
 use lib.Ieee.{Float, nan}
+use Rattle.constants.specs.Setting.{per_pulse}
+use Rattle.constants.specs.Rate.{prototype_length}
 use Rattle.run_theory.specs.Generator.{Generator, NoisePair}
 use Rattle.run_theory.specs.PlainRun.{Kind, ignored, ends, reply, Reply, kind, time_of, push, replies, plain_samples, plain_records}
 use Rattle.run_theory.specs.PlainBench as Bench
@@ -115,8 +117,8 @@ pub record Tape : Type 1 where
   pub state : State
   pub mode_s : List Float
   pub mode_ac : List Float
-  pub length_s : length mode_s ≡ 1792
-  pub length_ac : length mode_ac ≡ 1792
+  pub length_s : length mode_s ≡ prototype_length (per_pulse state.setting)
+  pub length_ac : length mode_ac ≡ prototype_length (per_pulse state.setting)
   pub laws : Laws (gen_of state mode_s mode_ac)
   pub draws : List ℕ
   pub whole : length draws % 65 ≡ 0

@@ -1,18 +1,17 @@
 -- `plain-tape`: what is claimed of a tape holds of each tape whose head begins a run: fed its noise in any cut, it ends, prints and gives what the plain run on all its draws and noise does (`PlainTape` of specs/).
 -- `text-alike`, `samples-alike`: so two ways of cutting print and give the same. `section-ends`: so what `tape_stream::feed_section` leaves ends as the plain run does.
-use Rattle.std.specs.Prelude.{Option, Some, None, Result, Ok, Err}
+use Rattle.std.specs.Prelude.{None, Result, Ok}
 use Rattle.refusals.specs.declared.Refusal.{Refusal}
-use Rattle.refusals.specs.declared.Refusal.TheVariants.{Tape as TapeRefusal}
-use Prim.Native.Nat.{ℕ, ◌+◌, ◌*◌, ◌/◌, ◌≤◌}
-use mathlib.Core.Bool.{Bool, true, false, cond}
+use Prim.Native.Nat.{ℕ, ◌+◌, ◌-◌, ◌*◌, ◌/◌, ◌≤◌}
+use mathlib.Core.Bool.{Bool, false}
 use mathlib.Core.List.{List, ◌∷◌}
 use mathlib.Core.Path.{◌≡◌, refl, sym, ap, ◌∙◌, subst}
 use native.Mathlib.Omega.{arith}
-use lib.ListN.{length, take, drop, length-drop}
+use lib.ListN.{length, drop, length-drop}
 use lib.Seq.{length-take-le}
 use lib.Ieee.{Float, nan}
-use Rattle.constants.specs.Rate.{four}
-use Rattle.le_read.specs.LeBytes.{le_at, read_at, inside}
+use Rattle.constants.specs.declared.SamplesPerPulse.{SamplesPerPulse}
+use Rattle.constants.specs.Setting.{per_pulse}
 use Rattle.pulse_shape.specs.Prototype.{mode_s_prototype, mode_ac_prototype}
 use Rattle.pulse_shape.proofs.Whole.{length_prototype}
 use Rattle.draw.specs.Fault.{first_fault}
@@ -30,10 +29,10 @@ use Rattle.run_call.specs.StateGenerator.{filters_of, gen_of}
 use Rattle.run_call.specs.Given.{stop_given}
 use Rattle.run_open_checks.specs.Opening as Opening
 use Rattle.run_open_checks.proofs.WhatIsOpened.{opened_run_in_range, opened_first}
-use Rattle.tape_sections.specs.Sections.{section_at}
+use Rattle.tape_sections.specs.Sections.{draws_offset, tape_sps}
 use Rattle.tape_head.specs.declared.Beginning.{Beginning}
-use Rattle.tape_head.specs.Head.{run_of, noise_then, fault_then, draws_then, opened_then, taps_s, taps_ac, settings_bytes, opened_from, early_of, early_then, left_then, beginning_of, head_of}
-use Rattle.tape_head.proofs.Within.{head_within}
+use Rattle.tape_head.specs.Head.{run_of, taps_s, taps_ac, settings_bytes, opened_from, left_then, head_of}
+use Rattle.tape_head.proofs.Within.{draw_bytes, Shown, head_shown, setting_begun}
 use Rattle.tape_verdict.specs.Verdict.{start_of}
 use Rattle.tape_theory.specs.Fed.{Held, Chunk, begun, fed_all, samples_fed}
 use Rattle.tape_theory.specs.PlainTape.{plain_ending, plain_text, fed_ending, fed_text, Cut, noise_in, FedCut, PlainTape}
@@ -41,112 +40,96 @@ use Rattle.tape_theory.proofs.FedCall.{Tape, standing}
 use Rattle.tape_theory.proofs.FedPlain.{fed_ending_lem, fed_text_lem}
 use Rattle.tape_theory.proofs.FedSamples.{fed_samples}
 
-module _ (tape : List ℕ) (lent : Opening.OpenBuffers) where
-  -- the bytes of n draws
-  abbrev draw_bytes : ℕ → List ℕ
-  draw_bytes n = take (65 * n) (drop 12139 tape)
+-- n draws that lie on a tape from a on
+ahead : (a n l : ℕ) → a + 65 * n + 4 ≤ l → 65 * n ≤ l - a
+ahead a n l h = omega arith
 
-  -- ---- what a head that begins a run has shown: opening answers that run, and no draw is at fault
-  Begins : (Result Beginning Refusal) → Type 0
-  Begins (Ok b) = (opened_from four tape lent ≡ Ok b.state) × (first_fault b.state.rates b.state.distributions (draw_bytes b.draws) ≡ None)
-  Begins (Err q) = Unit {0}
+module _ (tape : List ℕ) (lent : Opening.OpenBuffers) (s : State) (n count : ℕ) (run : (head_of tape lent).head ≡ run_of s n count) where
+  -- the samples per pulse of the run, which are those by which the tape is read
+  abbrev sps : ℕ
+  sps = per_pulse s.setting
 
-  module _ (s : State) (opens : opened_from four tape lent ≡ Ok s) where
-    fault_begins : (n : ℕ) (f : (Option (ℕ × ℕ))) → first_fault s.rates s.distributions (draw_bytes n) ≡ f → Begins (fault_then four tape s n f)
-    unfolding fault_then noise_then read_at Begins
-    fault_begins n None e = go (inside 4 tape (12139 + 65 * n))
-      where
-        go : (b : Bool) → Begins (cond b (run_of s n (le_at 4 tape (12139 + 65 * n))) (Err TapeRefusal))
-        go true = (opens, e)
-        go false = tt
-    fault_begins n (Some (k, field)) e = tt
+  abbrev mode_s : List Float
+  mode_s = mode_s_prototype sps (taps_s sps tape)
 
-    draws_begins : (q : (Option ℕ)) → Begins (draws_then four tape s q)
-    unfolding draws_then Begins
-    draws_begins (Some n) = fault_begins n (first_fault s.rates s.distributions (draw_bytes n)) refl
-    draws_begins None = tt
+  abbrev mode_ac : List Float
+  mode_ac = mode_ac_prototype sps (taps_ac sps tape)
 
-  opened_begins : (o : (Result State Refusal)) → opened_from four tape lent ≡ o → Begins (opened_then four tape o)
-  unfolding opened_then Begins
-  opened_begins (Ok s) e = draws_begins s e (section_at tape 12135 0 400 65)
-  opened_begins (Err refusal) e = tt
+  abbrev drawn : List ℕ
+  drawn = draw_bytes sps tape n
 
-  early_begins : (e : (Result (Unit {0}) Refusal)) → Begins (early_then four tape lent e)
-  unfolding early_then Begins
-  early_begins (Ok u) = opened_begins (opened_from four tape lent) refl
-  early_begins (Err q) = tt
+  abbrev G : Generator
+  G = gen_of s mode_s mode_ac
 
-  module _ (s : State) (n count : ℕ) (run : (head_of four tape lent).head ≡ run_of s n count) where
-    abbrev mode_s : List Float
-    mode_s = mode_s_prototype four (taps_s four tape)
+  -- what a head that begins a run has shown
+  shown : Shown sps tape (opened_from sps tape lent) (record { state = s; draws = n; noise = count })
+  shown =
+      subst (λ (z : SamplesPerPulse). Shown (per_pulse z) tape (opened_from (per_pulse z) tape lent) (record { state = s; draws = n; noise = count }))
+      (sym (setting_begun tape lent s n count run)) (head_shown tape lent s n count run)
 
-    abbrev mode_ac : List Float
-    mode_ac = mode_ac_prototype four (taps_ac four tape)
+  opens : Opening.opened_of (taps_s sps tape) (taps_ac sps tape) (settings_bytes tape) lent ≡ Ok s
+  unfolding opened_from
+  opens = shown.opens
 
-    abbrev G : Generator
-    G = gen_of s mode_s mode_ac
+  clean : Bench.first_fault G 0 (Bench.draws_of G drawn) ≡ None
+  unfolding first_fault fault_read
+  clean = sym (fault_same s.rates s.distributions (length drawn / 65) 0 drawn) ∙ ap fault_read shown.clean
 
-    shown : (opened_from four tape lent ≡ Ok s) × (first_fault s.rates s.distributions (draw_bytes n) ≡ None)
-    unfolding head_of beginning_of Begins
-    shown = subst Begins run (early_begins (early_of four tape))
+  draws_length : length drawn ≡ 65 * n
+  draws_length =
+      length-take-le (65 * n) (drop (draws_offset sps + 4) tape)
+      (subst (λ (k : ℕ). 65 * n ≤ k) (sym (length-drop (draws_offset sps + 4) tape)) (ahead (draws_offset sps + 4) n (length tape) shown.within))
 
-    opens : Opening.opened_of four (taps_s four tape) (taps_ac four tape) (settings_bytes four tape) lent ≡ Ok s
-    unfolding opened_from
-    opens = shown.0
+  laws : Laws G
+  laws =
+      let r = opened_run_in_range (taps_s sps tape) (taps_ac sps tape) (settings_bytes tape) lent s opens in
+      instance_laws (filters_of s mode_s mode_ac) r.0 s.total r.1
 
-    clean : Bench.first_fault G 0 (Bench.draws_of G (draw_bytes n)) ≡ None
-    unfolding first_fault fault_read
-    clean = sym (fault_same s.rates s.distributions (length (draw_bytes n) / 65) 0 (draw_bytes n)) ∙ ap fault_read shown.1
+  memory_is : (head_of tape lent).left.memory ≡ (Opening.left_by (taps_s sps tape) (taps_ac sps tape) (Ok s) lent).memory
+  unfolding head_of left_then
+  memory_is = ap (λ (b : (Result Beginning Refusal)). (left_then tape lent b).memory) run
 
-    draws_length : length (draw_bytes n) ≡ 65 * n
-    draws_length = length-take-le (65 * n) (drop 12139 tape) (omega (arith, (head_within tape lent s n count run).1, length-drop 12139 tape))
+  -- with these record bytes given for it
+  abbrev lent_tape : (records : List ℕ) → 66 * (length drawn / 65) ≤ length records → Tape
+  lent_tape records room =
+      record {
+        state = s;
+        mode_s = mode_s;
+        mode_ac = mode_ac;
+        length_s = length_prototype sps _ (taps_s sps tape);
+        length_ac = length_prototype sps _ (taps_ac sps tape);
+        laws = laws;
+        draws = drawn;
+        whole = omega (arith, draws_length);
+        few = omega (arith, draws_length, shown.few);
+        room = records;
+        rooms = room;
+      }
 
-    laws : Laws G
-    laws =
-        let r = opened_run_in_range (taps_s four tape) (taps_ac four tape) (settings_bytes four tape) lent s opens in
-        instance_laws (filters_of s mode_s mode_ac) r.0 s.total r.1
+  start : (records : List ℕ) (room : 66 * (length drawn / 65) ≤ length records) → begun s (head_of tape lent).left.memory records ≡ standing (lent_tape records room) (Machine.opened G nan) (Bench.bench0 G) Bench.wants_noise
+  unfolding begun start_of stop_given
+  start records room =
+      ap (λ (m : List Float). record { feed = start_of s; memory = m; records = records }) memory_is
+      ∙ ap (λ (z : Machine.State G nan). standing (lent_tape records room) z (Bench.bench0 G) Bench.wants_noise)
+      (opened_first (taps_s sps tape) (taps_ac sps tape) (settings_bytes tape) lent s opens)
 
-    memory_is : (head_of four tape lent).left.memory ≡ (Opening.left_by four (taps_s four tape) (taps_ac four tape) (Ok s) lent).memory
-    unfolding head_of left_then
-    memory_is = ap (λ (b : (Result Beginning Refusal)). (left_then four tape lent b).memory) run
+  plain_own : PlainTape s mode_s mode_ac (head_of tape lent).left.memory drawn
+  plain_own = record {
+    ending = λ records room c cs cut left.
+        ap (λ (f : Held). fed_ending left (fed_all mode_s mode_ac drawn f (c ∷ cs))) (start records room) ∙ fed_ending_lem (lent_tape records room) clean c cs cut left;
+    text = λ records room c cs cut left.
+        ap (λ (f : Held). fed_text left (fed_all mode_s mode_ac drawn f (c ∷ cs))) (start records room) ∙ fed_text_lem (lent_tape records room) clean c cs cut left;
+    samples = λ records room c cs cut.
+        subst (λ (f : Held). Prefix (samples_fed mode_s mode_ac drawn f (c ∷ cs)) (plain_output G (Bench.draws_of G drawn) (Bench.pairs (noise_in (c ∷ cs))))) (sym (start records room)) (fed_samples (lent_tape records room) clean c cs cut).0;
+    all_samples_lem = λ records room c cs cut done.
+        ap (λ (f : Held). samples_fed mode_s mode_ac drawn f (c ∷ cs)) (start records room)
+        ∙ (fed_samples (lent_tape records room) clean c cs cut).1 (sym (ap (λ (f : Held). (fed_all mode_s mode_ac drawn f (c ∷ cs)).feed.answer) (start records room)) ∙ done);
+  }
 
-    -- with these record bytes given for it
-    abbrev lent_tape : (records : List ℕ) → 66 * (length (draw_bytes n) / 65) ≤ length records → Tape
-    lent_tape records room =
-        let h = head_within tape lent s n count run in
-        record {
-          state = s;
-          mode_s = mode_s;
-          mode_ac = mode_ac;
-          length_s = length_prototype four _ (taps_s four tape);
-          length_ac = length_prototype four _ (taps_ac four tape);
-          laws = laws;
-          draws = draw_bytes n;
-          whole = omega (arith, draws_length);
-          few = omega (arith, draws_length, h.0);
-          room = records;
-          rooms = room;
-        }
-
-    start : (records : List ℕ) (room : 66 * (length (draw_bytes n) / 65) ≤ length records) → begun s (head_of four tape lent).left.memory records ≡ standing (lent_tape records room) (Machine.opened G nan) (Bench.bench0 G) Bench.wants_noise
-    unfolding begun start_of stop_given
-    start records room =
-        ap (λ (m : List Float). record { feed = start_of s; memory = m; records = records }) memory_is
-        ∙ ap (λ (z : Machine.State G nan). standing (lent_tape records room) z (Bench.bench0 G) Bench.wants_noise)
-        (opened_first (taps_s four tape) (taps_ac four tape) (settings_bytes four tape) lent s opens)
-
-    pub plain_tape : PlainTape s mode_s mode_ac (head_of four tape lent).left.memory (draw_bytes n)
-    plain_tape = record {
-      ending = λ records room c cs cut left.
-          ap (λ (f : Held). fed_ending left (fed_all mode_s mode_ac (draw_bytes n) f (c ∷ cs))) (start records room) ∙ fed_ending_lem (lent_tape records room) clean c cs cut left;
-      text = λ records room c cs cut left.
-          ap (λ (f : Held). fed_text left (fed_all mode_s mode_ac (draw_bytes n) f (c ∷ cs))) (start records room) ∙ fed_text_lem (lent_tape records room) clean c cs cut left;
-      samples = λ records room c cs cut.
-          subst (λ (f : Held). Prefix (samples_fed mode_s mode_ac (draw_bytes n) f (c ∷ cs)) (plain_output G (Bench.draws_of G (draw_bytes n)) (Bench.pairs (noise_in (c ∷ cs))))) (sym (start records room)) (fed_samples (lent_tape records room) clean c cs cut).0;
-      all_samples_lem = λ records room c cs cut done.
-          ap (λ (f : Held). samples_fed mode_s mode_ac (draw_bytes n) f (c ∷ cs)) (start records room)
-          ∙ (fed_samples (lent_tape records room) clean c cs cut).1 (sym (ap (λ (f : Held). (fed_all mode_s mode_ac (draw_bytes n) f (c ∷ cs)).feed.answer) (start records room)) ∙ done);
-    }
+  pub plain_tape : PlainTape s (mode_s_prototype (tape_sps tape) (taps_s (tape_sps tape) tape)) (mode_ac_prototype (tape_sps tape) (taps_ac (tape_sps tape) tape)) (head_of tape lent).left.memory (draw_bytes (tape_sps tape) tape n)
+  plain_tape =
+      subst (λ (z : SamplesPerPulse). PlainTape s (mode_s_prototype (per_pulse z) (taps_s (per_pulse z) tape)) (mode_ac_prototype (per_pulse z) (taps_ac (per_pulse z) tape)) (head_of tape lent).left.memory (draw_bytes (per_pulse z) tape n))
+      (setting_begun tape lent s n count run) plain_own
 
 -- ---- so two ways of cutting the same noise print the same text, and give the same samples where the run is Done both ways
 module _ (s : State) (mode_s mode_ac memory : List Float) (draws : List ℕ) (plain : PlainTape s mode_s mode_ac memory draws)

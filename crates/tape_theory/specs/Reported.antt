@@ -1,13 +1,12 @@
 -- What may be reported of a tape that is read from somewhere, with record bytes given before and left after (`Reported`, the contract of `tape_run::run_tape`); and the same in the plain run's terms (`PlainlyReported`).
 use Rattle.std.specs.Prelude.{ℕ, ◌*◌, Bool, cond, ◌≡◌, Result, Err, List, [], length, Float}
-use Rattle.constants.specs.Rate.{four}
 use Rattle.refusals.specs.Number.{number_of}
 use Rattle.refusals.specs.declared.Refusal.{Refusal}
 use Rattle.pulse_shape.specs.Prototype.{mode_s_prototype, mode_ac_prototype}
 use Rattle.run_theory.specs.PlainBench.{draws_of}
 use Rattle.run_call.specs.declared.State.{State}
 use Rattle.run_call.specs.StateGenerator.{gen_of}
-use Rattle.tape_sections.specs.Sections.{most_draws}
+use Rattle.tape_sections.specs.Sections.{most_draws, tape_setting, tape_sps}
 use Rattle.tape_text.specs.Text.{run_text, refused_text}
 use Rattle.tape_head.specs.declared.Beginning.{Beginning}
 use Rattle.tape_head.specs.Head.{run_of, taps_s, taps_ac, head_of}
@@ -22,18 +21,18 @@ use Rattle.tape_theory.specs.TapeText.{lent_by_program, draws_section}
 module _ (tape : List ℕ) where
   -- the prototypes of a tape's filters
   abbrev pub mode_s_of : List Float
-  mode_s_of = mode_s_prototype four (taps_s four tape)
+  mode_s_of = mode_s_prototype (tape_sps tape) (taps_s (tape_sps tape) tape)
 
   abbrev pub mode_ac_of : List Float
-  mode_ac_of = mode_ac_prototype four (taps_ac four tape)
+  mode_ac_of = mode_ac_prototype (tape_sps tape) (taps_ac (tape_sps tape) tape)
 
   -- its head, opened with what the program lends
   abbrev pub head_read : Result Beginning Refusal
-  head_read = (head_of four tape lent_by_program).head
+  head_read = (head_of tape (lent_by_program (tape_setting tape))).head
 
   -- working memory behind its head
   abbrev pub memory_left : List Float
-  memory_left = (head_of four tape lent_by_program).left.memory
+  memory_left = (head_of tape (lent_by_program (tape_setting tape))).left.memory
 
 -- the bytes given for records: 66 for each draw that a tape may have
 abbrev pub records_lent : ℕ

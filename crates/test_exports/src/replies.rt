@@ -76,7 +76,7 @@ pub extern "C" fn port_make(
 }
 
 // Kind 0 short, 1 long, else Mode A/C.
-// By hand, since the numbers are the specification's, of which not every one is a case.
+// By hand, since the kinds are `message`'s and the numbers this interface's own.
 #[tactic(auto, unfolding(crate::specs::Replies::kind_numbered))]
 pub fn kind_numbered(n: u8) -> ReplyKind
     ensures { result ≡ kind_numbered n }

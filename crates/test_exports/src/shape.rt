@@ -5,9 +5,12 @@ ghost use Rattle.pulse_shape.specs.Prototype.{mode_s_prototype, mode_ac_prototyp
 ghost use Rattle.pulse_shape.specs.GroupDelay.{group_delay, mode_ac_group_delay};
 ghost use Rattle.test_exports.specs.Shape.{delay_number};
 
-use constants::{Mode, PROTOTYPE_LEN};
+use constants::{Mode, SamplesPerPulse};
 
-#[tactic(auto, unfolding(constants::specs::Setting::by_mode))]
+// Values of a prototype at 4 samples per pulse.
+pub const PROTOTYPE_LEN: usize = 1792;
+
+#[tactic(auto, unfolding(constants::specs::Setting::by_mode, pulse_shape::specs::Prototype::prototype_of))]
 #[unsafe(no_mangle)]
 pub extern "C" fn port_prototypes(
     taps_s: &[f32],
@@ -17,8 +20,8 @@ pub extern "C" fn port_prototypes(
 )
     ensures { (out_s.new ≡ mode_s_prototype four taps_s.now) × (out_ac.new ≡ mode_ac_prototype four taps_ac.now) }
 {
-    *out_s = pulse_shape::prototype(Mode::S, taps_s);
-    *out_ac = pulse_shape::prototype(Mode::Ac, taps_ac);
+    pulse_shape::prototype(SamplesPerPulse::Four, Mode::S, taps_s, out_s);
+    pulse_shape::prototype(SamplesPerPulse::Four, Mode::Ac, taps_ac, out_ac);
 }
 
 #[tactic(auto, unfolding(crate::specs::Shape::delay_number))]
@@ -32,7 +35,7 @@ fn delay_number(crossing: Option<f64>) -> f64
 #[tactic(auto, unfolding(constants::specs::Setting::by_mode))]
 #[unsafe(no_mangle)]
 pub extern "C" fn port_group_delays(level: f32, prototype: &[f32], out: &mut [f64; 2])
-    ensures { out.new ≡ delay_number (group_delay four level prototype.now) ∷ (delay_number (mode_ac_group_delay four level prototype.now) ∷ []) }
+    ensures { out.new ≡ delay_number (group_delay level prototype.now) ∷ (delay_number (mode_ac_group_delay level prototype.now) ∷ []) }
 {
     *out = [
         delay_number(pulse_group_delay::group_delay(Mode::S, level, prototype)),

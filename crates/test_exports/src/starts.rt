@@ -82,7 +82,7 @@ pub extern "C" fn port_drawn(
         second,
     };
     let none = 0.0 / 0.0;
-    let offset = distributions::carrier_offset(asked).map_or(
+    let offset = distributions::carrier_offset(SamplesPerPulse::Four, asked).map_or(
         none,
         |d| draw_parameters::offset_of(d, carrier),
     );

@@ -5,7 +5,7 @@ ghost use Rattle.pulse_shape.specs.Prototype.{mode_s_prototype, mode_ac_prototyp
 ghost use Rattle.pulse_shape.specs.GroupDelay.{group_delay, mode_ac_group_delay};
 ghost use Rattle.test_exports.specs.Shape.{delay_number};
 
-use constants::PROTOTYPE_LEN;
+use test_exports::shape::PROTOTYPE_LEN;
 
 #[unsafe(no_mangle)]
 pub extern "C" fn port_prototypes(
@@ -22,7 +22,7 @@ pub extern "C" fn port_prototypes(
 // The delays of a prototype as one of Mode S and as one of Mode A/C, or -1.0 where nothing crosses the level.
 #[unsafe(no_mangle)]
 pub extern "C" fn port_group_delays(level: f32, prototype: &[f32], out: &mut [f64; 2])
-    ensures { out.new ≡ delay_number (group_delay four level prototype.now) ∷ (delay_number (mode_ac_group_delay four level prototype.now) ∷ []) }
+    ensures { out.new ≡ delay_number (group_delay level prototype.now) ∷ (delay_number (mode_ac_group_delay level prototype.now) ∷ []) }
 {
     test_exports::shape::port_group_delays(level, prototype, out);
 }

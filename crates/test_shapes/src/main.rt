@@ -149,8 +149,10 @@ fn both(prototype: &[f32]) {
 
 fn main() {
     let taps = lowpass(3);
-    let mode_s = pulse_shape::prototype(Mode::S, &taps[..1486]);
+    let mut mode_s = [0.0; 1792];
+    pulse_shape::prototype(SamplesPerPulse::Four, Mode::S, &taps[..1486], &mut mode_s);
     both(&mode_s);
-    let mode_ac = pulse_shape::prototype(Mode::Ac, &taps);
+    let mut mode_ac = [0.0; 1792];
+    pulse_shape::prototype(SamplesPerPulse::Four, Mode::Ac, &taps, &mut mode_ac);
     both(&mode_ac);
 }

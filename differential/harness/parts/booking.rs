@@ -64,12 +64,16 @@ impl Asked {
     }
 
     fn walked(&self, mut time: f64) -> Result<Answer, Refusal> {
-        if self.settings.len() != SETTINGS_BYTES || self.draws.len() % DRAW_BYTES != 0 {
+        if self.settings.len() != SETTINGS_BYTES {
             return Err(refusal(9));
         }
         let s = Settings::from_bytes(&self.settings);
+        rules::samples_per_pulse(&s)?;
+        if self.draws.len() % DRAW_BYTES != 0 {
+            return Err(refusal(9));
+        }
         rules::settings(&s)?;
-        rules::taps(&self.taps_s, &self.taps_ac)?;
+        rules::taps(&s, &self.taps_s, &self.taps_ac)?;
         let taps = [&self.taps_s[..], &self.taps_ac[..]].concat();
         let [a, b] = judge::prototypes(&taps, s.trigger_level);
         rules::prototypes([&a, &b], s.trigger_level)?;
@@ -82,7 +86,7 @@ impl Asked {
             time += d.gap;
             let start = open::first_sample_index(&judge::config(d, time, distributions));
             answer.taken += 1;
-            if start >= 0 && start as u64 >= total.saturating_sub(1094) {
+            if start >= 0 && start as u64 >= total.saturating_sub(HERE.longest_reply as u64) {
                 (answer.ended, answer.draw) = (1, answer.taken - 1);
                 return Ok(answer);
             }
@@ -98,18 +102,18 @@ fn flat(b: BookingResult) -> Answer {
     Answer { samples, noise, records, taken, ended, draw, time: time.to_bits(), refusal, value, field }
 }
 
-pub fn compare(t: &mut Tally, r: &mut Random, tapes: u64) {
+pub fn compare(t: &mut Tally, r: &mut Random, tapes: u64, wanted: &dyn Fn(usize) -> bool) {
     fixed(t);
     for base in [make::worked(), make::worked_drawn()] {
-        for d in damage::some(&base, &|_| true) {
+        for d in damage::some(&base, wanted) {
             if let Some(tape) = &d.tape {
                 asked(t, "bookings at each limit", &d.what, &Asked::of(tape));
             }
         }
         lengths(t, &base);
     }
-    for start in [6905, 6906] {
-        asked(t, "bookings at each limit", &format!("start {start} of 8,000"), &Asked::of(&make::one_reply_at(start)));
+    for start in [make::LAST_START, make::LAST_START + 1] {
+        asked(t, "bookings at each limit", &format!("start {start} of a millisecond"), &Asked::of(&make::one_reply_at(start)));
     }
     for index in 0..tapes {
         let tape = make::tape(r);
@@ -214,7 +218,7 @@ fn finished(t: &mut Tally, r: &mut Random, seed: &str, tape: &Tape) {
 /// Settings, taps and draws of other lengths.
 fn lengths(t: &mut Tally, base: &Tape) {
     let right = Asked::of(base);
-    for n in [0, 1, 119, 122, 124] {
+    for n in [0, 1, 119, 123, 125] {
         let mut a = right.clone();
         a.settings.resize(n, 0);
         asked(t, "bookings with other lengths", &format!("settings of {n} bytes"), &a);
@@ -227,8 +231,13 @@ fn lengths(t: &mut Tally, base: &Tape) {
         a.settings[8..12].copy_from_slice(&1_000_000_000u32.to_le_bytes());
         a.taps_s.pop();
         asked(t, "bookings with other lengths", &format!("draws of {n} bytes, a nanosecond too many"), &a);
+        // 15 comes before all of them.
+        a.settings[SETTINGS_BYTES - 1] = 5;
+        asked(t, "bookings with other lengths", &format!("draws of {n} bytes, 5 samples per pulse"), &a);
     }
-    for (s, ac) in [(0, 0), (1485, 1515), (1487, 1515), (1486, 1514), (1486, 1516), (1515, 1486)] {
+    let (m, n) = (MODE_S_TAPS, MODE_AC_TAPS);
+    let other = (THERE.mode_s_taps, THERE.mode_ac_taps);
+    for (s, ac) in [(0, 0), (m - 1, n), (m + 1, n), (m, n - 1), (m, n + 1), (n, m), other] {
         let mut a = right.clone();
         a.taps_s.resize(s, 0.0);
         a.taps_ac.resize(ac, 0.0);
@@ -243,7 +252,8 @@ fn fixed(t: &mut Tally) {
         t.alike("worked bookings", what, expected, Asked::of(tape).ours());
         asked(t, "bookings at each limit", what, &Asked::of(tape));
     };
-    let booked = Answer { samples: 8000, noise: 16000, records: 2, taken: 3, ended: 1, draw: 2, ..Answer::default() };
+    let samples = make::WORKED_SAMPLES as u64;
+    let booked = Answer { samples, noise: 2 * samples, records: 2, taken: 3, ended: 1, draw: 2, ..Answer::default() };
     hold("worked", &worked, booked);
     let mut tape = worked.clone();
     tape.draws.push(Draw { kind: 9, ..worked.draws[0] });

@@ -7,6 +7,9 @@ use crate::calls::{OPENING_MARK, OUTPUT_MARK, RECORDS_MARK};
 use crate::tape::*;
 use more1090_generator::{STOP_DONE, RunResult, Run, State};
 
+/// A stored state: its last number is the samples per pulse.
+const STATE_BYTES: usize = size_of::<State>();
+
 /// A run that the port opened, with the memory lent to it.
 pub struct Port {
     state: State,
@@ -148,10 +151,12 @@ pub fn run_whole(tape: &Tape, samples: usize, stored: bool) -> (Vec<f32>, Vec<u8
     all
 }
 
-/// The run that was stored as these bytes; none where bytes of another length are taken for one.
+/// The run that was stored as these bytes; none where bytes of another length, or with the other setting, are taken for one.
 fn taken_up(bytes: &[u8]) -> Option<Run> {
     let longer = [bytes, &[0]].concat();
-    let others = [&[], &bytes[1..], &longer];
+    let mut other = bytes.to_vec();
+    other[STATE_BYTES - 8] = OTHER;
+    let others = [&[], &bytes[1..], &longer, &other];
     let taken = others.iter().any(|b| Run::restore(b).is_some());
     Run::restore(bytes).filter(|_| !taken)
 }

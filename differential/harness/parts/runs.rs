@@ -1,7 +1,7 @@
 //! The crate `more1090_generator`: whole runs against the reference, and lists of run calls against the plain bench, every
 //! answer and every lent buffer whole, so that bytes which must stay unchanged are compared too.
 
-use crate::bench::{Lengths, RIGHT_LENGTHS};
+use crate::bench::{Lengths, RIGHT_LENGTHS, Stop};
 use crate::calls::{self, List, SETTINGS_LENGTHS};
 use crate::damage;
 use crate::parts::port::{self, Port};
@@ -10,9 +10,9 @@ use crate::tally::{Tally, bytes_of, first_difference};
 use crate::tape::*;
 use crate::{judge, make};
 
-pub fn compare(t: &mut Tally, r: &mut Random, tapes: u64) {
+pub fn compare(t: &mut Tally, r: &mut Random, tapes: u64, wanted: &dyn Fn(usize) -> bool) {
     for base in [make::worked(), make::worked_drawn()] {
-        for d in damage::some(&base, &|_| true) {
+        for d in damage::some(&base, wanted) {
             if let Some(tape) = &d.tape {
                 limits(t, &d.what, tape);
             }
@@ -22,10 +22,11 @@ pub fn compare(t: &mut Tally, r: &mut Random, tapes: u64) {
         }
     }
     added(t);
-    for start in [6905, 6906] {
+    for start in [make::LAST_START, make::LAST_START + 1] {
         let tape = make::one_reply_at(start);
-        whole(t, r, &format!("start {start} of 8,000"), &tape);
+        whole(t, r, &format!("start {start} of a millisecond"), &tape);
     }
+    held_back(t);
     for index in 0..tapes {
         let seed = format!("run {index}");
         let tape = make::tape(r);
@@ -53,14 +54,28 @@ fn added(t: &mut Tally) {
     let (mode_s, mode_ac) = tape.taps.split_at(MODE_S_TAPS);
     let mut l = List::open(&tape.settings.to_bytes(), mode_s, mode_ac, RIGHT_LENGTHS);
     let mut counts = |draw: usize, noise: &[f32]| {
-        let lent = calls::lend_all(&tape.draws[draw..=draw], noise, 8000);
+        let lent = calls::lend_all(&tape.draws[draw..=draw], noise, make::WORKED_SAMPLES);
         l.call(&lent).map(|ran| (ran.counts.taken, ran.counts.samples, ran.counts.added))
     };
     let found = [counts(0, &[]), counts(2, &tape.noise)];
-    let right = found == [Ok((1, 0, 536)), Ok((1, 8000, 0))];
+    let right = found == [Ok((1, 0, 134 * u128::from(SPP))), Ok((1, make::WORKED_SAMPLES, 0))];
     let wrong = (!right).then(|| format!("taken, written and added: {found:?}"));
     t.compare("a reply's count and its call", "gap 20.0", &l.input, wrong);
     list(t, "a reply's count and its call", "gap 20.0", &l);
+}
+
+/// The samples before the start of a draw that has no room for its record: all but those held back, 32 or 64.
+fn held_back(t: &mut Tally) {
+    let tape = make::one_reply_at(100);
+    let (mode_s, mode_ac) = tape.taps.split_at(MODE_S_TAPS);
+    let mut l = List::open(&tape.settings.to_bytes(), mode_s, mode_ac, RIGHT_LENGTHS);
+    let mut lent = calls::lend_all(&tape.draws, &tape.noise, make::WORKED_SAMPLES);
+    lent.records = RECORD_BYTES - 1;
+    let found = l.call(&lent).map(|ran| (ran.counts.samples, ran.counts.stop));
+    let right = found == Ok((100 - 8 * usize::from(SPP), Stop::RecordsFull));
+    let wrong = (!right).then(|| format!("written and stop: {found:?}"));
+    t.compare("samples held back", "start 100", &l.input, wrong);
+    list(t, "samples held back", "start 100", &l);
 }
 
 /// A value at a limit: opened, and all of it lent to one call.
@@ -74,16 +89,17 @@ fn limits(t: &mut Tally, what: &str, tape: &Tape) {
     list(t, "values at each limit", what, &l);
 }
 
-/// Openings with settings of n bytes: as they are, with refusals 1 and 4 to be met in them, and with memory that is too short.
+/// Openings with settings of n bytes: as they are, with refusals 1, 4 and 15 to be met in them, and with memory that is too short.
 fn settings_of(t: &mut Tally, n: usize, tape: &Tape) {
     let (mode_s, mode_ac) = tape.taps.split_at(MODE_S_TAPS);
     let mut short = RIGHT_LENGTHS;
     short.memory -= 1;
-    let spoilt: [(&str, fn(&mut Settings), Lengths); 4] = [
+    let spoilt: [(&str, fn(&mut Settings), Lengths); 5] = [
         ("settings", |_| {}, RIGHT_LENGTHS),
         ("nanoseconds", |s| s.nanoseconds = 1_000_000_000, RIGHT_LENGTHS),
         ("clock", |s| s.clock.kind = 2, RIGHT_LENGTHS),
         ("memory", |s| s.nanoseconds = 1_000_000_000, short),
+        ("samples per pulse, memory", |s| s.samples_per_pulse = 5, short),
     ];
     for (what, spoil, lent) in spoilt {
         let mut s = tape.settings;

@@ -43,23 +43,22 @@ impl Lent {
 
     /// The refusal by the rules alone, or the settings and the draw.
     fn refusal(&self) -> Result<(Settings, Draw), Refusal> {
-        let odd = self.output % 2 == 1 || self.draw.len() != DRAW_BYTES;
-        if self.settings.len() != SETTINGS_BYTES || odd {
+        if self.settings.len() != SETTINGS_BYTES {
             return Err(refusal(9));
         }
         let s = Settings::from_bytes(&self.settings);
-        if self.output == 0 && s.samples() > 0 {
+        rules::samples_per_pulse(&s)?;
+        let odd = self.output % 2 == 1 || self.draw.len() != DRAW_BYTES;
+        if odd || (self.output == 0 && s.samples() > 0) {
             return Err(refusal(9));
         }
-        if s.nanoseconds >= 1_000_000_000 || s.samples() > 1 << 52 {
-            return Err(refusal(1));
-        }
+        rules::duration(&s)?;
         let numbers = 2 * s.samples();
         if self.output as u128 != numbers || self.noise.len() as u128 != numbers {
             return Err(refusal(12));
         }
         rules::settings(&s)?;
-        rules::taps(&self.taps_s, &self.taps_ac)?;
+        rules::taps(&s, &self.taps_s, &self.taps_ac)?;
         let taps = [&self.taps_s[..], &self.taps_ac[..]].concat();
         let [a, b] = judge::prototypes(&taps, s.trigger_level);
         rules::prototypes([&a, &b], s.trigger_level)?;
@@ -108,7 +107,7 @@ fn one(t: &mut Tally, seed: &str, l: &Lent) {
                 _ if made.is_none() => "single: the reference panics",
                 ..0 => "single: starts before sample 0",
                 _ if start >= end => "single: starts past the end",
-                _ if start + 1094 >= end => "single: may be trimmed at the end",
+                _ if start + HERE.longest_reply as i64 >= end => "single: may be trimmed at the end",
                 _ => "single: whole",
             });
             // Where the reference panics, the start is far past the end: noise alone.
@@ -130,18 +129,18 @@ fn random(r: &mut Random) -> (Tape, Draw) {
     let samples = match r.below(6) {
         0 => r.pick(&[0, 1, 2, 3]),
         1 => r.between(1, 40),
-        2 => r.between(1000, 1200),
-        _ => r.between(100, 2500),
+        2 => r.between(HERE.longest_reply - 94, HERE.longest_reply + 106),
+        _ => r.between(100, HERE.longest_reply + 1406),
     };
     let settings = make::settings(r, samples);
     let taps = make::taps(r, settings.trigger_level);
     let tape = Tape { settings, taps, draws: Vec::new(), noise: noise(r, 2 * samples) };
     let mut d = make::fields(r, &settings);
     d.gap = match r.below(8) {
-        0 => r.pick(&[0.0, -0.0, 0.5, 1.0, 27.9, 31.0]),
-        1 => r.unit() * 40.0,
-        2 => samples as f64 + r.within(40.0),
-        3 => (samples as f64 - r.unit() * 1200.0).abs(),
+        0 => r.pick(&[0.0, -0.0, 0.5, 1.0, 27.9, 31.0, 55.9, 62.0]),
+        1 => r.unit() * 10.0 * f64::from(SPP),
+        2 => samples as f64 + r.within(10.0 * f64::from(SPP)),
+        3 => (samples as f64 - r.unit() * (HERE.longest_reply + 106) as f64).abs(),
         4 => r.pick(&[1e6, 4503599627370496.0, 9223372036854775808.0, FIRST_PANIC, 1e300, f64::MAX]),
         _ => r.unit() * (samples + 40) as f64,
     };
@@ -157,9 +156,9 @@ fn noise(r: &mut Random, n: usize) -> Vec<f32> {
 
 /// Each length off by one and by two, and every value at its limits, of a stretch that is accepted and in which the reply of
 /// the worked tape begins.
-fn limits(t: &mut Tally) {
+fn limits(t: &mut Tally, wanted: &dyn Fn(usize) -> bool) {
     let mut base = make::worked();
-    base.settings.nanoseconds = 125 * 150;
+    base.settings.nanoseconds = make::nanoseconds(150) as u32;
     base.noise.truncate(300);
     let d = base.draws[0].clone();
     let numbers = base.noise.len();
@@ -173,10 +172,14 @@ fn limits(t: &mut Tally) {
         l.settings[12..20].copy_from_slice(&f64::NAN.to_le_bytes());
         one(t, &format!("noise {what}, a rate at fault"), &l);
         l.settings[12..20].copy_from_slice(&1f64.to_le_bytes());
-        l.settings[SETTINGS_BYTES - 4..].copy_from_slice(&f32::NAN.to_le_bytes());
+        l.settings[SETTINGS_BYTES - 5..SETTINGS_BYTES - 1].copy_from_slice(&f32::NAN.to_le_bytes());
         one(t, &format!("noise {what}, the trigger level at fault"), &l);
         l.output = 1;
         one(t, &format!("noise {what}, odd output"), &l);
+        for n in make::NO_SETTINGS.into_iter().chain([OTHER]) {
+            l.settings[SETTINGS_BYTES - 1] = n;
+            one(t, &format!("noise {what}, odd output, {n} samples per pulse"), &l);
+        }
     }
     for n in [0, 1, 64, 66, 130] {
         let mut l = Lent::of(&base, &d);
@@ -188,7 +191,10 @@ fn limits(t: &mut Tally) {
         l.settings.resize(n, 0);
         one(t, &format!("settings of {n} bytes"), &l);
     }
-    let long = [(0, 1_000_000_000), (1 << 55, 0), (1 << 54, 0), (u64::MAX, u32::MAX), (562_949_953, 421_312_125), (0, 124), (0, 125)];
+    let long = [
+        (0, 1_000_000_000), (1 << 55, 0), (1 << 54, 0), (u64::MAX, u32::MAX), (562_949_953, 421_312_125), (0, 124), (0, 125),
+        (281_474_976, 710_656_063), (0, 62), (0, 63),
+    ];
     for (seconds, nanoseconds) in long {
         for output in [0, 1, 2] {
             for values in [0, 1, 2] {
@@ -200,7 +206,7 @@ fn limits(t: &mut Tally) {
             }
         }
     }
-    for damaged in damage::some(&base, &|_| true) {
+    for damaged in damage::some(&base, wanted) {
         let Some(tape) = damaged.tape else { continue };
         let Some(d) = tape.draws.first() else { continue };
         let mut l = Lent::of(&base, d);
@@ -211,8 +217,8 @@ fn limits(t: &mut Tally) {
     }
 }
 
-pub fn compare(t: &mut Tally, r: &mut Random, tapes: u64) {
-    limits(t);
+pub fn compare(t: &mut Tally, r: &mut Random, tapes: u64, wanted: &dyn Fn(usize) -> bool) {
+    limits(t, wanted);
     for index in 0..tapes {
         let (tape, d) = random(r);
         let mut l = Lent::of(&tape, &d);

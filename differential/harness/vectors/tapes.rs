@@ -3,17 +3,24 @@
 //! reference.
 
 const LEVEL: usize = 123;
-const TAPS_COUNT: usize = 127;
-const TAPS: usize = 131;
-const DRAWS: usize = 12_135;
-const NOISE: usize = 12_139 + 2 * 65;
+const PER_PULSE: usize = 127;
+const TAPS_COUNT: usize = 128;
+const TAPS: usize = 132;
+const DRAWS: usize = 12_136;
+const NOISE: usize = 12_140 + 2 * 65;
 
 /// The worked tape (crates/tape/stdin) and the tape of crates/cf32/stdin, which is longer than a chunk of noise: its bytes, and where its noise begins.
-const WORKED: usize = 76_338;
-const LONG: usize = 89_743;
-const LONG_NOISE: usize = 14_739;
+const WORKED: usize = 76_339;
+const LONG: usize = 89_744;
+const LONG_NOISE: usize = 14_740;
 
-/// 1,200 samples; rates 1.0; all distributions uniform or normal; a trigger level of 0.5; tap 0 of each lowpass 1.0; a Mode A/C reply and a draw that ends the run; noise of 2,400 values.
+/// The worked tape at 8 samples per pulse, with amplitudes and noise, as tapes/tape makes it: its bytes, and where its draws and its
+/// noise begin.
+const EIGHT: usize = 152_335;
+const EIGHT_DRAWS: usize = 24_132;
+const EIGHT_NOISE: usize = 24_136 + 3 * 65;
+
+/// 1,200 samples; rates 1.0; all distributions uniform or normal; a trigger level of 0.5; 4 samples per pulse; tap 0 of each lowpass 1.0; a Mode A/C reply and a draw that ends the run; noise of 2,400 values.
 pub fn small() -> Vec<u8> {
     let mut b = Vec::new();
     b.extend(1u32.to_le_bytes());
@@ -28,6 +35,7 @@ pub fn small() -> Vec<u8> {
         b.extend(second.to_le_bytes());
     }
     b.extend(0.5f32.to_le_bytes());
+    b.push(4);
     b.extend(3001u32.to_le_bytes());
     for k in 0..3001 {
         b.extend(if k == 0 || k == 1486 { 1.0f32 } else { 0.0 }.to_le_bytes());
@@ -129,11 +137,11 @@ fn heads(c: &mut Cases) {
     ] {
         c.at(&format!("14: a trigger level {name}"), LEVEL, &level.to_le_bytes());
     }
-    c.at(
-        "14: the count of the taps behind settings of 119 bytes",
-        LEVEL,
-        &3001u32.to_le_bytes(),
-    );
+    for n in [0u8, 2, 5, 12, 255] {
+        c.at(&format!("15: {n} samples per pulse"), PER_PULSE, &[n]);
+    }
+    c.at("15: the count of the taps behind settings of 123 bytes", PER_PULSE, &[0xb9]);
+    c.at("15: the count of the taps and a tap behind settings of 119 bytes", LEVEL, &[0xb9, 0x0b, 0, 0, 0]);
     c.small(
         "a trigger level of 0.2 and a Mode A/C tap of 0.25",
         &[put(LEVEL, &0.2f32.to_le_bytes()), put(TAPS + 4 * 1486, &0.25f32.to_le_bytes())],
@@ -212,9 +220,19 @@ fn noise(c: &mut Cases) {
         whole,
     );
     c.small(
-        "order: short settings before their trigger level",
-        &[put(LEVEL, &[0; 4])],
+        "order: short settings before their trigger level and samples per pulse",
+        &[put(LEVEL, &[0; 5])],
         TAPS_COUNT - 1,
+    );
+    c.small(
+        "order: samples per pulse before the nanoseconds, the trigger level and the count of the taps",
+        &[put(12, &4_000_000_000u32.to_le_bytes()), put(LEVEL, &nan), put(PER_PULSE, &[5])],
+        TAPS_COUNT,
+    );
+    c.small(
+        "order: samples per pulse before a rate and a tap",
+        &[put(16, &f64::NAN.to_le_bytes()), put(PER_PULSE, &[0]), put(TAPS, &nan)],
+        whole,
     );
     c.small(
         "order: a tap before the count of the draws",
@@ -274,10 +292,10 @@ fn noise(c: &mut Cases) {
         3,
         4,
         123,
-        126,
         127,
-        130,
+        128,
         131,
+        132,
         6000,
         DRAWS - 1,
         DRAWS,
@@ -332,6 +350,56 @@ fn others(c: &mut Cases) {
     );
 }
 
+/// The worked tape at 8 samples per pulse, and what is not as at 4.
+fn at_8(c: &mut Cases) {
+    let nan = f32::NAN.to_le_bytes();
+    let offset = |x: f64| put(73, &x.to_le_bytes());
+    let duration = |seconds: u64, nanoseconds: u32| {
+        put(4, &[&seconds.to_le_bytes()[..], &nanoseconds.to_le_bytes()].concat())
+    };
+    let gap = |x: f64| put(EIGHT_DRAWS + 4, &x.to_le_bytes());
+    let greatest = put(EIGHT_DRAWS + 4 + 17, &1_048_576f32.to_le_bytes());
+    let mut eight = |name: &str, changes: &[Change], length: usize| c.of("eight", name, changes, length);
+    eight("the worked tape at 8 samples per pulse", &[], EIGHT);
+    eight("a start of 13,812 of 16,000", &[gap(13_812.0)], EIGHT);
+    eight("a start of 13,813 of 16,000", &[gap(13_813.0)], EIGHT);
+    eight("62 nanoseconds at 8: no samples", &[duration(0, 62)], EIGHT);
+    eight("63 nanoseconds at 8: a sample", &[duration(0, 63)], EIGHT);
+    eight("188 nanoseconds at 8: 3 samples", &[duration(0, 188)], EIGHT);
+    eight("11: not done, 2^52 samples at 8", &[duration(281_474_976, 710_656_062)], EIGHT);
+    eight("1: above 2^52 samples at 8", &[duration(281_474_976, 710_656_063)], EIGHT);
+    eight("an amplitude of 2^20 at 8", &[greatest], EIGHT);
+    eight("an offset of 8,000,000 Hz at 8", &[offset(8e6)], EIGHT);
+    eight("4: an offset above 8,000,000 Hz at 8", &[offset(8e6f64.next_up())], EIGHT);
+    eight("an offset above 4,000,000 Hz at 8", &[offset(4e6f64.next_up())], EIGHT);
+    eight("5: the last tap a NaN at 8", &[put(EIGHT_DRAWS - 4, &nan)], EIGHT);
+    eight("6: no crossing at 8", &[put(TAPS + 4 * 2971, &0.25f32.to_le_bytes())], EIGHT);
+    eight("7: data of 4,096 at 8", &[put(EIGHT_DRAWS + 4 + 65 + 62, &4096u16.to_le_bytes())], EIGHT);
+    eight("8: the last noise value a NaN at 8", &[gap(10.0), put(EIGHT - 4, &nan)], EIGHT);
+    eight("11: 3,001 taps at 8", &[put(TAPS_COUNT, &3001u32.to_le_bytes())], EIGHT);
+    eight("11: 5,999 taps at 8", &[put(TAPS_COUNT, &5999u32.to_le_bytes())], EIGHT);
+    eight("11: 6,000 taps at 4", &[put(PER_PULSE, &[4])], EIGHT);
+    eight("15: 9 samples per pulse and 6,000 taps", &[put(PER_PULSE, &[9])], EIGHT);
+    eight("11: not done, 31,998 noise values at 8", &[put(EIGHT_NOISE, &31_998u32.to_le_bytes())], EIGHT - 8);
+    eight("11: a byte left over at 8", &[], EIGHT + 1);
+    for length in [
+        TAPS,
+        EIGHT_DRAWS - 1,
+        EIGHT_DRAWS,
+        EIGHT_DRAWS + 3,
+        EIGHT_DRAWS + 4,
+        EIGHT_DRAWS + 100,
+        EIGHT_NOISE - 1,
+        EIGHT_NOISE,
+        EIGHT_NOISE + 4,
+        EIGHT - 1,
+    ] {
+        eight(&format!("11: cut to {length} bytes at 8"), &[], length);
+    }
+    c.at("11: 8 samples per pulse and 3,001 taps", PER_PULSE, &[8]);
+    c.at("4: an offset above 4,000,000 Hz at 4", 72, &[&[0], &4e6f64.next_up().to_le_bytes()[..]].concat());
+}
+
 /// A line for each case: its name, the tape that it changes, its length, and the changes.
 pub fn cases() -> Vec<u8> {
     let whole = small().len();
@@ -343,6 +411,7 @@ pub fn cases() -> Vec<u8> {
     heads(&mut c);
     noise(&mut c);
     others(&mut c);
+    at_8(&mut c);
     let mut text = String::new();
     for (name, base, length, changes) in c.all {
         text += &format!("{name}; {base}; {length};");

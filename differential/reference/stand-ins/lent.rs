@@ -40,7 +40,7 @@ thread_local! {
     static LARGEST_DISTANCE: Cell<f64> = const { Cell::new(0.0) };
 }
 
-/// Lends the 3,001 taps, Mode S, then Mode A/C, and the trigger level of their delays.
+/// Lends the taps, 3,001 or 6,000, Mode S, then Mode A/C, and the trigger level of their delays.
 pub fn lend_taps(taps: &[f32], level: f32) {
     TAPS.with_borrow_mut(|t| {
         let same = t.len() == taps.len() && t.iter().zip(taps).all(|(a, b)| a.to_bits() == b.to_bits());
@@ -114,11 +114,11 @@ pub fn noise() -> f32 {
     }
 }
 
-/// The lent taps of the filter of that many taps: 1,486 for Mode S, 1,515 for Mode A/C.
+/// The lent taps of the filter of that many taps: 1,486 for Mode S, 1,515 for Mode A/C; at 8 samples per pulse 2,971 and 3,029.
 pub fn taps(count: usize) -> Vec<f32> {
     TAPS.with_borrow(|t| match count {
-        1486 => t[..1486].to_vec(),
-        1515 => t[1486..].to_vec(),
+        1486 | 2971 => t[..count].to_vec(),
+        1515 | 3029 => t[t.len() - count..].to_vec(),
         _ => panic!("no filter has {count} taps"),
     })
 }

@@ -15,7 +15,8 @@ pub const COMMAND: Command = Command {
         \x20   *8D4840D6202CC371C32CE0576098;              no time: the sample of the line before, 0 at the first\n\
         \x20   @0000016CE3671C8D4840D6202CC371C32CE0576098;  a timestamp of 48 bits at 12 MHz, then the message\n\
         A timestamp is turned into a sample, the nearest: TICKS (0) is the timestamp of sample 0, and RATE (8000000) the samples\n\
-        a second. A message of four digits is Mode A/C, high byte first, as the records are printed. `-` is standard input.\n",
+        a second: 16000000 where the run had 8 samples per pulse. A message of four digits is Mode A/C, high byte first, as the\n\
+        records are printed. `-` is standard input.\n",
     run,
 };
 

@@ -7,7 +7,8 @@ pub const COMMAND: Command = Command {
     arguments: "TENTHS_OR_DB",
     summary: "amplitude of a level in decibels",
     help: "Prints a level in dB, its amplitude and the bits of that f32. A number with a point is in dB, with one digit after\n\
-        the point (31.5); a whole number is in tenths of a dB (315). Levels go from 0.0 to 200.0 dB.\n",
+        the point (31.5); a whole number is in tenths of a dB (315). Levels go from 0.0 to 200.0 dB, and are those of 4 samples\n\
+        per pulse.\n",
     run,
 };
 

@@ -1,16 +1,18 @@
 //! `more1090 rack`: a run of random replies, fed to one to sixteen files or pipes, each with its own delay and gain.
 use crate::draws::{Asked, RandomRun};
 use crate::more1090_generator::{Rack, STOP_DONE};
-use crate::shell::{Command, Failure, Output, duration, number, refused, words};
+use crate::shell::{Command, Failure, Output, SAMPLES_PER_PULSE, duration, number, refused, words};
 
 pub const COMMAND: Command = Command {
     name: "rack",
-    arguments: "[--seed N] SECONDS REPLIES DELAY:GAIN:FILE ..",
+    arguments: "[--seed N] [--samples-per-pulse N] SECONDS REPLIES DELAY:GAIN:FILE ..",
     summary: "a run of random replies, delayed and scaled for each of up to sixteen files or pipes",
     help: "Makes SECONDS of signal with REPLIES random replies a second, and writes it to each FILE as pairs of little-endian f32\n\
         (cf32): DELAY samples late (0 to 4095), with 0.0 before that, and multiplied by GAIN (0 to 1). Every FILE is as long as\n\
         the signal. A FILE may be a pipe that is there already, and one of them `-`, standard output. The same seed gives the\n\
-        same signal.\n",
+        same signal.\n\n\
+        --seed N               a whole number below 2^64 (1)\n\
+        --samples-per-pulse N  4, which is 8,000,000 samples a second, or 8, which is 16,000,000 (4)\n",
     run,
 };
 
@@ -35,13 +37,14 @@ fn feed_of(word: &str) -> Result<Feed<'_>, Failure> {
 }
 
 fn run(args: &[String]) -> Result<(), Failure> {
-    let found = words(args, &["--seed"], 3, usize::MAX)?;
+    let found = words(args, &["--seed", SAMPLES_PER_PULSE], 3, usize::MAX)?;
     let asked = Asked {
         duration: duration(found.rest[0])?,
         rate: number(found.rest[1], "the replies")?,
         seed: found.number("--seed", 1)?,
         level: None,
         trigger_level: TRIGGER_LEVEL,
+        samples_per_pulse: found.samples_per_pulse()?,
     };
     let feeds = found.rest[2..].iter().map(|word| feed_of(word)).collect::<Result<Vec<_>, _>>()?;
     let twice = |k: usize| feeds[..k].iter().any(|f| f.file == feeds[k].file);

@@ -1,20 +1,23 @@
 //! `more1090 random`: a whole run with random replies as the published Rust draws them, windowed-sinc lowpasses and normal noise.
-use crate::draws::{Asked, Level, RandomRun};
-use crate::more1090_generator::{RECORD_LEN, STOP_DONE, level, tenths_of_db};
+use crate::draws::{Asked, RandomRun, level_of};
+use crate::more1090_generator::{RECORD_LEN, STOP_DONE};
 use crate::shell::{
-    Command, Failure, Output, SUM, Words, apart, close_both, duration, note, number, print, refused, words_and_flags,
+    Command, Failure, Output, SAMPLES_PER_PULSE, SUM, Words, apart, close_both, duration, note, number, print, refused,
+    words_and_flags,
 };
 
 pub const COMMAND: Command = Command {
     name: "random",
-    arguments: "[--level DB] [--trigger-level PART] [--sum] SECONDS REPLIES_A_SECOND SEED OUT [RECORDS]",
+    arguments: "[OPTION VALUE].. [--sum] SECONDS REPLIES_A_SECOND SEED OUT [RECORDS]",
     summary: "samples of a random run, and its records",
     help: "Writes SECONDS (digits, and at most nine after a point) of signal to OUT: pairs of little-endian f32 at 8,000,000 a\n\
-        second. Replies come at random, REPLIES_A_SECOND on average (at most 1,000,000). SEED is a whole number below 2^64;\n\
-        the same words give the same bytes. RECORDS gets a line for each reply: first sample, type, count of samples, time in\n\
-        samples, C/N0 in dB Hz, message.\n\n\
-        --level DB             the level of every reply, 0.0 to 200.0 dB; otherwise each has its own, by distance\n\
+        second, or 16,000,000. Replies come at random, REPLIES_A_SECOND on average (at most 1,000,000). SEED is a whole number\n\
+        below 2^64; the same words give the same bytes. RECORDS gets a line for each reply: first sample, type, count of\n\
+        samples, time in samples, C/N0 in dB Hz, message.\n\n\
+        --level DB             the level of every reply, 0.0 to 200.0 dB, at 4 samples per pulse; otherwise each has its own,\n\
+        \x20                      by distance\n\
         --trigger-level PART   where on its rise a pulse is timed, 0.1 to 0.9 of its height (0.5)\n\
+        --samples-per-pulse N  4, which is 8,000,000 samples a second, or 8, which is 16,000,000 (4)\n\
         --sum                  print the SHA-256 of what was written, a line a file as sha256sum prints it; on standard\n\
         \x20                      error where an output is standard output\n\n\
         For OUT or RECORDS, - is standard output. A file gets its name once the run is done, and the samples before the\n\
@@ -24,7 +27,6 @@ pub const COMMAND: Command = Command {
     run,
 };
 
-const SAMPLE_RATE: u64 = 8_000_000;
 /// Replies last 91 microseconds on average: at this rate each sample has those of 91 replies.
 const HIGHEST_RATE: f64 = 1e6;
 const SAMPLES_A_CALL: usize = 1 << 16;
@@ -34,21 +36,14 @@ fn asked(words: &Words) -> Result<Asked, Failure> {
     if rate.is_finite() && rate > HIGHEST_RATE {
         return Err(Failure::Refused(format!("REPLIES_A_SECOND: {} is above 1000000, where replies lie 91 deep", words.rest[1])));
     }
-    let level = match words.option("--level") {
-        Some(text) => {
-            let tenths = tenths_of_db(text)
-                .ok_or_else(|| Failure::Use(format!("--level: {text} is not in dB with one digit after the point or none")))?;
-            let amplitude = level(tenths).map_err(|number| refused(number, 0, 0))?;
-            Some(Level { cn0: tenths as f64 / 10.0, amplitude })
-        }
-        None => None,
-    };
+    let level = level_of(words)?;
     Ok(Asked {
         duration: duration(words.rest[0])?,
         rate,
         seed: number(words.rest[2], "SEED")?,
         level,
         trigger_level: words.number("--trigger-level", 0.5)?,
+        samples_per_pulse: words.samples_per_pulse()?,
     })
 }
 
@@ -62,6 +57,7 @@ fn line(r: &[u8]) -> String {
 
 fn simulate(mut made: RandomRun, out: &mut Output, mut lines: Option<&mut Output>) -> Result<(), Failure> {
     let (mut replies, mut added, mut reported) = (0, 0, 0);
+    let sample_rate = made.run.samples_per_pulse().sample_rate();
     loop {
         let ran = made.call();
         if ran.refusal != 0 {
@@ -75,8 +71,8 @@ fn simulate(mut made: RandomRun, out: &mut Output, mut lines: Option<&mut Output
         replies += ran.records_written;
         added += ran.samples_added();
         let (done, state) = (ran.stop == STOP_DONE, &made.run.state);
-        if done || state.written / SAMPLE_RATE > reported {
-            reported = state.written / SAMPLE_RATE;
+        if done || state.written / sample_rate > reported {
+            reported = state.written / sample_rate;
             note(&format!("{} of {} samples, {replies} replies, {added} reply samples added", state.written, state.total));
         }
         if done {
@@ -86,7 +82,7 @@ fn simulate(mut made: RandomRun, out: &mut Output, mut lines: Option<&mut Output
 }
 
 fn run(args: &[String]) -> Result<(), Failure> {
-    let words = words_and_flags(args, &["--level", "--trigger-level"], &[SUM], 4, 5)?;
+    let words = words_and_flags(args, &["--level", "--trigger-level", SAMPLES_PER_PULSE], &[SUM], 4, 5)?;
     let asked = asked(&words)?;
     let (name, records) = (words.rest[3], words.rest.get(4).copied());
     if let Some(records) = records {

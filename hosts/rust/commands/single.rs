@@ -1,34 +1,39 @@
 //! `more1090 single`: one reply alone, as cf32.
-use crate::draws::{lowpasses, noise};
-use crate::more1090_generator::{level, single, tenths_of_db};
-use crate::shell::{Command, Failure, Output, SUM, Words, bytes_of, note, number, print, refused, words_and_flags};
+use crate::draws::{Level, level_of, lowpasses, noise};
+use crate::more1090_generator::{SamplesPerPulse, single};
+use crate::shell::{
+    Command, Failure, Output, SAMPLES_PER_PULSE, SUM, Words, bytes_of, note, number, print, refused, words_and_flags,
+};
 
 pub const COMMAND: Command = Command {
     name: "single",
     arguments: "[OPTION VALUE].. [--sum] TYPE OUT",
     summary: "samples of one reply alone",
-    help: "Writes one reply of a type, 0 to 6, to OUT: pairs of little-endian f32 at 8,000,000 a second. - is standard output.\n\n\
+    help: "Writes one reply of a type, 0 to 6, to OUT: pairs of little-endian f32 at 8,000,000 a second, or 16,000,000. - is\n\
+        standard output.\n\n\
         --message HEX          7 or 14 bytes; the last three of types 0, 1 and 3 become the parity, of type 3 with the overlay.\n\
         \x20                      Type 6: four digits of the data, SPI as bit 12. Without it, 0 in all that the type leaves open\n\
-        --level DB             0.0 to 200.0 dB with one digit after the point or none\n\
+        --level DB             0.0 to 200.0 dB with one digit after the point or none, at 4 samples per pulse\n\
         --amplitude A          in place of a level, 0 to 1048576 (1)\n\
-        --offset HZ            of the carrier, at most 4,000,000 in size (0)\n\
+        --offset HZ            of the carrier, at most half the samples a second in size (0)\n\
         --phase RADIANS        of the carrier, at the reply's time (0)\n\
         --clock E              error of the symbol clock, at most 0.1 in size (0)\n\
         --overlay O            of an all-call reply, 1 to 127 (1)\n\
         --time SAMPLES         the reply's time, 0 or above, with a fraction as it may be (50)\n\
-        --samples N            of the whole stretch, at most 80,000,000 (1200); what lies outside is trimmed\n\
+        --samples N            of the whole stretch, at most 80,000,000 (1200, and at 8 samples per pulse 2400); what lies\n\
+        \x20                      outside is trimmed\n\
         --noise SEED           normal noise, as that of `more1090 random` with this seed; otherwise there is none\n\
         --trigger-level PART   where on its rise a pulse is timed, 0.1 to 0.9 of its height (0.5)\n\
+        --samples-per-pulse N  4, which is 8,000,000 samples a second, or 8, which is 16,000,000 (4)\n\
         --sum                  print the SHA-256 of what was written; on standard error where OUT is -\n\n\
         A file gets its name once all is written. What is refused touches no file.\n",
     run,
 };
 
-const SAMPLE_RATE: u32 = 8_000_000;
-const SAMPLE_NANOSECONDS: u32 = 125;
-/// Ten seconds: the stretch is held in memory.
+/// Ten seconds at 4 samples per pulse: the stretch is held in memory.
 const MOST_SAMPLES: u32 = 80_000_000;
+/// A stretch, in pulses, that holds the longest reply.
+const STRETCH: u32 = 300;
 
 /// The formats of each type, the capabilities, and the controls of DF 18, as a draw picks from them.
 const FORMATS: [&[u8]; 6] = [&[17, 18], &[11], &[0, 4, 5], &[11], &[16, 20, 21, 24, 25, 26, 27, 28, 29, 30, 31], &[19]];
@@ -74,22 +79,28 @@ fn picks(kind: u8, hex: Option<&str>) -> Result<Picks, Failure> {
 
 /// The amplitude, and the C/N0 beside it in the draw, which no sample shows.
 fn amplitude(w: &Words) -> Result<(f32, f64), Failure> {
-    let Some(text) = w.option("--level") else {
-        return Ok((w.number("--amplitude", 1f32)?, 0.0));
-    };
-    if w.flag("--amplitude") {
+    if w.flag("--level") && w.flag("--amplitude") {
         return Err(Failure::Use("--level and --amplitude are one or the other".into()));
     }
-    let tenths = tenths_of_db(text)
-        .ok_or_else(|| Failure::Use(format!("--level: {text} is not in dB with one digit after the point or none")))?;
-    Ok((level(tenths).map_err(|number| refused(number, 0, 0))?, tenths as f64 / 10.0))
+    match level_of(w)? {
+        Some(Level { cn0, amplitude }) => Ok((amplitude, cn0)),
+        None => Ok((w.number("--amplitude", 1f32)?, 0.0)),
+    }
+}
+
+/// The seconds and nanoseconds of so many samples: the least that have them.
+fn duration_of(samples: u32, sample_rate: u64) -> (u64, u32) {
+    const BILLION: u64 = 1_000_000_000;
+    let behind = u64::from(samples) % sample_rate * BILLION;
+    (u64::from(samples) / sample_rate, behind.div_ceil(sample_rate) as u32)
 }
 
 /// A run's settings: a rate for every type, and carrier and clock as asked for, each a constant.
-fn settings(w: &Words, samples: u32) -> Result<Vec<u8>, Failure> {
+fn settings(w: &Words, setting: SamplesPerPulse, samples: u32) -> Result<Vec<u8>, Failure> {
+    let (seconds, nanoseconds) = duration_of(samples, setting.sample_rate());
     let mut s = Vec::new();
-    s.extend(u64::from(samples / SAMPLE_RATE).to_le_bytes());
-    s.extend((samples % SAMPLE_RATE * SAMPLE_NANOSECONDS).to_le_bytes());
+    s.extend(seconds.to_le_bytes());
+    s.extend(nanoseconds.to_le_bytes());
     s.extend(1f64.to_le_bytes().repeat(7));
     for name in ["--offset", "--phase", "--clock"] {
         s.push(0);
@@ -97,6 +108,7 @@ fn settings(w: &Words, samples: u32) -> Result<Vec<u8>, Failure> {
         s.extend(0f64.to_le_bytes());
     }
     s.extend(w.number("--trigger-level", 0.5f32)?.to_le_bytes());
+    s.push(w.samples_per_pulse()?);
     Ok(s)
 }
 
@@ -117,9 +129,9 @@ fn draw(w: &Words, kind: u8) -> Result<Vec<u8>, Failure> {
     Ok(d)
 }
 
-const OPTIONS: [&str; 11] = [
+const OPTIONS: [&str; 12] = [
     "--message", "--level", "--amplitude", "--offset", "--phase", "--clock", "--overlay", "--time", "--samples", "--noise",
-    "--trigger-level",
+    "--trigger-level", SAMPLES_PER_PULSE,
 ];
 
 fn run(args: &[String]) -> Result<(), Failure> {
@@ -128,7 +140,8 @@ fn run(args: &[String]) -> Result<(), Failure> {
     if kind > 6 {
         return Err(Failure::Use(format!("TYPE: {kind} is no type, 0 to 6")));
     }
-    let samples: u32 = w.number("--samples", 1200)?;
+    let setting = SamplesPerPulse::of(w.samples_per_pulse()?.into());
+    let samples: u32 = w.number("--samples", STRETCH * setting as u32)?;
     if samples > MOST_SAMPLES {
         return Err(Failure::Use(format!("--samples: {samples} is above {MOST_SAMPLES}")));
     }
@@ -137,9 +150,9 @@ fn run(args: &[String]) -> Result<(), Failure> {
         Some(seed) => noise(number(seed, "--noise")?, numbers),
         None => vec![0.0; numbers],
     };
-    let (taps_s, taps_ac) = lowpasses();
+    let (taps_s, taps_ac) = lowpasses(setting);
     let mut output = vec![0.0; numbers];
-    let r = single(&settings(&w, samples)?, &taps_s, &taps_ac, &draw(&w, kind)?, &noise, &mut output);
+    let r = single(&settings(&w, setting, samples)?, &taps_s, &taps_ac, &draw(&w, kind)?, &noise, &mut output);
     if r.refusal != 0 {
         return Err(refused(r.refusal, r.value, r.field));
     }

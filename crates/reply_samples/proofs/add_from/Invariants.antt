@@ -3,9 +3,9 @@ use Prim.Native.Nat.{◌<◌}
 use mathlib.Core.Path.{◌≡◌}
 use lib.ListN.{length}
 use Rattle.constants.specs.Setting.{per_pulse}
-use Rattle.constants.specs.Rate.{working_memory}
+use Rattle.constants.specs.Rate.{working_memory, ring_slots}
 use Rattle.reply_samples.specs.Samples.{rotated}
-use Rattle.reply_samples.specs.RingModel.{ring_slots, added_from}
+use Rattle.reply_samples.specs.RingModel.{added_from}
 use Rattle.reply_samples.proofs.LoopSteps.{added_rest}
 use Rattle.reply_samples.proofs.add_from.Given as goal
 

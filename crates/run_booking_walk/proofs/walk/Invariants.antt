@@ -8,4 +8,4 @@ use Rattle.run_booking_walk.proofs.Turn.{from}
 use Rattle.run_booking_walk.proofs.walk.Given as goal
 
 abbrev pub invariant-loop-k : goal.invariant-loop-k
-invariant-loop-k l = (l.records ≤ l.k) × (from l.all l.delays l.total l.draws l.k l.records l.last ≡ walk_of (walk_generator l.all l.delays l.total) l.time (draws_of (walk_generator l.all l.delays l.total) l.draws))
+invariant-loop-k l = (l.records ≤ l.k) × (from l.setting l.all l.delays l.total l.draws l.k l.records l.last ≡ walk_of (walk_generator l.setting l.all l.delays l.total) l.time (draws_of (walk_generator l.setting l.all l.delays l.total) l.draws))

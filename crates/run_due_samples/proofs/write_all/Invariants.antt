@@ -4,7 +4,7 @@ use Rattle.run_due_samples.proofs.Stretches.{Writing}
 use Rattle.run_due_samples.proofs.write_all.Given as goal
 
 abbrev pub invariant-loop-done : goal.invariant-loop-done
-invariant-loop-done l = Writing l.initial.memory l.noise l.written l.memory l.output l.p l.done
+invariant-loop-done l = Writing l.fn.setting l.initial.memory l.noise l.written l.memory l.output l.p l.done
 
 abbrev pub decreases-loop-done : goal.decreases-loop-done
 decreases-loop-done l = length l.noise - l.done

@@ -5,6 +5,5 @@ use Rattle.run_due_samples.proofs.write_due.Goals as goal
 
 pub returns : goal.returns
 returns c =
-    let memory = c.in-Some.ensures.cases in
     let e = c.write_all.ensures in
-    changed _ _ _ _ _ _ _ memory.same _ c.write_all.new.output _ _ memory.long (omega arith) (omega arith) (omega arith) (search rules) e.0 e.1
+    changed _ _ _ _ _ _ _ _ c.write_all.new.output _ _ (search rules) (omega arith) (omega arith) (omega arith) (search rules) e.0 e.1

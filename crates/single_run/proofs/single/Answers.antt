@@ -1,15 +1,15 @@
--- `single` meets its contract.
-use borrow.Author.Rules.{rules}
-use Rattle.single_run.proofs.Joined.{refused, accepted}
+-- `single` meets its contract: what is made of a stretch that is accepted.
+use mathlib.Core.Path.{sym, ap, ◌∙◌}
+use Rattle.run_open_checks.specs.Opening.{prepared_read}
+use Rattle.run_open_checks.proofs.OpenedAs.{opened_as}
+use Rattle.single_run.proofs.Joined.{accepted}
 use Rattle.single_run.proofs.single.Goals as goal
-
-pub returns-in_err-state : goal.returns-in_err-state
-returns-in_err-state c =
-    let a = c.args in
-    refused a.settings.now a.taps.mode_s.now a.taps.mode_ac.now a.draw.now a.noise.now a.output.now _ c.prepare-p.ensures _ c.check.ensures c.in_err-state.field-0.0 c.from_residual.result (search rules) (search rules)
 
 pub returns : goal.returns
 returns c =
     let a = c.args in
+    let p = c.in_ok-p.p in
+    let o = opened_as a.taps.mode_s.now a.taps.mode_ac.now _ p (sym (ap prepared_read c.in_ok-p.was) ∙ c.prepare_at.ensures) in
     let own = c.prototypes.ensures in
-    accepted a.settings.now a.taps.mode_s.now a.taps.mode_ac.now a.draw.now a.noise.now a.output.now _ c.prepare-p.ensures _ c.check.ensures _ _ _ _ c.in_ok-state.was own.0 own.1 c.make.ensures
+    accepted a.settings.now a.taps.mode_s.now a.taps.mode_ac.now a.draw.now a.noise.now a.output.now c.in_ok-setting.setting (sym c.samples_per_pulse.ensures ∙ c.in_ok-setting.was) (sym c.check_lengths.ensures ∙ c.in_ok-check_lengths.was) p o
+    (sym c.check_values.ensures ∙ c.in_ok-check_values.was) _ _ _ own.0 own.1 c.make.ensures

@@ -1,10 +1,16 @@
--- `tape_read::read_head` is safe: the parts of its bytes that are read into are as long as they are said to be.
+-- `tape_read::read_head` is safe: the settings' last byte still says the same once the taps are read.
 use native.Mathlib.Omega.{arith}
-use lib.ListN.{length-take}
+use Prim.Native.Nat.{ℕ, ◌+◌, ◌≤◌}
+use mathlib.Core.Path.{sym, ap, ◌∙◌, subst}
+use Rattle.constants.specs.Setting.{per_pulse}
+use Rattle.constants.specs.declared.SamplesPerPulse.{SamplesPerPulse}
+use Rattle.tape_sections.specs.Sections.{draws_offset}
+use Rattle.tape_sections.proofs.FirstBytes.{setting_kept}
 use Rattle.tape_read.proofs.read_head.Goals as goal
 
-pub slice_bounds-read_full-end-2 : goal.slice_bounds-read_full-end-2
-slice_bounds-read_full-end-2 c = simp length-take (omega arith)
-
-pub slice_bounds-head_length-end-2 : goal.slice_bounds-head_length-end-2
-slice_bounds-head_length-end-2 c = simp length-take (omega arith)
+pub read_on-requires : goal.read_on-requires
+read_on-requires c =
+    let at = c.draws_count_offset-counted in
+    let same = setting_kept (at.result + 4) c.read_on-settings.new.bytes c.read_on-taps.new.bytes (omega arith) c.read_on-taps.ensures.kept ∙ sym c.tape_setting-setting.ensures in
+    let counted = ap (λ (s : SamplesPerPulse). draws_offset (per_pulse s)) same ∙ sym at.ensures.0 in
+    (subst (λ (n : ℕ). n + 4 ≤ c.head_length-want.result) counted c.head_length-want.ensures.lower_bound.0, omega (arith, c.head_length-want.ensures.lower_bound.1))
