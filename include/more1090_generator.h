@@ -78,14 +78,20 @@ enum {
     MORE1090_ERR_NOISE = 8,         /* a noise value not finite or above 64 in size; value: its place */
     MORE1090_ERR_LENGTH = 9,          /* settings, memory, a prototype, output (0 or odd) or draws (no multiple of 65) of a wrong
                                  * length */
+    MORE1090_ERR_TAPE = 11,           /* a tape: short, a wrong count, more than 400 draws, bytes left over, or not done */
     MORE1090_ERR_STRETCH_LENGTH = 12, /* output or noise that is not two floats a sample, by more1090_single alone */
     MORE1090_ERR_LEVEL = 13,    /* a level above 200.0 dB, by more1090_level alone */
     MORE1090_ERR_TRIGGER_LEVEL = 14, /* a trigger level below 0.1 or above 0.9, or a NaN */
     MORE1090_ERR_SAMPLES_PER_PULSE = 15, /* samples per pulse other than 4 or 8 */
     MORE1090_ERR_LOG = 16,      /* a log out of order, or a message length in it other than 2, 7 or 14, by more1090_compare_log */
     MORE1090_ERR_FEEDS = 17,    /* no feed or more than 16, or a delay or gain out of range, by more1090_rack_open */
-    MORE1090_ERR_RECORD = 18    /* a record that no run writes: first sample above 2^52, type above 6, count above 9,999, or a
+    MORE1090_ERR_RECORD = 18,   /* a record that no run writes: first sample above 2^52, type above 6, count above 9,999, or a
                                  * length not its type's; by more1090_pages and more1090_compare_log; value: the first such record */
+    /* by more1090_restore alone */
+    MORE1090_ERR_STORED_LENGTH = 19,  /* fewer bytes than any run has, or another number than they say: cut short, or too long */
+    MORE1090_ERR_STORED_FOREIGN = 20, /* bytes of something else: no magic number */
+    MORE1090_ERR_STORED_VERSION = 21, /* a run stored by another version of the layout */
+    MORE1090_ERR_STORED_DAMAGED = 22  /* the check does not fit, or a value that no run has */
 };
 
 /* Why a run call came back. */
@@ -105,9 +111,9 @@ typedef struct more1090_distribution {
     double second;
 } more1090_distribution;
 
-/* A run between two calls: plain data with no pointers and no padding. To store a run and take it up again, keep the state,
- * the prototypes that opening filled and the working memory as the last call left it, all three: a state with memory opened
- * anew gives another run, and nothing refuses it. Any bytes are taken as a state: a kind or `ended` that is not 0 is read as
+/* A run between two calls: plain data with no pointers and no padding. A run is its state, the prototypes that opening filled
+ * and the working memory as the last call left it, all three: a state with memory opened anew gives another run, and nothing
+ * refuses it. more1090_save stores them as bytes, and more1090_restore reads them back. Any bytes are taken as a state: a kind or `ended` that is not 0 is read as
  * 1, `samples_per_pulse` that is not 8 as 4, and a number that its kind does not use is ignored; such a state comes back with
  * 1, 4 and 0.0. */
 typedef struct more1090_state {
@@ -157,15 +163,16 @@ more1090_open_result more1090_open(const uint8_t *settings, size_t settings_leng
                               float *mode_ac, size_t mode_ac_length,
                               float *memory, size_t memory_length);
 
-/* A run call; the lengths are those of the state's samples per pulse. Checks 9, then 7 of every draw, then 8 of every noise value, before any work, and answers the first that
- * fails: counts are then 0, state is the one given, and nothing lent is changed. Else it takes draws and writes samples and
+/* A run call; the lengths are those of the state's samples per pulse. Checks 9, then 7 of every draw, then 8 of every noise
+ * value, before any work, and answers the first that fails: counts are then 0, state is the one given, and nothing lent is changed. Else it takes draws and writes samples and
  * records until one of the five stops; memory goes on to the next call, and output and records past what was written are
  * unchanged. Sample n of the run is what the replies add there, in the order of their draws, plus noise values 2n and 2n + 1
  * times 2^-10, counted from the run's start; a record stands for each reply, in the order of the draws. samples_added is the
  * sum of the counts in the records that this call wrote, each at most MORE1090_REPLY_LIMIT: a reply's whole count belongs to the call that
  * takes its draw, not to those that write its samples. (A draw that would start before sample 0 is taken and ignored, but
  * its gap counts.) So lend the draws that were not taken and the noise that was not used again, ahead of new ones: how a run
- * is cut into calls then changes no sample, no record and no total of samples added. From an opened run every number of a
+ * is cut into calls then changes no sample, no record and no total of samples added. Since every draw is checked in every
+ * call (some 20 ns each, taken or not), lend as many as the call may take, and not the whole list. From an opened run every number of a
  * sample is finite and at most 2^53 in size, however long it lasts. */
 more1090_run_result more1090_run(more1090_state state,
                           const float *mode_s, size_t mode_s_length,
@@ -299,6 +306,77 @@ typedef struct more1090_line_result {
  * blanks. Of other bytes a column without a digit reads as 0. message must point to 14 bytes; all are written. */
 more1090_line_result more1090_page_line(const uint8_t *line, size_t line_length, uint8_t *message);
 
+#define MORE1090_LONGEST_HEAD_LEN 50140  /* bytes of a tape before its noise, at most */
+#define MORE1090_TAPE_DRAWS 400          /* draws of a tape, at most */
+#define MORE1090_TAPE_TEXT_LEN 40960
+
+/* How a tape's noise section ends. */
+enum {
+    MORE1090_TAPE_WHOLE = 0,     /* all its values are fed, and nothing stands behind them */
+    MORE1090_TAPE_LEFT_OVER = 1, /* bytes do */
+    MORE1090_TAPE_SHORT = 2      /* there are fewer values than its count says */
+};
+
+/* The run of a tape between two chunks of noise: plain data with no pointers and no padding. */
+typedef struct more1090_tape {
+    more1090_state state;
+    uint64_t draws_taken; /* so far */
+    uint64_t records;     /* written so far */
+    uint64_t stop;        /* why the last call came back, or 5 where refused */
+    uint64_t refusal;     /* 0 for none */
+    uint64_t value;
+    uint64_t field;
+} more1090_tape;
+
+typedef struct more1090_tape_open_result {
+    more1090_tape tape;
+    uint64_t draws_at; /* where the draws stand on the tape; 0 where refused, as are draws and noise */
+    uint64_t draws;    /* how many they are, 65 bytes each */
+    uint64_t noise;    /* how many noise values stand behind the head */
+} more1090_tape_open_result;
+
+/* refusal is 0 for a run that is done; else records is 0, and samples are those written before it. */
+typedef struct more1090_tape_ending_result {
+    uint64_t refusal, value, field, records, samples;
+} more1090_tape_ending_result;
+
+/* How many bytes of a tape (SPECIFICATION 4.6) stand before its noise, as far as its first bytes say: at most
+ * MORE1090_LONGEST_HEAD_LEN. A caller reads on until it has as many as the answer says for what it has, or the tape ends. */
+uint64_t more1090_tape_head_length(const uint8_t *first, size_t first_length);
+
+/* Opens the run of a tape, of which the head is passed: all before its noise. Refuses in the order of SPECIFICATION 11.2, 9 for
+ * buffers of another length than more1090_open takes, and then changes nothing. Else fills the buffers as more1090_open does.
+ * It takes some 240 kB of stack. */
+more1090_tape_open_result more1090_tape_open(const uint8_t *head, size_t head_length,
+                                             float *mode_s, size_t mode_s_length,
+                                             float *mode_ac, size_t mode_ac_length,
+                                             float *memory, size_t memory_length);
+
+/* Feeds it a chunk of its noise: a call of more1090_run that is lent the draws not taken and the room behind the records.
+ * Draws and records are those of the whole tape, from their start: records with room for a record of each draw. The samples that
+ * come of the chunk, tape.state.written more than before, stand at the start of output. A tape that is refused stays as it is,
+ * and so do the buffers. All chunks but the last must have an even number of values, and output an even length above that of the
+ * chunk; the first may be empty, and has to be fed where there is no noise. Then however the noise is cut, the text and the
+ * samples are those of the plain run (crates/more1090_tape, specs/TapeInC.antt). */
+more1090_tape more1090_tape_feed(more1090_tape tape,
+                                 const float *mode_s, size_t mode_s_length,
+                                 const float *mode_ac, size_t mode_ac_length,
+                                 float *memory, size_t memory_length,
+                                 const uint8_t *draws, size_t draws_length,
+                                 const float *noise, size_t noise_length,
+                                 float *output, size_t output_length,
+                                 uint8_t *records, size_t records_length);
+
+/* How a tape ends, by how its noise section does (any other number than 0 and 1 is read as 2): 11 for a short section, the
+ * refusal of the run, 11 for a run that is not done or for bytes left over; or 0, with its records and samples. The value of
+ * refusal 8 is the place in the chunk that was refused. */
+more1090_tape_ending_result more1090_tape_ending(more1090_tape tape, uint64_t end);
+
+/* What the tape program prints of a tape that ends so (SPECIFICATION 11.1), with the records of its run; of more than 400 the
+ * first have lines. Answers the text's length; text must point to MORE1090_TAPE_TEXT_LEN bytes, and behind the text they are
+ * unchanged. */
+uint64_t more1090_tape_text(more1090_tape_ending_result ending, const uint8_t *records, size_t records_length, uint8_t *text);
+
 #define MORE1090_ENTRY_LEN 23
 #define MORE1090_NOBODY UINT64_MAX
 
@@ -361,6 +439,41 @@ more1090_rack_result more1090_rack_run(more1090_rack rack,
                                        const float *samples, size_t samples_length,
                                        float *room, size_t room_length);
 
+/* The bytes of a stored run, without a rack and with one. The four lengths differ, so that they say what is stored. */
+#define MORE1090_STORED_LEN(spp) ((spp) == 8 ? 46936 : 23600)
+#define MORE1090_STORED_RACK_LEN(spp) ((spp) == 8 ? 79904 : 56568)
+
+/* Stores a run between two calls: its state, prototypes and working memory, and where rack_memory_length is not 0 the rack
+ * behind it with its memory. Else rack is ignored, and may be all zero. Answers MORE1090_OK with every byte written, or
+ * MORE1090_ERR_LENGTH where prototypes or memory have not the lengths of the state's samples per pulse, rack_memory_length is
+ * neither 0 nor MORE1090_RACK_MEMORY_LEN, or bytes_length is not the one above: then it writes nothing. SPECIFICATION 16.1
+ * has the bytes. (crates/more1090_bytes, crates/run_bytes) */
+uint64_t more1090_save(more1090_state state,
+                       const float *mode_s, size_t mode_s_length,
+                       const float *mode_ac, size_t mode_ac_length,
+                       const float *memory, size_t memory_length,
+                       more1090_rack rack, const float *rack_memory, size_t rack_memory_length,
+                       uint8_t *bytes, size_t bytes_length);
+
+typedef struct more1090_restore_result {
+    more1090_state state; /* all zero where refused */
+    more1090_rack rack;   /* all zero where there is none */
+    uint64_t refusal;     /* 0, 9, or 19 to 22 */
+} more1090_restore_result;
+
+/* Reads a stored run back. Checks 19 for fewer than 256 bytes, 20, 21, 19 for another length than the bytes say, 22, then 9 for
+ * prototypes, memory or rack_memory of another length than what is stored has (rack_memory_length is 0 where no rack is), and
+ * answers the first that fails: then no buffer is changed. Else the refusal is 0, and state, rack and buffers are those that
+ * more1090_save was given, bit for bit: the run goes on as if it had never been stored. No list of a run holds a NaN; one that
+ * a caller writes there is read back as the quiet NaN. Bytes that more1090_save wrote are refused wherever one bit, any two
+ * bits, or any two bytes of them have changed. (crates/more1090_bytes, and its specs/StoredInC.antt;
+ * run_bytes_theorem/specs/StoredRuns.antt for lists of calls) */
+more1090_restore_result more1090_restore(const uint8_t *bytes, size_t bytes_length,
+                                         float *mode_s, size_t mode_s_length,
+                                         float *mode_ac, size_t mode_ac_length,
+                                         float *memory, size_t memory_length,
+                                         float *rack_memory, size_t rack_memory_length);
+
 #ifdef __cplusplus
 }
 #define MORE1090_ASSERT(holds) static_assert(holds, "layout")
@@ -373,9 +486,13 @@ MORE1090_ASSERT(sizeof(more1090_open_result) == 208 && offsetof(more1090_open_re
 MORE1090_ASSERT(sizeof(more1090_run_result) == 272 && offsetof(more1090_run_result, draws_taken) == 192);
 MORE1090_ASSERT(offsetof(more1090_run_result, samples_added_high) == 256);
 MORE1090_ASSERT(sizeof(more1090_pages_result) == 24 && sizeof(more1090_line_result) == 40);
+MORE1090_ASSERT(sizeof(more1090_tape) == 240 && offsetof(more1090_tape, refusal) == 216);
+MORE1090_ASSERT(sizeof(more1090_tape_open_result) == 264 && offsetof(more1090_tape_open_result, draws_at) == 240);
+MORE1090_ASSERT(sizeof(more1090_tape_ending_result) == 40);
 MORE1090_ASSERT(sizeof(more1090_log_result) == 40 && offsetof(more1090_log_result, value) == 32);
 MORE1090_ASSERT(sizeof(more1090_rack) == 208 && offsetof(more1090_rack, gains) == 144);
 MORE1090_ASSERT(sizeof(more1090_rack_result) == 216 && offsetof(more1090_rack_result, refusal) == 208);
+MORE1090_ASSERT(sizeof(more1090_restore_result) == 408 && offsetof(more1090_restore_result, refusal) == 400);
 MORE1090_ASSERT(sizeof(more1090_booking_result) == 80 && offsetof(more1090_booking_result, refusal) == 56);
 MORE1090_ASSERT(sizeof(more1090_single_result) == 24);
 #undef MORE1090_ASSERT

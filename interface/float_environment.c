@@ -51,6 +51,18 @@ GUARDED(more1090_run_result, run,
         (state, mode_s, mode_s_length, mode_ac, mode_ac_length, memory, memory_length, draws, draws_length, noise, noise_length,
          output, output_length, records, records_length))
 
+GUARDED(more1090_tape_open_result, tape_open,
+        (const uint8_t *head, size_t head_length, float *mode_s, size_t mode_s_length, float *mode_ac, size_t mode_ac_length,
+         float *memory, size_t memory_length),
+        (head, head_length, mode_s, mode_s_length, mode_ac, mode_ac_length, memory, memory_length))
+
+GUARDED(more1090_tape, tape_feed,
+        (more1090_tape tape, const float *mode_s, size_t mode_s_length, const float *mode_ac, size_t mode_ac_length,
+         float *memory, size_t memory_length, const uint8_t *draws, size_t draws_length, const float *noise,
+         size_t noise_length, float *output, size_t output_length, uint8_t *records, size_t records_length),
+        (tape, mode_s, mode_s_length, mode_ac, mode_ac_length, memory, memory_length, draws, draws_length, noise, noise_length,
+         output, output_length, records, records_length))
+
 GUARDED(more1090_rack_result, rack_open,
         (float *memory, size_t memory_length, const uint64_t *delays, size_t delays_length, const float *gains,
          size_t gains_length),

@@ -1,7 +1,8 @@
 /* What the header says of lengths, tried at 4 and at 8 samples per pulse: a pointer lent with length 0 may be NULL; settings of
  * another length are refused 9 and another number of samples per pulse 15, before anything else is looked at, by a booking and
- * one reply alone too; then prototypes and working memory of another length. And what it says of levels that are refused. It
- * exits with 0 where all is so.
+ * one reply alone too; then prototypes and working memory of another length. And what it says of levels that are refused, of a
+ * tape's head, run and ending, and of stored runs: read back bit for bit, and refused wherever a bit has changed or bytes are
+ * cut. It exits with 0 where all is so.
  *
  *     c_check */
 #include "inputs.h"
@@ -193,6 +194,48 @@ static void check_single(void) {
     expect("nothing", MORE1090_ERR_LENGTH, more1090_single(NULL, 0, NULL, 0, NULL, 0, NULL, 0, NULL, 0, NULL, 0).refusal);
 }
 
+/* A tape of no samples, one draw and two noise values, of which the head is lent. */
+static void check_tape(void) {
+    static uint8_t head[MORE1090_LONGEST_HEAD_LEN];
+    uint8_t text[MORE1090_TAPE_TEXT_LEN], room[MORE1090_RECORD_LEN];
+    const uint32_t none = 0;
+    make_settings(settings, 0.5f, spp);
+    put(settings + 8, &none, 4);
+    make_draw(draws, 0, spp);
+    const size_t length = make_head(head, settings, taps_s, taps_ac, spp, draws, 1, 2);
+    expect("a head of no bytes", 4 + MORE1090_SETTINGS_LEN, more1090_tape_head_length(NULL, 0));
+    expect("a head of its settings", length - MORE1090_DRAW_LEN - 4, more1090_tape_head_length(head, 4 + MORE1090_SETTINGS_LEN));
+    expect("a head up to its draws", length, more1090_tape_head_length(head, length - MORE1090_DRAW_LEN - 4));
+    expect("a head", length, more1090_tape_head_length(head, length));
+    const more1090_tape_open_result o = more1090_tape_open(head, length, ALL_MODE_S, ALL_MODE_AC, ALL_MEMORY);
+    expect("a tape", MORE1090_OK, o.tape.refusal);
+    expect("its draws", length - MORE1090_DRAW_LEN - 4, o.draws_at);
+    expect("how many they are", 1, o.draws);
+    expect("its noise", 2, o.noise);
+    expect("a head that is a byte short", MORE1090_ERR_TAPE,
+           more1090_tape_open(head, length - 1, ALL_MODE_S, ALL_MODE_AC, ALL_MEMORY).tape.refusal);
+    expect("no tape", MORE1090_ERR_TAPE, more1090_tape_open(NULL, 0, NULL, 0, NULL, 0, NULL, 0).tape.refusal);
+    expect("no buffers", MORE1090_ERR_LENGTH, more1090_tape_open(head, length, NULL, 0, NULL, 0, NULL, 0).tape.refusal);
+    const more1090_tape fed = more1090_tape_feed(o.tape, ALL_MODE_S, ALL_MODE_AC, ALL_MEMORY, head + o.draws_at, MORE1090_DRAW_LEN,
+                                                 NULL, 0, output, 2, room, sizeof room);
+    expect("no samples are done", MORE1090_STOP_DONE, fed.stop);
+    expect("a run that is done", MORE1090_OK, more1090_tape_ending(fed, MORE1090_TAPE_WHOLE).refusal);
+    expect("bytes left over", MORE1090_ERR_TAPE, more1090_tape_ending(fed, MORE1090_TAPE_LEFT_OVER).refusal);
+    expect("a short section", MORE1090_ERR_TAPE, more1090_tape_ending(fed, MORE1090_TAPE_SHORT).refusal);
+    expect("any other ending", MORE1090_ERR_TAPE, more1090_tape_ending(fed, UINT64_MAX).refusal);
+    expect("a run that was not fed", MORE1090_ERR_TAPE, more1090_tape_ending(o.tape, MORE1090_TAPE_WHOLE).refusal);
+    more1090_tape refused = fed;
+    refused.refusal = MORE1090_ERR_NOISE;
+    expect("a run that is refused stays so", MORE1090_ERR_NOISE,
+           more1090_tape_feed(refused, NULL, 0, NULL, 0, NULL, 0, NULL, 0, NULL, 0, NULL, 0, NULL, 0).refusal);
+    expect("and ends so", MORE1090_ERR_NOISE, more1090_tape_ending(refused, MORE1090_TAPE_LEFT_OVER).refusal);
+    memset(text, 7, sizeof text);
+    expect("its text", 10, more1090_tape_text(more1090_tape_ending(refused, MORE1090_TAPE_WHOLE), NULL, 0, text));
+    expect("refused and a number", 0, (uint64_t)memcmp(text, "refused 8\n\7", 11));
+    expect("a text of no records", 35, more1090_tape_text(more1090_tape_ending(fed, MORE1090_TAPE_WHOLE), NULL, 0, text));
+    expect("header and samples", 0, (uint64_t)memcmp(text, "first type count message\nsamples 0\n\7", 36));
+}
+
 static uint32_t bits_of(float x) {
     uint32_t bits;
     memcpy(&bits, &x, 4);
@@ -260,6 +303,80 @@ static void check_rack(void) {
     expect("no memory", MORE1090_ERR_LENGTH, more1090_rack_run(rack, NULL, 0, NULL, 0, NULL, 0).refusal);
 }
 
+static uint8_t stored[MORE1090_STORED_RACK_LEN(8) + 1];
+static float rack_memory[MORE1090_RACK_MEMORY_LEN], other_rack_memory[MORE1090_RACK_MEMORY_LEN];
+static float other_s[MORE1090_PROTOTYPE_LEN(8)], other_ac[MORE1090_PROTOTYPE_LEN(8)], other_memory[MORE1090_MEMORY_LEN(8)];
+
+/* A run read back into buffers of its lengths, from so many of the bytes. */
+static more1090_restore_result read_back(size_t length, size_t of_rack) {
+    return more1090_restore(stored, length, other_s, MORE1090_PROTOTYPE_LEN(spp), other_ac, MORE1090_PROTOTYPE_LEN(spp), other_memory,
+                            MORE1090_MEMORY_LEN(spp), of_rack == 0 ? NULL : other_rack_memory, of_rack);
+}
+
+static uint64_t saved(more1090_state state, more1090_rack rack, size_t of_rack, size_t length) {
+    return more1090_save(state, ALL_MODE_S, ALL_MODE_AC, ALL_MEMORY, rack, of_rack == 0 ? NULL : rack_memory, of_rack, stored, length);
+}
+
+/* The refusal of bytes with the bit changed: by the place of the magic number, the version, the length, or what the check is of. */
+static uint64_t refusal_at(size_t bit) {
+    const size_t word = bit / 64;
+    return word == 0 ? MORE1090_ERR_STORED_FOREIGN : word == 1 ? MORE1090_ERR_STORED_VERSION
+         : word == 2 ? MORE1090_ERR_STORED_LENGTH : MORE1090_ERR_STORED_DAMAGED;
+}
+
+/* Bits changed, one and two at a time, and bytes cut: each is refused, and nothing is written. */
+static void check_damage(size_t length, size_t of_rack) {
+    memset(other_memory, 0x55, sizeof other_memory);
+    for (size_t bit = 0; bit < 8 * length; bit += bit < 1920 ? 1 : 4099) {
+        const size_t second = (bit * 7919 + 12345) % (8 * length);
+        stored[bit / 8] ^= 1 << bit % 8;
+        expect("a changed bit", refusal_at(bit), read_back(length, of_rack).refusal);
+        stored[second / 8] ^= 1 << second % 8;
+        if (second != bit && read_back(length, of_rack).refusal < MORE1090_ERR_STORED_LENGTH)
+            expect("two changed bits", MORE1090_ERR_STORED_DAMAGED, 0);
+        stored[second / 8] ^= 1 << second % 8;
+        stored[bit / 8] ^= 1 << bit % 8;
+    }
+    for (size_t cut = 0; cut < length; cut++)
+        expect("bytes cut", MORE1090_ERR_STORED_LENGTH, read_back(cut, of_rack).refusal);
+    expect("a byte too many", MORE1090_ERR_STORED_LENGTH, read_back(length + 1, of_rack).refusal);
+    for (size_t k = 0; k < sizeof other_memory; k++)
+        if (((uint8_t *)other_memory)[k] != 0x55) expect("a refusal writes", 0, 1);
+}
+
+static void check_storing(void) {
+    const uint64_t delays[] = {0, 4095};
+    const float gains[] = {1.0f, 0.5f};
+    make_settings(settings, 0.5f, spp);
+    make_draw(draws, 0, spp);
+    put_f64(draws, 40.0);
+    more1090_state state =
+        more1090_open(settings, MORE1090_SETTINGS_LEN, ALL_TAPS_S, ALL_TAPS_AC, ALL_MODE_S, ALL_MODE_AC, ALL_MEMORY).state;
+    state = called(state, MORE1090_DRAW_LEN, 2, 400, sizeof records).state;
+    more1090_rack rack = more1090_rack_open(rack_memory, MORE1090_RACK_MEMORY_LEN, delays, 2, gains, 2).rack;
+    for (size_t k = 0; k < MORE1090_RACK_MEMORY_LEN; k++) rack_memory[k] = (float)k;
+    const size_t of_racks[] = {0, MORE1090_RACK_MEMORY_LEN}, lengths[] = {MORE1090_STORED_LEN(spp), MORE1090_STORED_RACK_LEN(spp)};
+    for (int k = 0; k < 2; k++) {
+        expect("saved", MORE1090_OK, saved(state, rack, of_racks[k], lengths[k]));
+        const more1090_restore_result r = read_back(lengths[k], of_racks[k]);
+        expect("read back", MORE1090_OK, r.refusal);
+        expect("the state", 0, memcmp(&state, &r.state, sizeof state) != 0);
+        expect("the Mode S prototype", 0, memcmp(mode_s, other_s, 4 * MORE1090_PROTOTYPE_LEN(spp)) != 0);
+        expect("the Mode A/C prototype", 0, memcmp(mode_ac, other_ac, 4 * MORE1090_PROTOTYPE_LEN(spp)) != 0);
+        expect("the memory", 0, memcmp(memory, other_memory, 4 * MORE1090_MEMORY_LEN(spp)) != 0);
+        const more1090_rack none = {0};
+        expect("the rack", 0, memcmp(k == 0 ? &none : &rack, &r.rack, sizeof rack) != 0);
+        if (k == 1) expect("the rack's memory", 0, memcmp(rack_memory, other_rack_memory, sizeof rack_memory) != 0);
+        expect("the other number of racks", MORE1090_ERR_LENGTH, read_back(lengths[k], of_racks[1 - k]).refusal);
+        check_damage(lengths[k], of_racks[k]);
+        expect("one byte less", MORE1090_ERR_LENGTH, saved(state, rack, of_racks[k], lengths[k] - 1));
+        expect("the other length", MORE1090_ERR_LENGTH, saved(state, rack, of_racks[k], lengths[1 - k]));
+        expect("a shorter memory of the rack", MORE1090_ERR_LENGTH, saved(state, rack, MORE1090_RACK_MEMORY_LEN - 1, lengths[k]));
+    }
+    expect("nothing to save", MORE1090_ERR_LENGTH, more1090_save(state, NULL, 0, NULL, 0, NULL, 0, rack, NULL, 0, NULL, 0));
+    expect("nothing to read", MORE1090_ERR_STORED_LENGTH, more1090_restore(NULL, 0, NULL, 0, NULL, 0, NULL, 0, NULL, 0).refusal);
+}
+
 static void check_runs(unsigned samples_per_pulse) {
     spp = samples_per_pulse;
     make_settings(settings, 0.5f, spp);
@@ -270,6 +387,8 @@ static void check_runs(unsigned samples_per_pulse) {
     check_calls();
     check_booking();
     check_single();
+    check_tape();
+    check_storing();
 }
 
 int main(void) {

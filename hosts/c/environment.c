@@ -30,6 +30,10 @@ more1090_single_result more1090_proved_single(const uint8_t *, size_t, const flo
 more1090_rack_result more1090_proved_rack_open(float *, size_t, const uint64_t *, size_t, const float *, size_t);
 more1090_rack_result more1090_proved_rack_run(more1090_rack, float *, size_t, const float *, size_t, float *, size_t);
 
+more1090_tape_open_result more1090_proved_tape_open(const uint8_t *, size_t, float *, size_t, float *, size_t, float *, size_t);
+more1090_tape more1090_proved_tape_feed(more1090_tape, const float *, size_t, const float *, size_t, float *, size_t,
+                                        const uint8_t *, size_t, const float *, size_t, float *, size_t, uint8_t *, size_t);
+
 /* What a whole run is given. The last draw ends it. */
 static unsigned spp;
 static size_t draws_length;
@@ -47,6 +51,9 @@ typedef struct outcome {
     uint8_t records[DRAWS * MORE1090_RECORD_LEN];
     uint64_t rack_refusals[2];
     float feed[2 * FED];
+    more1090_tape tape;
+    float tape_output[2 * SAMPLES + 2];
+    uint8_t tape_records[(DRAWS + 1) * MORE1090_RECORD_LEN];
 } outcome;
 static outcome wanted, found;
 
@@ -77,6 +84,21 @@ static void run_rack(unsigned word, int guarded, outcome *to) {
     to->rack_refusals[1] = k.refusal;
 }
 
+/* The same run as a tape. */
+static void run_tape(unsigned word, int guarded, outcome *to) {
+    static uint8_t head[MORE1090_LONGEST_HEAD_LEN];
+    static float mode_s[MORE1090_PROTOTYPE_LEN(8)], mode_ac[MORE1090_PROTOTYPE_LEN(8)], memory[MORE1090_MEMORY_LEN(8)];
+    const size_t of_prototype = MORE1090_PROTOTYPE_LEN(spp), of_memory = MORE1090_MEMORY_LEN(spp);
+    const size_t length = make_head(head, settings, taps_s, taps_ac, spp, draws, (uint32_t)(draws_length / MORE1090_DRAW_LEN), 0);
+    const more1090_tape_open_result o = (guarded ? more1090_tape_open : more1090_proved_tape_open)(
+        head, length, mode_s, of_prototype, mode_ac, of_prototype, memory, of_memory);
+    given_back(word);
+    to->tape = (guarded ? more1090_tape_feed : more1090_proved_tape_feed)(
+        o.tape, mode_s, of_prototype, mode_ac, of_prototype, memory, of_memory, head + o.draws_at, draws_length, noise, 2 * SAMPLES,
+        to->tape_output, 2 * SAMPLES + 2, to->tape_records, sizeof to->tape_records);
+    given_back(word);
+}
+
 static void run(unsigned word, int guarded, outcome *to) {
     static float mode_s[MORE1090_PROTOTYPE_LEN(8)], mode_ac[MORE1090_PROTOTYPE_LEN(8)], memory[MORE1090_MEMORY_LEN(8)];
     const size_t of_prototype = MORE1090_PROTOTYPE_LEN(spp), of_memory = MORE1090_MEMORY_LEN(spp);
@@ -97,6 +119,7 @@ static void run(unsigned word, int guarded, outcome *to) {
                                                                       to->alone, 2 * o.state.total);
     given_back(word);
     run_rack(word, guarded, to);
+    run_tape(word, guarded, to);
     _mm_setcsr(DEFAULT);
     to->refusals[0] = o.refusal;
     to->refusals[1] = r.refusal;
@@ -169,7 +192,8 @@ static void check_runs(unsigned samples_per_pulse) {
         else
             make_faint(offsets[c - 2]);
         run(DEFAULT, 1, &wanted);
-        if (wanted.refusals[0] || wanted.refusals[1] || wanted.stop != MORE1090_STOP_DONE || wanted.single.refusal) {
+        if (wanted.refusals[0] || wanted.refusals[1] || wanted.stop != MORE1090_STOP_DONE || wanted.single.refusal ||
+            wanted.tape.stop != MORE1090_STOP_DONE) {
             fprintf(stderr, "case %d at %u samples per pulse does not run to its end\n", c, spp);
             failed = 1;
         }

@@ -1,13 +1,13 @@
 /* A whole run from C: 10 ms with a reply of each type in turn, 1 ms apart, lent two draws, 300 noise values, 200 samples of
  * output and one record at a time; cf32 out.
  *
- *     c_host [--samples-per-pulse N] [--trigger-level PART] [OUT [LEVEL]]
+ *     c_host [--samples-per-pulse N] [--trigger-level PART] [--sum] [OUT [LEVEL]]
  *
  * OUT (standard output for - or none) gets pairs of f32 once the run is done, standard error a line for each reply. N is 4,
  * which is 8,000,000 samples a second, or 8, which is 16,000,000 (4). PART is the trigger level, 0.1 to 0.9 of a pulse's height
  * (0.5). LEVEL is that of every reply, in dB with one digit after the point or none: 0.0 to 200.0, otherwise 92.2; at 8 samples
- * per pulse there are no levels, and every amplitude is 0.02. Exit status: 0 done, 1 refused, 2 wrong use, 3 a file or pipe
- * failed. */
+ * per pulse there are no levels, and every amplitude is 0.02. --sum prints the checksum of what is written, as `cksum` does,
+ * on standard error where OUT is standard output. Exit status: 0 done, 1 refused, 2 wrong use, 3 a file or pipe failed. */
 #define _POSIX_C_SOURCE 200809L
 #include "inputs.h"
 #include <ctype.h>
@@ -20,12 +20,13 @@
 enum { DRAWS = 2, NOISE = 300, SAMPLES = 200, LEVEL = 922, ALL_SAMPLES = MORE1090_SAMPLE_RATE(8) / 100, NAME_LEN = 4096 };
 enum { DONE, REFUSED, WRONG_USE, FILE_FAILED };
 
-static const char usage[] = "usage: c_host [--samples-per-pulse N] [--trigger-level PART] [OUT [LEVEL]]\n";
+static const char usage[] = "usage: c_host [--samples-per-pulse N] [--trigger-level PART] [--sum] [OUT [LEVEL]]\n";
 
 typedef struct asked {
     unsigned spp;
     float trigger_level;
     uint64_t tenths;
+    int sum;
 } asked;
 
 /* A sum of twelve uniform values: nearly normal. */
@@ -47,11 +48,15 @@ static void print_record(const uint8_t *r) {
     memcpy(&first, r + 40, 8);
     memcpy(&count, r + 49, 2);
     fprintf(stderr, "first %llu type %d count %d message ", (unsigned long long)first, r[48], count);
+    if (r[51] == 2) { /* Mode A/C: high byte first, and the squawk, the four octal digits of its data */
+        const unsigned word = r[52] | (unsigned)r[53] << 8;
+        fprintf(stderr, "%04x squawk %04o\n", word, word & 0xfff);
+        return;
+    }
     for (int k = 0; k < r[51]; k++)
         fprintf(stderr, "%02x", r[52 + k]);
-    if (r[51] != 2) /* a Mode S message: 0 where it ends in its parity */
-        fprintf(stderr, " parity %06x", (unsigned)more1090_parity(r + 52, r[51]));
-    fputc('\n', stderr);
+    /* 0 where it ends in its parity */
+    fprintf(stderr, " parity %06x\n", (unsigned)more1090_parity(r + 52, r[51]));
 }
 
 static int refused(uint64_t number, uint64_t value) {
@@ -122,6 +127,24 @@ static int write_samples(const char *name, const float *samples, size_t count) {
     return status;
 }
 
+static uint32_t with_byte(uint32_t crc, uint8_t byte) {
+    crc ^= (uint32_t)byte << 24;
+    for (int k = 0; k < 8; k++)
+        crc = crc << 1 ^ (crc & 0x80000000 ? 0x04c11db7 : 0);
+    return crc;
+}
+
+/* The line that `cksum` prints for bytes: a CRC of them and of the bytes of their number, the lowest first. */
+static int print_sum(FILE *to, const char *name, const uint8_t *bytes, size_t count) {
+    uint32_t crc = 0;
+    for (size_t k = 0; k < count; k++)
+        crc = with_byte(crc, bytes[k]);
+    for (size_t left = count; left != 0; left >>= 8)
+        crc = with_byte(crc, left & 0xff);
+    const int printed = fprintf(to, "%lu %zu%s%s\n", (unsigned long)(uint32_t)~crc, count, *name ? " " : "", name) >= 0;
+    return printed && fflush(to) == 0 ? DONE : file_failed("standard output");
+}
+
 /* Room for either setting. */
 static float taps_s[MORE1090_MODE_S_TAPS_LEN(8)], taps_ac[MORE1090_MODE_AC_TAPS_LEN(8)];
 static float mode_s[MORE1090_PROTOTYPE_LEN(8)], mode_ac[MORE1090_PROTOTYPE_LEN(8)], memory[MORE1090_MEMORY_LEN(8)];
@@ -169,7 +192,13 @@ static int simulate(const asked *a, float *samples, size_t *count) {
 /* Reads options, each once; it gives 0 and the words behind them, or a status. */
 static int read_options(char ***words, asked *a) {
     int given[2] = {0, 0};
-    for (char **at = *words; *at != NULL; at += 2, *words = at) {
+    for (char **at = *words; *at != NULL; *words = at) {
+        if (strcmp(*at, "--sum") == 0) {
+            if (a->sum++)
+                return wrong_use("an option is given twice", *at);
+            at++;
+            continue;
+        }
         const int spp = strcmp(*at, "--samples-per-pulse") == 0;
         if (!spp && strcmp(*at, "--trigger-level") != 0)
             return DONE;
@@ -180,6 +209,7 @@ static int read_options(char ***words, asked *a) {
             return wrong_use("--samples-per-pulse wants 4 or 8", value);
         if (!spp && !number_of(value, &a->trigger_level))
             return wrong_use("--trigger-level wants a number", value);
+        at += 2;
     }
     return DONE;
 }
@@ -217,5 +247,10 @@ int main(int argc, char **argv) {
         status = wrong_use("a terminal, and samples are no text", "standard output");
     if (status == DONE)
         status = simulate(&a, samples, &count);
-    return status == DONE ? write_samples(name, samples, count) : status;
+    if (status == DONE)
+        status = write_samples(name, samples, count);
+    if (status != DONE || !a.sum)
+        return status;
+    const int beside = strcmp(name, "-") == 0;
+    return print_sum(beside ? stderr : stdout, beside ? "" : name, (const uint8_t *)samples, 2 * sizeof *samples * count);
 }

@@ -67,3 +67,18 @@ static inline uint64_t set_level(uint8_t *draw, uint64_t tenths) {
         put(put_f64(draw + 9, (double)tenths / 10), &amplitude, 4);
     return refusal;
 }
+
+static inline uint8_t *put_section(uint8_t *to, uint32_t count, const void *values, size_t bytes) {
+    return put(put(to, &count, 4), values, bytes);
+}
+
+/* The head of a tape: settings, taps, draws and the count of the noise. Answers its length, MORE1090_LONGEST_HEAD_LEN at most. */
+static inline size_t make_head(uint8_t *to, const uint8_t *settings, const float *taps_s, const float *taps_ac, unsigned spp,
+                               const uint8_t *draws, uint32_t count, uint32_t noise) {
+    const size_t of_s = MORE1090_MODE_S_TAPS_LEN(spp), of_ac = MORE1090_MODE_AC_TAPS_LEN(spp);
+    uint8_t *at = put_section(to, 1, settings, MORE1090_SETTINGS_LEN);
+    at = put_section(at, (uint32_t)(of_s + of_ac), taps_s, 4 * of_s);
+    at = put(at, taps_ac, 4 * of_ac);
+    at = put_section(at, count, draws, count * MORE1090_DRAW_LEN);
+    return (size_t)(put(at, &noise, 4) - to);
+}

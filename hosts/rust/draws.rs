@@ -1,12 +1,13 @@
-//! A run with random replies, in the shapes and with the default numbers of the published Rust: its settings, lowpasses, draws and
-//! noise.
+//! A run with random replies, in the shapes and with the default numbers of the published Rust: its settings, draws and noise,
+//! by the numbers of `exact`.
+use crate::exact::{ln, sin_cos};
 use crate::more1090_generator::{DRAW_LEN, RECORD_LEN, Run, RunResult, SETTINGS_LEN, SamplesPerPulse, level, tenths_of_db};
-use crate::shell::{Failure, SAMPLES_PER_PULSE, Words, refused};
+use crate::shell::{Failure, SAMPLES_PER_PULSE, Words, number, refused};
 use std::f64::consts::{PI, SQRT_2};
 
 /// Typical weights of the types, in the order of `MessageType::ALL`.
-const WEIGHTS: [f64; 7] = [0.45, 0.17, 0.109, 0.059, 0.108, 0.004, 0.1];
-const CLOCK_MAX: f64 = 50e-6;
+pub const WEIGHTS: [f64; 7] = [0.45, 0.17, 0.109, 0.059, 0.108, 0.004, 0.1];
+pub const CLOCK_MAX: f64 = 50e-6;
 
 /// C/N0 in dB Hz, for the record, and the amplitude.
 #[derive(Clone, Copy)]
@@ -27,11 +28,23 @@ pub fn level_of(words: &Words) -> Result<Option<Level>, Failure> {
     Ok(Some(Level { cn0: tenths as f64 / 10.0, amplitude }))
 }
 
+/// Replies last 91 microseconds on average: at this rate each sample has those of 91 replies.
+const HIGHEST_RATE: f64 = 1e6;
+
+/// Replies a second; the library says whether they are in range, up to this program's own limit.
+pub fn rate_of(text: &str, what: &str) -> Result<f64, Failure> {
+    let rate: f64 = number(text, what)?;
+    if rate.is_finite() && rate > HIGHEST_RATE {
+        return Err(Failure::Refused(format!("{what}: {text} is above 1000000, where replies lie 91 deep")));
+    }
+    Ok(rate)
+}
+
 /// SplitMix64.
-struct Random(u64);
+pub struct Random(pub u64);
 
 impl Random {
-    fn next(&mut self) -> u64 {
+    pub fn next(&mut self) -> u64 {
         self.0 = self.0.wrapping_add(0x9e37_79b9_7f4a_7c15);
         let z = (self.0 ^ (self.0 >> 30)).wrapping_mul(0xbf58_476d_1ce4_e5b9);
         let z = (z ^ (z >> 27)).wrapping_mul(0x94d0_49bb_1331_11eb);
@@ -39,31 +52,32 @@ impl Random {
     }
 
     /// Uniform, from 0 to below 1.
-    fn uniform(&mut self) -> f64 {
+    pub fn uniform(&mut self) -> f64 {
         (self.next() >> 11) as f64 / (1u64 << 53) as f64
     }
 
-    fn below(&mut self, n: u8) -> u8 {
+    pub fn below(&mut self, n: u8) -> u8 {
         (self.uniform() * f64::from(n)) as u8
     }
 
     /// Two normal values, by Box and Muller.
     fn normals(&mut self) -> [f64; 2] {
-        let r = (-2.0 * (1.0 - self.uniform()).ln()).sqrt();
-        let (s, c) = (2.0 * PI * self.uniform()).sin_cos();
+        let r = (-2.0 * ln(1.0 - self.uniform())).sqrt();
+        let (s, c) = sin_cos(2.0 * PI * self.uniform());
         [r * c, r * s]
     }
 
     /// The level of a sender from 10 to 300 km away, at 100 dB Hz from 10 km.
     fn sender(&mut self, sample_rate: f64) -> Level {
-        let cn0 = 120.0 - 10.0 * (1e2 + (9e4 - 1e2) * self.uniform()).log10();
-        let amplitude = 10f64.powf(cn0 / 20.0) * SQRT_2 / 1024.0 / sample_rate.sqrt();
+        let square = 1e2 + (9e4 - 1e2) * self.uniform(); // of the distance in km
+        let cn0 = 120.0 - 10.0 / std::f64::consts::LN_10 * ln(square);
+        let amplitude = 1e6 / square.sqrt() * SQRT_2 / 1024.0 / sample_rate.sqrt();
         Level { cn0, amplitude: amplitude as f32 }
     }
 
     /// The next draw: an exponential gap, a weighted type, and a sender by distance, or at one level.
     fn draw(&mut self, rate: f64, sample_rate: f64, level: Option<Level>) -> Vec<u8> {
-        let gap = -(1.0 - self.uniform()).ln() * sample_rate / rate;
+        let gap = (0.0 - ln(1.0 - self.uniform())) * sample_rate / rate;
         let mut left = self.uniform() * WEIGHTS.iter().sum::<f64>();
         let above = |w: &f64| {
             left -= w;
@@ -91,26 +105,7 @@ impl Random {
     }
 }
 
-/// A lowpass of sum 1: a sinc under a Hamming window. The cutoff is a part of the taps' rate.
-fn lowpass(taps: usize, cutoff: f64) -> Vec<f32> {
-    let last = (taps - 1) as f64;
-    let tap = |k: usize| {
-        let x = 2.0 * PI * cutoff * (k as f64 - last / 2.0);
-        let sinc = if x == 0.0 { 1.0 } else { x.sin() / x };
-        sinc * (0.54 - 0.46 * (2.0 * PI * k as f64 / last).cos())
-    };
-    let sum: f64 = (0..taps).map(tap).sum();
-    (0..taps).map(|k| (tap(k) / sum) as f32).collect()
-}
-
-/// The two lowpasses that a run is lent, Mode S and Mode A/C, cut off at 4 MHz.
-pub fn lowpasses(setting: SamplesPerPulse) -> (Vec<f32>, Vec<f32>) {
-    let branches = 64.0 * f64::from(setting as u8);
-    (
-        lowpass(setting.mode_s_taps_len(), 2.0 / branches),
-        lowpass(setting.mode_ac_taps_len(), 2.0 * 1450.0 / 1500.0 / branches),
-    )
-}
+pub use crate::exact::lowpasses;
 
 /// The normal noise of a random run of this seed: its first n values.
 pub fn noise(seed: u64, n: usize) -> Vec<f32> {

@@ -64,10 +64,14 @@ impl SamplesPerPulse {
         self.either(1094, 2187)
     }
 
-    /// The bytes of a stored run: the state's 24 numbers of eight bytes, then the Mode S prototype, the Mode A/C prototype and
-    /// the working memory in f32, all little-endian.
+    /// The bytes of a stored run.
     pub const fn stored_len(self) -> usize {
-        size_of::<State>() + 4 * (2 * self.prototype_len() + self.memory_len())
+        self.either(23600, 46936)
+    }
+
+    /// The bytes of a stored run with a rack behind it.
+    pub const fn stored_rack_len(self) -> usize {
+        self.either(56568, 79904)
     }
 }
 
@@ -289,38 +293,106 @@ impl Run {
         SamplesPerPulse::of(self.state.samples_per_pulse)
     }
 
-    /// The run between two calls as `stored_len` bytes, for `restore`. There is no check sum.
+    /// The run between two calls as `stored_len` bytes, for `restore`.
     pub fn save(&self) -> Vec<u8> {
-        // A state is 24 numbers of eight bytes with no padding, so any 192 bytes are one.
-        let words = unsafe { std::mem::transmute::<State, [u64; 24]>(self.state) };
-        let mut bytes: Vec<u8> = words.iter().flat_map(|w| w.to_le_bytes()).collect();
-        for list in [&self.mode_s, &self.mode_ac, &self.memory] {
-            bytes.extend(list.iter().flat_map(|x| x.to_le_bytes()));
-        }
+        self.saved(NO_RACK, &[], self.samples_per_pulse().stored_len())
+    }
+
+    /// The run and the rack behind it as `stored_rack_len` bytes, for `restore_with`.
+    pub fn save_with(&self, rack: &Rack) -> Vec<u8> {
+        self.saved(rack.state, &rack.memory, self.samples_per_pulse().stored_rack_len())
+    }
+
+    fn saved(&self, rack: RackState, rack_memory: &[f32], length: usize) -> Vec<u8> {
+        let mut bytes = vec![0; length];
+        let refusal = save_into(self.state, &self.mode_s, &self.mode_ac, &self.memory, rack, rack_memory, &mut bytes);
+        assert_eq!(refusal, 0, "a run's lists have the lengths of its samples per pulse");
         bytes
     }
 
-    /// Takes up the run that `save` gave as these bytes; it goes on with the draws not taken and the noise not used. Bytes
-    /// of another length than the run's samples per pulse ask for are no run. Any others are taken: changed ones give other
-    /// samples, and nothing refuses them.
-    pub fn restore(bytes: &[u8]) -> Option<Run> {
-        let (state, floats) = bytes.split_at_checked(size_of::<State>())?;
-        let word = |k: usize| u64::from_le_bytes(state[8 * k..8 * k + 8].try_into().unwrap());
-        let state = unsafe { std::mem::transmute::<[u64; 24], State>(std::array::from_fn(word)) };
-        let lengths = SamplesPerPulse::of(state.samples_per_pulse);
-        if bytes.len() != lengths.stored_len() {
-            return None;
-        }
-        let mut floats = floats
-            .chunks(4)
-            .map(|b| f32::from_le_bytes(b.try_into().unwrap()));
-        let mut list = |n: usize| floats.by_ref().take(n).collect();
-        Some(Run {
-            state,
-            mode_s: list(lengths.prototype_len()),
-            mode_ac: list(lengths.prototype_len()),
-            memory: list(lengths.memory_len()),
-        })
+    /// Takes up the run that `save` gave as these bytes; it goes on with the draws not taken and the noise not used. Or answers
+    /// the refusal's number, which `stored_refusal` puts into words: bytes that have changed are refused.
+    pub fn restore(bytes: &[u8]) -> Result<Run, u64> {
+        restored(bytes, 0).map(|(run, _)| run)
+    }
+
+    /// Takes up the run and the rack that `save_with` gave as these bytes, or answers the refusal's number.
+    pub fn restore_with(bytes: &[u8]) -> Result<(Run, Rack), u64> {
+        restored(bytes, RACK_MEMORY)
+    }
+}
+
+/// The refusals of stored bytes, and that of a rack where none is expected or of none where one is.
+pub const LENGTH: u64 = 9;
+pub const STORED_LENGTH: u64 = 19;
+pub const STORED_FOREIGN: u64 = 20;
+pub const STORED_VERSION: u64 = 21;
+pub const STORED_DAMAGED: u64 = 22;
+
+/// A refusal of stored bytes in words.
+pub fn stored_refusal(number: u64) -> &'static str {
+    match number {
+        LENGTH => "a rack is stored and none is expected, or the other way round",
+        STORED_LENGTH => "they are cut short, or too long",
+        STORED_FOREIGN => "they are no stored run",
+        STORED_VERSION => "they are a run stored by another version",
+        STORED_DAMAGED => "they are damaged",
+        _ => "they are refused",
+    }
+}
+
+const NO_RACK: RackState = RackState { feeds: 0, seen: 0, delays: [0; RACK_FEEDS], gains: [0.0; RACK_FEEDS] };
+
+/// A run and a rack with a memory of so many f32 from bytes. Bytes of no length that a run has are refused whatever is lent.
+#[rustfmt::skip]
+fn restored(bytes: &[u8], rack_memory: usize) -> Result<(Run, Rack), u64> {
+    let at_8 = [SamplesPerPulse::Eight.stored_len(), SamplesPerPulse::Eight.stored_rack_len()].contains(&bytes.len());
+    let lengths = if at_8 { SamplesPerPulse::Eight } else { SamplesPerPulse::Four };
+    let (mut mode_s, mut mode_ac) = (vec![0.0; lengths.prototype_len()], vec![0.0; lengths.prototype_len()]);
+    let (mut memory, mut of_rack) = (vec![0.0; lengths.memory_len()], vec![0.0; rack_memory]);
+    let r = restore_into(bytes, &mut mode_s, &mut mode_ac, &mut memory, &mut of_rack);
+    if r.refusal != 0 {
+        return Err(r.refusal);
+    }
+    Ok((Run { state: r.state, mode_s, mode_ac, memory }, Rack { state: r.rack, memory: of_rack }))
+}
+
+/// What reading a run back answers: refusal 0 is none.
+#[repr(C)]
+#[derive(Clone, Copy)]
+pub struct RestoreResult {
+    pub state: State,
+    pub rack: RackState,
+    pub refusal: u64,
+}
+
+const _: () = assert!(size_of::<RestoreResult>() == 408);
+
+#[rustfmt::skip]
+unsafe extern "C" {
+    fn more1090_save(state: State, mode_s: *const f32, mode_s_length: usize, mode_ac: *const f32, mode_ac_length: usize,
+        memory: *const f32, memory_length: usize, rack: RackState, rack_memory: *const f32, rack_memory_length: usize,
+        bytes: *mut u8, bytes_length: usize) -> u64;
+    fn more1090_restore(bytes: *const u8, bytes_length: usize, mode_s: *mut f32, mode_s_length: usize,
+        mode_ac: *mut f32, mode_ac_length: usize, memory: *mut f32, memory_length: usize,
+        rack_memory: *mut f32, rack_memory_length: usize) -> RestoreResult;
+}
+
+/// `more1090_save`, on any state and slices of any length: the refusal's number, 0 for none. With no rack's memory there is no rack.
+#[rustfmt::skip]
+pub fn save_into(state: State, mode_s: &[f32], mode_ac: &[f32], memory: &[f32], rack: RackState, rack_memory: &[f32], bytes: &mut [u8]) -> u64 {
+    unsafe {
+        more1090_save(state, mode_s.as_ptr(), mode_s.len(), mode_ac.as_ptr(), mode_ac.len(), memory.as_ptr(), memory.len(),
+            rack, rack_memory.as_ptr(), rack_memory.len(), bytes.as_mut_ptr(), bytes.len())
+    }
+}
+
+/// `more1090_restore`, on slices of any length.
+#[rustfmt::skip]
+pub fn restore_into(bytes: &[u8], mode_s: &mut [f32], mode_ac: &mut [f32], memory: &mut [f32], rack_memory: &mut [f32]) -> RestoreResult {
+    unsafe {
+        more1090_restore(bytes.as_ptr(), bytes.len(), mode_s.as_mut_ptr(), mode_s.len(), mode_ac.as_mut_ptr(), mode_ac.len(),
+            memory.as_mut_ptr(), memory.len(), rack_memory.as_mut_ptr(), rack_memory.len())
     }
 }
 
@@ -450,6 +522,177 @@ pub fn page_line(line: &[u8]) -> Option<Line> {
         count: read.count as u16,
         message: message[..read.message_length as usize].to_vec(),
     })
+}
+
+/// How a noise section ends: with all its values fed and no byte behind them, with bytes left over, or with fewer values than its
+/// count says.
+#[derive(Clone, Copy, Debug, PartialEq, Eq)]
+pub enum SectionEnd {
+    Whole = 0,
+    LeftOver = 1,
+    Short = 2,
+}
+
+/// Refusal 8: a noise value out of range.
+const NOISE_REFUSED: u64 = 8;
+
+/// The most draws of a tape, and room for the text of one.
+pub const MAX_TAPE_DRAWS: usize = 400;
+pub const TAPE_TEXT_LEN: usize = 40960;
+
+/// A tape's run between two chunks of noise: draws taken, records written, and what its last call answered.
+#[repr(C)]
+#[derive(Clone, Copy)]
+pub struct TapeState {
+    pub state: State,
+    pub draws_taken: u64,
+    pub records: u64,
+    pub stop: u64,
+    pub refusal: u64,
+    pub value: u64,
+    pub field: u64,
+}
+
+#[repr(C)]
+pub struct TapeOpenResult {
+    pub tape: TapeState,
+    pub draws_at: u64,
+    pub draws: u64,
+    pub noise: u64,
+}
+
+/// How a tape ends: its records and samples; or a refusal, with the samples written before it.
+#[repr(C)]
+#[derive(Clone, Copy, Debug, PartialEq, Eq)]
+pub struct TapeEnding {
+    pub refusal: u64,
+    pub value: u64,
+    pub field: u64,
+    pub records: u64,
+    pub samples: u64,
+}
+
+const _: () =
+    assert!(size_of::<TapeState>() == 240 && size_of::<TapeOpenResult>() == 264 && size_of::<TapeEnding>() == 40);
+
+#[rustfmt::skip]
+unsafe extern "C" {
+    fn more1090_tape_head_length(first: *const u8, first_length: usize) -> u64;
+    fn more1090_tape_open(head: *const u8, head_length: usize, mode_s: *mut f32, mode_s_length: usize,
+        mode_ac: *mut f32, mode_ac_length: usize, memory: *mut f32, memory_length: usize) -> TapeOpenResult;
+    fn more1090_tape_feed(tape: TapeState, mode_s: *const f32, mode_s_length: usize, mode_ac: *const f32, mode_ac_length: usize,
+        memory: *mut f32, memory_length: usize, draws: *const u8, draws_length: usize, noise: *const f32, noise_length: usize,
+        output: *mut f32, output_length: usize, records: *mut u8, records_length: usize) -> TapeState;
+    safe fn more1090_tape_ending(tape: TapeState, end: u64) -> TapeEnding;
+    fn more1090_tape_text(ending: TapeEnding, records: *const u8, records_length: usize, text: *mut u8) -> u64;
+}
+
+/// How many bytes of a tape stand before its noise, as far as its first bytes say: a reader reads on until it has as many, or
+/// the tape ends.
+pub fn tape_head_length(first: &[u8]) -> usize {
+    unsafe { more1090_tape_head_length(first.as_ptr(), first.len()) as usize }
+}
+
+/// `more1090_tape_open`, on slices of any length.
+#[rustfmt::skip]
+pub fn tape_open(head: &[u8], mode_s: &mut [f32], mode_ac: &mut [f32], memory: &mut [f32]) -> TapeOpenResult {
+    unsafe {
+        more1090_tape_open(head.as_ptr(), head.len(), mode_s.as_mut_ptr(), mode_s.len(), mode_ac.as_mut_ptr(), mode_ac.len(),
+            memory.as_mut_ptr(), memory.len())
+    }
+}
+
+/// `more1090_tape_feed`, on any state and slices of any length.
+#[rustfmt::skip]
+pub fn tape_feed(tape: TapeState, mode_s: &[f32], mode_ac: &[f32], memory: &mut [f32],
+    draws: &[u8], noise: &[f32], output: &mut [f32], records: &mut [u8]) -> TapeState {
+    unsafe {
+        more1090_tape_feed(tape, mode_s.as_ptr(), mode_s.len(), mode_ac.as_ptr(), mode_ac.len(),
+            memory.as_mut_ptr(), memory.len(), draws.as_ptr(), draws.len(), noise.as_ptr(), noise.len(),
+            output.as_mut_ptr(), output.len(), records.as_mut_ptr(), records.len())
+    }
+}
+
+/// The run of a tape, with all that it needs between two chunks of noise.
+pub struct Tape {
+    state: TapeState,
+    mode_s: Vec<f32>,
+    mode_ac: Vec<f32>,
+    memory: Vec<f32>,
+    draws: Vec<u8>,
+    records: Vec<u8>,
+    noise: u64,
+    /// Noise values fed, and those fed before the chunk in which the run was refused, or before the last one.
+    fed: u64,
+    fed_before: u64,
+}
+
+impl Tape {
+    /// Opens the run of a tape by all its bytes before the noise, or answers the refusal's number, value and field.
+    pub fn open(head: &[u8]) -> Result<Tape, [u64; 3]> {
+        let settings = head.get(4..).unwrap_or(&[]);
+        let lengths = SamplesPerPulse::of_settings(settings);
+        let (mut mode_s, mut mode_ac) = (vec![0.0; lengths.prototype_len()], vec![0.0; lengths.prototype_len()]);
+        let mut memory = vec![0.0; lengths.memory_len()];
+        let o = tape_open(head, &mut mode_s, &mut mode_ac, &mut memory);
+        if o.tape.refusal != 0 {
+            return Err([o.tape.refusal, o.tape.value, o.tape.field]);
+        }
+        let draws = head[o.draws_at as usize..][..DRAW_LEN * o.draws as usize].to_vec();
+        let records = vec![0; RECORD_LEN * MAX_TAPE_DRAWS];
+        Ok(Tape { state: o.tape, mode_s, mode_ac, memory, draws, records, noise: o.noise, fed: 0, fed_before: 0 })
+    }
+
+    /// The noise values behind the head, as their count says.
+    pub fn noise(&self) -> u64 {
+        self.noise
+    }
+
+    /// The samples written so far.
+    pub fn written(&self) -> u64 {
+        self.state.state.written
+    }
+
+    pub fn samples_per_pulse(&self) -> SamplesPerPulse {
+        SamplesPerPulse::of(self.state.state.samples_per_pulse)
+    }
+
+    /// Feeds it a chunk of noise, and gives the samples that come of it, which stand at the start of the output. All chunks but
+    /// the last have an even number of values, and the output is even in length and longer than the chunk. The first may be
+    /// empty: a run of no samples needs one.
+    pub fn feed<'a>(&mut self, noise: &[f32], output: &'a mut [f32]) -> &'a [f32] {
+        let before = self.written();
+        if self.state.refusal == 0 {
+            self.fed_before = self.fed;
+        }
+        self.fed += noise.len() as u64;
+        self.state = tape_feed(
+            self.state, &self.mode_s, &self.mode_ac, &mut self.memory, &self.draws, noise, output, &mut self.records,
+        );
+        &output[..2 * (self.written() - before) as usize]
+    }
+
+    /// How it ends, by how its noise section does. A noise value at fault is counted in the whole noise, and not in its chunk.
+    pub fn ending(&self, end: SectionEnd) -> TapeEnding {
+        let mut ending = more1090_tape_ending(self.state, end as u64);
+        if ending.refusal == NOISE_REFUSED {
+            ending.value += self.fed_before;
+        }
+        ending
+    }
+
+    /// The records of a run that ends so: none where it is refused.
+    pub fn records(&self, ending: &TapeEnding) -> &[u8] {
+        &self.records[..RECORD_LEN * ending.records as usize]
+    }
+}
+
+/// What the tape program prints of a tape that ends so, with its records.
+pub fn tape_text(ending: &TapeEnding, records: &[u8]) -> Vec<u8> {
+    let mut text = vec![0; TAPE_TEXT_LEN];
+    let length = unsafe { more1090_tape_text(*ending, records.as_ptr(), records.len(), text.as_mut_ptr()) };
+    text.truncate(length as usize);
+    text
 }
 
 /// The bytes of a log's entry: sample u64, message length u8, message u8[14].

@@ -48,6 +48,14 @@ impl Failure {
         note(&text);
     }
 
+    /// A refusal of what a file holds, with its name.
+    pub fn of_file(self, name: &str) -> Failure {
+        match self {
+            Failure::Refused(why) => Failure::Refused(format!("{}: {why}", shown_input(name))),
+            other => other,
+        }
+    }
+
     /// A wrong use, with the command's line of arguments.
     pub fn of_command(self, c: &Command) -> Failure {
         match self {
@@ -146,15 +154,50 @@ pub fn duration(text: &str) -> Result<(u64, u32), Failure> {
     }
 }
 
+/// What a name of an input is called in an error.
+fn shown_input(name: &str) -> &str {
+    if name == "-" { "standard input" } else { name }
+}
+
+/// A file that is read in parts, or standard input for `-`.
+pub struct Input {
+    name: String,
+    from: File,
+}
+
+impl Input {
+    pub fn open(name: &str) -> Result<Input, Failure> {
+        let own = || Ok(File::from(std::io::stdin().as_fd().try_clone_to_owned()?));
+        let from = if name == "-" { own() } else { File::open(name) };
+        Ok(Input { name: name.into(), from: from.map_err(|e| Failure::File(shown_input(name).into(), e))? })
+    }
+
+    /// The next n bytes, or as many as are left.
+    pub fn next(&mut self, n: u64) -> Result<Vec<u8>, Failure> {
+        let mut bytes = Vec::new();
+        let read = (&mut self.from).take(n).read_to_end(&mut bytes);
+        read.map_err(|e| Failure::File(shown_input(&self.name).into(), e))?;
+        Ok(bytes)
+    }
+
+    /// Reads until the bytes are full or the input ends; how many are read.
+    pub fn fill(&mut self, bytes: &mut [u8]) -> Result<usize, Failure> {
+        let mut done = 0;
+        while done < bytes.len() {
+            match self.from.read(&mut bytes[done..]) {
+                Ok(0) => break,
+                Ok(n) => done += n,
+                Err(e) if e.kind() == ErrorKind::Interrupted => (),
+                Err(e) => return Err(Failure::File(shown_input(&self.name).into(), e)),
+            }
+        }
+        Ok(done)
+    }
+}
+
 /// A file whole, or standard input for `-`.
 pub fn read(name: &str) -> Result<Vec<u8>, Failure> {
-    let failed = |e| Failure::File(if name == "-" { "standard input" } else { name }.into(), e);
-    if name != "-" {
-        return fs::read(name).map_err(failed);
-    }
-    let mut bytes = Vec::new();
-    std::io::stdin().read_to_end(&mut bytes).map_err(failed)?;
-    Ok(bytes)
+    Input::open(name)?.next(u64::MAX)
 }
 
 /// A line to standard error; a closed one is no reason to end.
@@ -165,6 +208,15 @@ pub fn note(text: &str) {
 /// Text to standard output.
 pub fn print(text: &str) -> Result<(), Failure> {
     write("-", text.as_bytes())
+}
+
+/// The lines of `Output::sum_lines`: on standard error where standard output has samples or records.
+pub fn print_sums(lines: &str, beside_samples: bool) -> Result<(), Failure> {
+    match lines {
+        "" => Ok(()),
+        _ if beside_samples => Ok(note(lines.trim_end())),
+        _ => print(lines),
+    }
 }
 
 /// Bytes to a file, whole or not at all, or to standard output for `-`.
@@ -264,6 +316,11 @@ impl Output {
         let name = if self.name == "standard output" { "-" } else { &self.name };
         self.sum.clone().map(|sum| format!("{}  {name}\n", sum.hex()))
     }
+
+    /// Such a line for each output that is summed.
+    pub fn sum_lines<'a>(outputs: impl IntoIterator<Item = &'a Output>) -> String {
+        outputs.into_iter().filter_map(Output::sum_line).collect()
+    }
 }
 
 impl Drop for Output {
@@ -316,6 +373,15 @@ pub fn apart(one: &str, other: &str) -> Result<(), Failure> {
     Ok(())
 }
 
+/// Refuses an output that is the file which is read, and would take its place.
+pub fn apart_from_input(input: &str, output: &str) -> Result<(), Failure> {
+    let read = fs::metadata(if input == "-" { "/dev/stdin" } else { input });
+    if read.is_ok_and(|m| m.is_file() && identity(output) == Some((m.dev(), m.ino(), None))) {
+        return Err(Failure::Use(format!("{output} is the file that is read: the output wants one of its own")));
+    }
+    Ok(())
+}
+
 /// A name in the same folder that no other run of the program uses.
 fn beside(name: &Path) -> PathBuf {
     let mut own = std::ffi::OsString::from(".");
@@ -338,10 +404,33 @@ pub fn floats_of(bytes: &[u8]) -> Vec<f32> {
     bytes.chunks_exact(4).map(|b| f32::from_le_bytes([b[0], b[1], b[2], b[3]])).collect()
 }
 
+/// A message in hexadecimal from its length and bytes; Mode A/C high byte first, as the tape program and paper have it, and behind
+/// it the squawk: the four octal digits of its data.
+pub fn message_text(length_and_bytes: &[u8]) -> String {
+    let bytes = &length_and_bytes[1..][..usize::from(length_and_bytes[0])];
+    match *bytes {
+        [low, high] => {
+            let word = u16::from_le_bytes([low, high]);
+            format!("{word:04x} {:04o}", word & MODE_AC_DATA)
+        }
+        _ => bytes.iter().map(|b| format!("{b:02x}")).collect(),
+    }
+}
+
+/// The bits of Mode A/C data; SPI is the one above them.
+pub const MODE_AC_DATA: u16 = 0xfff;
+
 const FIELDS: [&str; 13] = [
     "gap", "type", "CN0", "amplitude", "carrier", "phase", "clock error", "format pick", "capability pick", "overlay", "bytes",
     "Mode A/C data", "SPI",
 ];
+
+pub const LENGTH_REFUSED: u64 = 9;
+
+/// Refusal 9 of bytes that are to be entries of a length.
+pub fn refused_length(entries: &str, length: usize) -> Failure {
+    Failure::Refused(format!("refused 9: no whole number of {entries}, {length} bytes each"))
+}
 
 /// A refusal in words (SPECIFICATION 3.1): what its number means, with the values beside it.
 pub fn refused(number: u64, value: u64, field: u64) -> Failure {
@@ -352,9 +441,10 @@ pub fn refused(number: u64, value: u64, field: u64) -> Failure {
         4 => format!("{}: an unknown kind, or a parameter out of range", ["the carrier offset", "the phase", "the clock error"][value.min(2) as usize]),
         5 => "the taps: a list of another length, or a tap not finite or above 16 in size".into(),
         6 => "a prototype value not finite or above 16 in size, or no crossing of the trigger level".into(),
-        7 => format!("draw {value}, field {field} ({})", FIELDS.get(field as usize).unwrap_or(&"?")),
+        7 => format!("draw {value}, field {field} ({}) is out of range", FIELDS.get(field as usize).unwrap_or(&"?")),
         8 => format!("noise value {value} is not finite or above 64 in size"),
-        9 => "a length".into(),
+        9 => "bytes or numbers of a wrong length".into(),
+        10 => "Mode A/C data of 4096 or more, or a digit of 8 or more".into(),
         11 => "the tape: short, a wrong count, more than 400 draws, bytes left over, or draws or noise that run out".into(),
         12 => "output or noise of another length than the duration asks for".into(),
         13 => "a level above 200.0 dB".into(),

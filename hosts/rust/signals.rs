@@ -1,5 +1,5 @@
-//! What the standard library does not give a program: temporary files that are removed when a signal ends it, and whether
-//! standard output was closed at its start.
+//! What the standard library does not give a program: temporary files that are removed when a signal ends it, an end that a
+//! signal asks for, and whether standard output was closed at its start.
 use std::ffi::{CString, c_char, c_int};
 use std::os::unix::ffi::OsStrExt;
 use std::path::Path;
@@ -18,13 +18,18 @@ unsafe extern "C" {
 const SIGHUP: c_int = 1;
 const SIGINT: c_int = 2;
 const SIGTERM: c_int = 15;
+/// A file would grow beyond what the process may write.
+const SIGXFSZ: c_int = 25;
 const DEFAULT: usize = 0;
 const IGNORED: usize = 1;
 const STANDARD_OUTPUT: c_int = 1;
 const GET_FLAGS: c_int = 1;
 
-/// The names to remove; a run has two.
-static NAMES: [AtomicPtr<c_char>; 8] = [const { AtomicPtr::new(null_mut()) }; 8];
+/// The most outputs of a command: the feeds of a rack.
+const MOST_OUTPUTS: usize = 16;
+
+/// The names to remove.
+static NAMES: [AtomicPtr<c_char>; MOST_OUTPUTS] = [const { AtomicPtr::new(null_mut()) }; MOST_OUTPUTS];
 static OUTPUT_CLOSED: AtomicBool = AtomicBool::new(false);
 
 /// Removes the temporary files, and lets the signal end the program. It calls only what a handler may.
@@ -50,6 +55,29 @@ pub fn catch() {
             }
         }
     }
+}
+
+static END_ASKED: AtomicBool = AtomicBool::new(false);
+
+extern "C" fn asked(_: c_int) {
+    END_ASKED.store(true, SeqCst);
+}
+
+/// From here on hang-up, interrupt and termination ask for an end (`end_asked`); one that the caller has ignored stays so. A
+/// write beyond the largest file fails, and does not end the program.
+pub fn catch_as_asked() {
+    unsafe { signal(SIGXFSZ, IGNORED) };
+    for number in [SIGHUP, SIGINT, SIGTERM] {
+        unsafe {
+            if signal(number, asked as Handler as usize) == IGNORED {
+                signal(number, IGNORED);
+            }
+        }
+    }
+}
+
+pub fn end_asked() -> bool {
+    END_ASKED.load(SeqCst)
 }
 
 pub fn remove_when_ended(name: &Path) {

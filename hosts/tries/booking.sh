@@ -25,7 +25,7 @@ made none $draws=00000000 12=00000000
 expect 0 "samples 0 noise 0 records 0
 draws ran out" booking "$scratch/none.tape"
 made fault $draws=04000000 $((behind + 8))=09
-expect 1 "refused 7: draw 3, field 1 (type)" booking "$scratch/fault.tape"
+expect 1 "$scratch/fault.tape: refused 7: draw 3, field 1 (type) is out of range" booking "$scratch/fault.tape"
 made nanoseconds 12=00ca9a3b
 expect 1 "refused 1: the duration" booking "$scratch/nanoseconds.tape"
 made settings 0=02000000
@@ -48,5 +48,18 @@ expect 1 "refused 11" booking "$scratch/eight-of-3001.tape"
 tapes/tape eight 152335 127=04 >"$scratch/four-of-6000.tape"
 expect 1 "refused 11" booking "$scratch/four-of-6000.tape"
 expect 3 "nowhere.tape" booking "$scratch/nowhere.tape"
+expect 3 "$scratch: Is a directory" booking "$scratch"
+# The noise is not read: a pipe that has none is not waited for.
+mkfifo "$scratch/pipe"
+{ cat "$scratch/no-noise.tape"; exec sleep 20; } >"$scratch/pipe" &
+writer=$!
+expect 0 "samples 8000 noise 16000 records 2
+ends at draw 2" booking "$scratch/pipe"
+tried=$((tried + 1))
+if ! kill $writer 2>/dev/null; then
+    failed=$((failed + 1))
+    echo "more1090 booking waits for the noise"
+fi
+wait $writer 2>/dev/null
 expect 2 "an argument is missing" booking
 expect 2 "one argument too many" booking crates/tape/stdin again

@@ -38,13 +38,16 @@ if [ -x "$host" ]; then
     [ $? = 3 ] || { failed=$((failed + 1)); echo "c_host: a closed standard output is not status 3"; }
     (cd "$scratch/c" && "$host" --help >/dev/null) || { failed=$((failed + 1)); echo "c_host --help: not status 0"; }
     [ -z "$(ls -A "$scratch/c")" ] || { failed=$((failed + 1)); echo "c_host: what failed left a file"; }
-    c_runs 0 "first " "$file" 31.5
+    c_runs 0 "message 0280 squawk 1200" "$file" 31.5
     "$host" - 31.5 2>/dev/null | cmp -s - "$file" || { failed=$((failed + 1)); echo "c_host: a pipe gets other samples"; }
     [ "$(ls -A "$scratch/c")" = a ] || { failed=$((failed + 1)); echo "c_host: another file beside its own"; }
     [ "$(cksum <"$file")" = "1852173547 640000" ] || { failed=$((failed + 1)); echo "c_host: other samples"; }
+    [ "$("$host" --sum "$file" 31.5 2>/dev/null)" = "$(cksum "$file")" ] || { failed=$((failed + 1)); echo "c_host --sum: another sum"; }
+    "$host" --sum - 31.5 2>&1 >/dev/null | tail -1 | cmp -s - <(cksum <"$file") || { failed=$((failed + 1)); echo "c_host --sum: another sum of a pipe"; }
+    c_runs 2 "an option is given twice: --sum" --sum --sum "$file"
     c_runs 0 "first " --trigger-level 0.5 --samples-per-pulse 8 "$file"
     [ "$(cksum <"$file")" = "4071830262 1280000" ] || { failed=$((failed + 1)); echo "c_host: other samples at 8 samples per pulse"; }
     c_runs 0 "first " --samples-per-pulse 4 "$file" 31.5
     "$host" - 31.5 2>/dev/null | cmp -s - "$file" || { failed=$((failed + 1)); echo "c_host: 4 samples per pulse are not what is made without"; }
-    tried=$((tried + 9))
+    tried=$((tried + 11))
 fi

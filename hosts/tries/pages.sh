@@ -12,9 +12,11 @@ expect 0 "" pages "$scratch/record" "$scratch/paper"
 : >"$scratch/none"
 expect 0 "" pages "$scratch/none"
 head -c 65 /dev/zero >"$scratch/short"
-expect 1 "refused 9" pages "$scratch/short"
+expect 1 "$scratch/short: refused 9: no whole number of records, 66 bytes each" pages "$scratch/short"
 { cat "$scratch/record"; head -c 66 /dev/zero; } >"$scratch/fault"
 expect 1 "refused 18: record 1" pages "$scratch/fault"
 expect 3 "none/such" pages "$scratch/none/such"
+expect 1 "$scratch/fault: refused 18: record 1" pages "$scratch/fault"
+expect 2 "is the file that is read" pages "$scratch/record" "$scratch/record"
 expect 2 "an argument is missing" pages
 expect 2 "one argument too many" pages a b c

@@ -55,7 +55,10 @@ holds "--help makes no file" empty "$scratch/files"
 # Outputs.
 runs 0 "8000 of 8000 samples" 0.001 4000 1 "$file" "$lines"
 holds "8000 samples are 64000 bytes" [ "$(stat -c %s "$file")" = 64000 ]
-holds "records are lines of six words" awk 'NF != 6 { bad = 1 } END { exit bad || NR == 0 }' "$lines"
+holds "records are lines of six words, and seven for Mode A/C" awk 'NF != 6 + ($2 == 6) { bad = 1 } END { exit bad || NR == 0 }' "$lines"
+runs 0 "" 0.01 40000 1 /dev/null "$lines"
+holds "Mode A/C has four digits at most 1fff and its squawk" awk '$2 == 6 && $6 ~ /^[01][0-9a-f][0-9a-f][0-9a-f]$/ && $7 ~ /^[0-7][0-7][0-7][0-7]$/ { n++ }
+    $2 == 6 { m++ } END { exit n != m || !n }' "$lines"
 cp "$file" "$scratch/first"
 runs 0 "" --trigger-level 0.5 0.001 4000 1 "$file"
 holds "the same words give the same bytes" cmp "$file" "$scratch/first"

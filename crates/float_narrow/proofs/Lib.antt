@@ -5,3 +5,5 @@ pub mod NarrowOrder
 pub mod CeilAsFloat
 pub mod Widening
 pub mod Ranges
+mod Blocks
+pub mod Written

@@ -1,3 +1,4 @@
 pub mod Narrow
 pub mod Ceil
 pub mod Range
+pub mod BlockModel

@@ -1,18 +1,35 @@
 // Rust's `as f32` of an `f64`, which the language lacks: std's rounding, and a shorter way for the normal range.
 #![tactic(auto)]
 
-ghost use Rattle.std.specs.Prelude.{◌≡◌, ◌%◌, ◌<◌, ◌≤◌, from_bits};
+ghost use Rattle.std.specs.Prelude.{◌≡◌, ◌%◌, ◌<◌, ◌≤◌, true, T, not, map, is_nan, to_bits, from_bits};
 ghost use Rattle.std.specs.Float.{binary64};
 ghost use Rattle.float_narrow.specs.Narrow.{narrow as narrowed};
+ghost use Rattle.float_narrow.specs.BlockModel.{NoNaN, AllPlain, IsPlain};
 
-// The `f32` of an `f64` pattern in the normal range: rounded as a whole to its upper 35 bits it is a value that `f32` holds, so that the cast loses nothing.
-#[tactic(auto, using(crate::proofs::Widening::rounded, crate::proofs::Widening::holds, crate::proofs::Widening::no_nan), unfolding(crate::proofs::Widening::upper))]
-fn narrow_normal(bits: u64) -> f32
-    requires { (0x3810_0000_0000_0000 ≤ bits % 0x8000_0000_0000_0000) × (bits % 0x8000_0000_0000_0000 < 0x47e0_0000_0000_0000) }
+// The sign's bit, and without it the patterns of the least normal `f32` and of the first `f64` beyond the normal range.
+const SIGN: u64 = 0x8000_0000_0000_0000;
+
+const LEAST_NORMAL: u64 = 0x3810_0000_0000_0000;
+
+const BEYOND_NORMAL: u64 = 0x47e0_0000_0000_0000;
+
+// The `f32` of a pattern of zero or in the normal range: rounded as a whole to its upper 35 bits it is a value that `f32` holds, so that the cast loses nothing.
+#[tactic(auto, using(crate::proofs::Blocks::rounded_plain, crate::proofs::Blocks::holds_plain, crate::proofs::Blocks::no_nan_plain), unfolding(crate::proofs::Widening::upper))]
+fn narrow_bits(bits: u64) -> f32
+    requires { IsPlain bits }
     ensures { result ≡ narrowed (from_bits binary64 bits) }
 {
     let upper = (bits + 0xfff_ffff + bits / 0x2000_0000 % 2) / 0x2000_0000;
     f64::from_bits(upper * 0x2000_0000) as f32
+}
+
+// The same of the value.
+#[tactic(auto, using(crate::proofs::Narrowing::by_bits))]
+fn narrow_normal(x: f64) -> f32
+    requires { T (not (is_nan x)) × IsPlain (to_bits binary64 x) }
+    ensures { result ≡ narrowed x }
+{
+    narrow_bits(f64::to_bits(x))
 }
 
 // Rust's `x as f32`. The normal range apart, for speed: nearly all values lie there, and std's function works each out from its digits.
@@ -24,9 +41,75 @@ pub fn narrow(x: f64) -> f32
         return 0.0 / 0.0;
     }
     let bits = f64::to_bits(x);
-    let size = bits % 0x8000_0000_0000_0000;
-    if size < 0x3810_0000_0000_0000 || 0x47e0_0000_0000_0000 <= size {
+    let size = bits % SIGN;
+    if size < LEAST_NORMAL || BEYOND_NORMAL <= size {
         return std::num::nearest_f64_to_f32(x);
     }
-    narrow_normal(bits)
+    narrow_normal(x)
+}
+
+// Values of a block.
+pub const BLOCK: usize = 32;
+
+// No value is a NaN, whose pattern is not defined.
+fn no_nan(x: &[f64; BLOCK]) -> bool
+    ensures { result ≡ true → NoNaN x.now }
+{
+    for v in x {
+        if *v != *v {
+            return false;
+        }
+    }
+    true
+}
+
+#[tactic(auto, using(crate::proofs::Blocks::plain_by_bits))]
+// Its highest bit is 0 where a pattern is of zero or in the normal range.
+fn outside(bits: u64) -> u64
+    ensures { result < 0x8000_0000_0000_0000 → IsPlain bits }
+{
+    let size = bits % SIGN;
+    (BEYOND_NORMAL - 1).wrapping_sub(size) | size.wrapping_sub(LEAST_NORMAL) & !size.wrapping_sub(1)
+}
+
+// All values are zero or in the normal range. A sum of bits and no comparison, so that the compiler takes several values at once.
+fn all_plain(x: &[f64; BLOCK]) -> bool
+    requires { NoNaN x.now }
+    ensures { result ≡ true → AllPlain x.now }
+{
+    let mut bad: u64 = 0;
+    for i in 0..BLOCK {
+        bad |= outside(f64::to_bits(x[i]));
+    }
+    bad < SIGN
+}
+
+// Each value of the normal range as `f32`.
+fn narrow_plainly(x: &[f64; BLOCK], y: &mut [f32; BLOCK])
+    requires { AllPlain x.now }
+    ensures { y.new ≡ map narrowed x.now }
+{
+    for i in 0..BLOCK {
+        y[i] = narrow_normal(x[i]);
+    }
+}
+
+// Any value as `f32`.
+fn narrow_each(x: &[f64; BLOCK], y: &mut [f32; BLOCK])
+    ensures { y.new ≡ map narrowed x.now }
+{
+    for i in 0..BLOCK {
+        y[i] = narrow(x[i]);
+    }
+}
+
+// Rust's `as f32` of each value of a block.
+pub fn narrow_block(x: &[f64; BLOCK], y: &mut [f32; BLOCK])
+    ensures { y.new ≡ map narrowed x.now }
+{
+    if no_nan(x) && all_plain(x) {
+        narrow_plainly(x, y);
+    } else {
+        narrow_each(x, y);
+    }
 }

@@ -29,8 +29,8 @@ read_at n value past s at = cond (inside n s at) (value (le_at n s at)) past
 abbrev pub number_at : ℕ → List ℕ → ℕ → ℕ
 number_at n s at = read_at n (λ v. v) 0 s at
 
--- s with bs instead of as many of its bytes from at
-unfoldable pub overwritten : List ℕ → ℕ → List ℕ → List ℕ
+-- s with bs instead of as many of its entries from at; of bytes, and of any other list
+unfoldable pub overwritten : {X : Type 0} → List X → ℕ → List X → List X
 overwritten s at bs = take at s ++ bs ++ drop (at + length bs) s
 
 -- s with v written in n bytes from at; s itself where they would run past the end

@@ -52,7 +52,7 @@ pub struct SinCos {
 }
 
 // 1.5 times PI / 2. Half of PI / 2 is FRAC_PI_4.
-const OUTER_LIMIT: f64 = 2.356194490192345;
+pub const OUTER_LIMIT: f64 = 2.356194490192345;
 
 #[tactic(auto, using(crate::proofs::Literals::pi_is, crate::proofs::Literals::half_pi_is, crate::proofs::Literals::outer_limit_is, crate::proofs::Literals::inner_limit_is), unfolding(crate::specs::Carrier::reduced))]
 fn reduce(p: f64) -> Reduced

@@ -19,16 +19,22 @@ ghost use Rattle.more1090_level.specs.LevelInC.{refusal_of, amplitude_left};
 ghost use Rattle.page_fill.specs.Pages.{pages_answer, pages_left};
 ghost use Rattle.page_read.specs.Fields.{fields_of};
 ghost use Rattle.more1090_pages.specs.Flat.{flat_answer, flat_line, line_message};
+ghost use Rattle.le_read.specs.LeBytes.{overwritten};
+ghost use Rattle.more1090_tape.specs.Flat.{head_wanted, open_left, flat_fed, flat_ending, flat_text};
 ghost use Rattle.more1090_log.specs.LogInC.{flat_comparison};
 ghost use Rattle.more1090_rack.specs.Flat.{open_flat, run_flat};
+ghost use Rattle.more1090_bytes.specs.Flat.{save_flat, restore_flat};
 
 use more1090_booking::FlatBooking;
+use more1090_bytes::FlatRestored;
 use more1090_generator::{FlatOpened, FlatRan, FlatState};
 use more1090_log::FlatCompared;
 use more1090_pages::{FlatLine, FlatPages};
 use more1090_rack::Answered;
 use more1090_single::FlatSingle;
+use more1090_tape::{FlatBeginning, FlatEnding, FlatTape};
 use rack::Rack;
+use tape_text::TEXT_LEN;
 
 // Opens a run; refused, it changes no buffer, and the state is all zero.
 #[unsafe(no_mangle)]
@@ -170,6 +176,64 @@ pub extern "C" fn more1090_page_line(line: &[u8], message: &mut [u8; 14]) -> Fla
     more1090_pages::more1090_page_line(line, message)
 }
 
+// How many bytes of a tape stand before its noise, as far as the first ones say.
+#[unsafe(no_mangle)]
+pub extern "C" fn more1090_tape_head_length(first: &[u8]) -> u64
+    ensures { result ≡ head_wanted first.now }
+{
+    more1090_tape::more1090_tape_head_length(first)
+}
+
+// Opens the run of a tape, of which all before its noise is passed. Refused, it changes no buffer.
+#[unsafe(no_mangle)]
+pub extern "C" fn more1090_tape_open(
+    head: &[u8],
+    mode_s: &mut [f32],
+    mode_ac: &mut [f32],
+    memory: &mut [f32],
+) -> FlatBeginning
+    ensures { record { beginning = result; left = record { mode_s = mode_s.new; mode_ac = mode_ac.new; memory = memory.new } } ≡ open_left head.now (record { mode_s = mode_s.old; mode_ac = mode_ac.old; memory = memory.old }) }
+{
+    more1090_tape::more1090_tape_open(head, mode_s, mode_ac, memory)
+}
+
+// Feeds the run of a tape a chunk of noise, given all its draws and records.
+#[unsafe(no_mangle)]
+pub extern "C" fn more1090_tape_feed(
+    tape: FlatTape,
+    mode_s: &[f32],
+    mode_ac: &[f32],
+    memory: &mut [f32],
+    draws: &[u8],
+    noise: &[f32],
+    output: &mut [f32],
+    records: &mut [u8],
+) -> FlatTape
+    ensures { record { tape = result; memory = memory.new; output = output.new; records = records.new } ≡ flat_fed mode_s.now mode_ac.now draws.now noise.now (record { tape = tape; memory = memory.old; output = output.old; records = records.old }) }
+{
+    more1090_tape::more1090_tape_feed(tape, mode_s, mode_ac, memory, draws, noise, output, records)
+}
+
+// How a tape ends, by how its noise section does: 0 whole, 1 with bytes left over, any other number short.
+#[unsafe(no_mangle)]
+pub extern "C" fn more1090_tape_ending(tape: FlatTape, end: u64) -> FlatEnding
+    ensures { result ≡ flat_ending tape end }
+{
+    more1090_tape::more1090_tape_ending(tape, end)
+}
+
+// What is printed of a tape that ends so, with the records of its run; its length.
+#[unsafe(no_mangle)]
+pub extern "C" fn more1090_tape_text(
+    ending: FlatEnding,
+    records: &[u8],
+    text: &mut [u8; TEXT_LEN],
+) -> u64
+    ensures { (result ≡ length (flat_text ending records.now)) × (text.new ≡ overwritten text.old 0 (flat_text ending records.now)) }
+{
+    more1090_tape::more1090_tape_text(ending, records, text)
+}
+
 // A log of 23-byte entries against records of 66 bytes: the counts, and each entry's record and each record's entry by their indices. A refusal writes to neither list.
 #[unsafe(no_mangle)]
 pub extern "C" fn more1090_compare_log(
@@ -203,4 +267,34 @@ pub extern "C" fn more1090_rack_run(
     ensures { record { answered = result; memory = memory.new; room = room.new } ≡ run_flat rack memory.old (record { samples = samples.entry.now; room = room.old }) }
 {
     more1090_rack::more1090_rack_run(rack, memory, samples, room)
+}
+
+// Stores a run between two calls, with the rack behind it where a rack's memory is lent. Refusal 0 is none.
+#[unsafe(no_mangle)]
+pub extern "C" fn more1090_save(
+    state: FlatState,
+    mode_s: &[f32],
+    mode_ac: &[f32],
+    memory: &[f32],
+    rack: Rack,
+    rack_memory: &[f32],
+    bytes: &mut [u8],
+) -> u64
+    ensures { record { refusal = result; bytes = bytes.new } ≡ save_flat state mode_s.now mode_ac.now memory.now rack rack_memory.now bytes.old }
+{
+    more1090_bytes::more1090_save(state, mode_s, mode_ac, memory, rack, rack_memory, bytes)
+}
+
+// Reads a run back. Refused, it changes no buffer, and state and rack are all zero.
+#[unsafe(no_mangle)]
+pub extern "C" fn more1090_restore(
+    bytes: &[u8],
+    mode_s: &mut [f32],
+    mode_ac: &mut [f32],
+    memory: &mut [f32],
+    rack_memory: &mut [f32],
+) -> FlatRestored
+    ensures { record { answered = result; lent = record { mode_s = mode_s.new; mode_ac = mode_ac.new; memory = memory.new; rack_memory = rack_memory.new } } ≡ restore_flat bytes.now (record { mode_s = mode_s.old; mode_ac = mode_ac.old; memory = memory.old; rack_memory = rack_memory.old }) }
+{
+    more1090_bytes::more1090_restore(bytes, mode_s, mode_ac, memory, rack_memory)
 }

@@ -136,7 +136,7 @@ module _ (taps_s taps_ac : List Float) (settings : List ℕ) (given : Opening.Op
       }
 
 -- no refusal has the number 0
-refusal_above : (q : Refusal.Refusal) → number_of q ≡ 0 → ⊥
+pub refusal_above : (q : Refusal.Refusal) → number_of q ≡ 0 → ⊥
 unfolding number_of
 refusal_above Refusal.TheVariants.Duration e = absurd (omega arith)
 refusal_above (Refusal.TheVariants.Rate k) e = absurd (omega arith)

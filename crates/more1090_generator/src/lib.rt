@@ -176,7 +176,7 @@ fn clock_in(f: FlatDistribution) -> ClockError
 }
 
 #[tactic(auto, unfolding(crate::specs::States::flat_of, crate::specs::States::rates_flat))]
-fn state_out(s: State) -> FlatState
+pub fn state_out(s: State) -> FlatState
     ensures { result ≡ flat_of s }
 {
     FlatState {
@@ -204,7 +204,7 @@ fn state_out(s: State) -> FlatState
 }
 
 #[tactic(auto, unfolding(crate::specs::States::state_from, crate::specs::States::rates_from))]
-fn state_in(f: FlatState) -> State
+pub fn state_in(f: FlatState) -> State
     ensures { result ≡ state_from f }
 {
     State {
@@ -237,7 +237,7 @@ fn state_in(f: FlatState) -> State
 
 // What a refused opening says as its state.
 #[tactic(auto, unfolding(crate::specs::States::no_state, crate::specs::States::no_rates, crate::specs::States::distribution_of))]
-fn no_state() -> FlatState
+pub fn no_state() -> FlatState
     ensures { result ≡ no_state }
 {
     let none = FlatDistribution {
@@ -291,7 +291,7 @@ fn opened_out(o: Result<State, Refusal>) -> FlatOpened
 }
 
 #[tactic(auto, unfolding(run_call::specs::Given::stop_number, run_steps::specs::PlanModel::stop_read))]
-fn stop_number(w: Stop) -> u64
+pub fn stop_number(w: Stop) -> u64
     ensures { result ≡ stop_number w }
 {
     w as u64

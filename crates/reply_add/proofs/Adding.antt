@@ -13,28 +13,18 @@ use Rattle.filterbank.proofs.Padded.{most_taken}
 use Rattle.reply_pulses.specs.ReplyPulses.{pulses_of, positions_of}
 use Rattle.reply_pulses.proofs.Positions.{len_most}
 use Rattle.reply_samples.specs.declared.Sample.{Sample}
-use Rattle.reply_samples.specs.Samples.{rotated, prototype_of, reply_samples}
+use Rattle.reply_samples.specs.Samples.{prototype_of, reply_samples}
 use Rattle.reply_samples.specs.RingModel.{added_reply, added_count}
-use Rattle.reply_samples.proofs.Counts.{rotated_length, samples_counted}
+use Rattle.reply_samples.proofs.Counts.{samples_counted}
 use Rattle.reply_add.specs.declared.ReplySignal.{ReplySignal}
 use Rattle.reply_add.specs.declared.Wave.{Wave}
 use Rattle.reply_add.specs.Signal.{samples_of, count_of}
-use Rattle.reply_add.specs.AddModel.{Adds, padded_values, wave_of, wave_samples}
+use Rattle.reply_add.specs.AddModel.{Adds, wave_of, wave_samples}
 use Rattle.reply_add.proofs.PaddedWave.{wave_samples_lem}
 
 pub pulses_most : (r : Reply) (p : Pulses) → p ≡ pulses_of r → p.len ≤ 240
 pulses_most r p e = subst (λ (x : Pulses). x.len ≤ 240) (sym e) (len_most r)
 
--- ---- of a wave
-pub by_wave : (sps : ℕ) (prototype : List Float) (padded : List Bool) (w : Wave) (values m m' : List Float) (slot r : ℕ) → values ≡ padded_values sps prototype padded w.limit w.step w.clock
-    → m' ≡ added_reply sps m slot (rotated w.carrier.amplitude w.carrier.rate w.carrier.phase values) → r ≡ added_count sps m slot (length values) → Adds sps m slot (wave_samples sps prototype padded w) m' r
-unfolding wave_samples
-by_wave sps prototype padded w values m m' slot r ev em er = (
-  em ∙ ap (λ (vs : List Float). added_reply sps m slot (rotated w.carrier.amplitude w.carrier.rate w.carrier.phase vs)) ev,
-  er ∙ ap (added_count sps m slot) (ap length ev ∙ sym (rotated_length w.carrier.amplitude w.carrier.rate w.carrier.phase (padded_values sps prototype padded w.limit w.step w.clock))),
-)
-
--- ---- of a reply
 samples_in : (r : ReplySignal) (p : Pulses) (w : Wave) (padded : List Bool) (prototype : List Float) → p ≡ pulses_of r.config.reply → padded ≡ pad_pulses (take 240 (take p.len p.on))
     → prototype ≡ prototype_of r.config.reply.kind r.prototypes.mode_s.now r.prototypes.mode_ac.now → w ≡ wave_of r p.len → wave_samples (per_pulse r.setting) prototype padded w ≡ samples_of r
 unfolding positions_of samples_of reply_samples

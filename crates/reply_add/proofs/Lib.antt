@@ -1,3 +1,4 @@
 pub mod Filling
 pub mod PaddedWave
+pub mod Waves
 pub mod Adding

@@ -2,23 +2,23 @@
 // The public function is equal to definitions of specs/ on every input.
 #![tactic(auto)]
 
-ghost use Rattle.std.specs.Prelude.{◌≡◌, ◌≤◌, length, take};
+ghost use Rattle.std.specs.Prelude.{◌≡◌, ◌≤◌, ◌<◌, length};
 ghost use Rattle.constants.specs.Setting.{per_pulse};
+ghost use Rattle.constants.specs.Rate.{working_memory, ring_slots};
 ghost use Rattle.reply_samples.specs.Samples.{prototype_of};
-ghost use Rattle.reply_samples.specs.RingModel.{added_reply, added_count};
+ghost use Rattle.reply_samples.specs.RingModel.{added_from, added_reply, added_count};
 ghost use Rattle.reply_add.specs.Signal.{samples_of, count_of};
-ghost use Rattle.reply_add.specs.AddModel.{padded_value, padded_values, wave_of, wave_samples, Adds};
+ghost use Rattle.reply_add.specs.AddModel.{wave_of, wave_samples, Adds};
 
+use block_clocks::{Block, Ended, Pace, Tick};
 use constants::SamplesPerPulse;
 use filterbank::Clock;
 use filterbank_apply::PADDED_LEN;
+use float_narrow::BLOCK;
 use message::ReplyKind;
 use message_config::{Delays, MessageConfig};
 use pulse_shape::Filters;
 use reply_samples::Carrier;
-
-// The most values of a reply at 8 samples per pulse: nine for each of 246 indices.
-const MOST_VALUES: usize = 9 * 246;
 
 // The filterbank of a reply: a prototype, and the padded pulses that it runs over.
 #[derive(Clone, Copy)]
@@ -38,43 +38,62 @@ struct Wave {
 }
 
 impl Bank<'_> {
-    // Its value at a clock.
-    #[tactic(auto, unfolding(crate::specs::AddModel::padded_value))]
-    fn value_at(self, clock: Clock) -> f32
-        ensures { result ≡ padded_value (per_pulse self.entry.setting) self.entry.prototype.now self.entry.padded.now clock }
-    {
-        filterbank_apply::pulse_sum(
-            filterbank::filter_taps(self.setting, self.prototype, clock.phase),
-            self.padded,
-            clock.index,
-        )
-    }
-
-    // Writes its values from a wave's clock on, up to the wave's limit, and answers how many they are.
-    fn fill_values(self, w: Wave, values: &mut [f32]) -> usize
-        requires { (length values.old ≡ 2214) × (w.limit ≤ 246) }
-        ensures { (take result values.new ≡ padded_values (per_pulse self.entry.setting) self.entry.prototype.now self.entry.padded.now w.limit w.step w.clock) × (result ≤ 2214) × (length values.new ≡ 2214) }
-    {
-        let most = (self.setting.number() as usize + 1) * w.limit;
-        let mut clock = w.clock;
-        for n in 0..most {
-            if clock.index >= w.limit {
-                return n;
-            }
-            values[n] = self.value_at(clock);
-            clock = filterbank_clock::advance(clock, w.step);
-        }
-        most
-    }
-
-    // Adds the samples of a wave from a slot on, and answers how many they are. The values come first, in a loop of their own: the processor works on more samples at once than where each one's value and sine wait for each other.
+    // Adds the samples of a wave from a slot on, and answers how many they are.
+    #[tactic(auto, unfolding(reply_samples::specs::RingModel::is_slot, reply_samples::specs::RingModel::added_reply, reply_samples::specs::RingModel::added_count))]
     fn add_wave(self, w: Wave, memory: &mut [f32], slot: usize) -> u16
         requires { w.limit ≤ 246 }
         ensures { Adds (per_pulse self.entry.setting) memory.old slot (wave_samples (per_pulse self.entry.setting) self.entry.prototype.now self.entry.padded.now w) memory.new result }
     {
-        let mut values = [0.0; MOST_VALUES];
-        let count = self.fill_values(w, &mut values);
-        reply_samples::add_rotated(self.setting, &values[..count], w.carrier, memory, slot) as u16
+        if memory.len() != self.setting.memory_len() || slot >= self.setting.ring_slots() {
+            return 0;
+        }
+        self.add_blocks(w, memory, slot) as u16
+    }
+
+    // The same where the memory has its length and the slot is one of its ring, block by block.
+    fn add_blocks(self, w: Wave, memory: &mut [f32], slot: usize) -> usize
+        requires { (length memory.old ≡ working_memory (per_pulse self.setting)) × (slot < ring_slots (per_pulse self.setting)) × (w.limit ≤ 246) }
+        ensures memory { memory.new ≡ added_from (per_pulse self.entry.setting) memory.old slot (wave_samples (per_pulse self.entry.setting) self.entry.prototype.now self.entry.padded.now w) }
+        ensures count { result ≡ length (wave_samples (per_pulse self.entry.setting) self.entry.prototype.now self.entry.padded.now w) }
+        ensures most { result ≤ 2214 }
+    {
+        let most = (self.setting.number() as usize + 1) * w.limit;
+        let pace = Pace {
+            step: w.step,
+            rate: w.carrier.rate,
+            limit: w.limit,
+        };
+        let mut block = Block {
+            phases: [0.0; BLOCK],
+            indices: [0; BLOCK],
+            carriers: [0.0; BLOCK],
+        };
+        let mut values = [0.0; BLOCK];
+        let mut at = Ended {
+            tick: Tick {
+                clock: w.clock,
+                carrier: w.carrier.phase,
+            },
+            n: 0,
+        };
+        let mut slot = slot;
+        let mut count: usize = 0;
+        while count < most && at.tick.clock.index < w.limit {
+            at = block_clocks::fill(at.tick, most - count, pace, &mut block);
+            let values = &mut values[..at.n];
+            block_values::fill(self.setting, self.prototype, self.padded, &block, values);
+            block_rotate::add(
+                self.setting,
+                values,
+                w.carrier.amplitude,
+                &block.carriers,
+                memory,
+                slot,
+            );
+            slot = (slot + at.n) % self.setting.ring_slots();
+            count += at.n;
+        }
+        count
     }
 }
 

@@ -1,3 +1,3 @@
-pub mod LoopSteps
+pub mod AtSlot
 pub mod Counts
 pub mod Ring

@@ -17,7 +17,7 @@ use Rattle.filterbank.proofs.Padded.{le_or_lt}
 use Rattle.reply_samples.specs.declared.Sample.{Sample}
 use Rattle.reply_samples.specs.RingModel.{added_at, next_slot, added_from, is_slot, added_reply}
 use Rattle.constants.specs.Rate.{ring_slots}
-use Rattle.reply_samples.proofs.LoopSteps.{added_length}
+use Rattle.reply_samples.proofs.AtSlot.{added_length}
 
 -- among W slots the next is one more, and 0 after the last
 step : (W s : ℕ) → 0 < W → cond (ltb (s % W) (W - 1)) (s % W + 1) 0 ≡ (s + 1) % W

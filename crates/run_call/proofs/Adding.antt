@@ -12,9 +12,8 @@ use Rattle.constants.specs.Rate.{ring_slots, working_memory}
 use Rattle.constants.specs.Setting.{per_pulse}
 use Rattle.constants.specs.declared.SamplesPerPulse.{SamplesPerPulse}
 use Rattle.constants.proofs.Settings.{ring_pos}
-use Rattle.le_read.specs.LeBytes as LeBytes
 use Rattle.run_call_model.specs.Machine.{put}
-use Rattle.run_call_model.specs.Buffers.{overwritten}
+use Rattle.le_read.specs.LeBytes.{overwritten}
 use Rattle.message_config.specs.declared.Delays.{Delays}
 use Rattle.message_config.specs.declared.MessageConfig.{MessageConfig}
 use Rattle.settings.specs.declared.Distributions.{Distributions}
@@ -60,10 +59,10 @@ count_is : (sps : ℕ) (m : List Float) (slot n r : ℕ) → length m ≡ workin
 unfolding added_count
 count_is sps m slot n r e h p = p ∙ ap (λ (b : Bool). cond b n 0) (a_slot sps m slot e h)
 
-record_is : (s s' : List ℕ) (at : ℕ) (line : List ℕ) → at + 66 ≤ length s → s' ≡ record_at s at line → s' ≡ overwritten at line s
-unfolding record_at LeBytes.overwritten
+record_is : (s s' : List ℕ) (at : ℕ) (line : List ℕ) → at + 66 ≤ length s → s' ≡ record_at s at line → s' ≡ overwritten s at line
+unfolding record_at
 record_is s s' at line h p =
-    p ∙ ap (λ (b : Bool). cond b (LeBytes.overwritten s at line) s) (le-leb (at + 66) (length s) h) ∙ append_assoc (take at s) line (drop (at + length line) s)
+    p ∙ ap (λ (b : Bool). cond b (overwritten s at line) s) (le-leb (at + 66) (length s) h)
 
 -- what adding and recording a reply leaves, in working memory and where there is room for a record
 module _ (s : SamplesPerPulse) (all : Distributions) (delays : Delays) (time : Float) (first : ℕ) (rest : List ℕ) (last : MessageConfig) (e : last ≡ pending_of all time (draw_at rest)) (m : List Float) (l : length m ≡ working_memory (per_pulse s)) where
@@ -87,8 +86,8 @@ module _ (s : SamplesPerPulse) (all : Distributions) (delays : Delays) (time : F
   counted_by n p = count_is (per_pulse s) m slot (reply_count (per_pulse s) delays (message_at s last delays first rest)) n l in_ring p ∙ ap (reply_count (per_pulse s) delays) message
 
   pub recorded_by : (r r' : List ℕ) (at : ℕ) → at + 66 ≤ length r → r' ≡ records_with s last delays first rest m at r
-      → r' ≡ overwritten at (record_bytes (config_of all time (draw_at rest)) first (draw_at rest).kind (reply_count (per_pulse s) delays (config_of all time (draw_at rest)))) r
+      → r' ≡ overwritten r at (record_bytes (config_of all time (draw_at rest)) first (draw_at rest).kind (reply_count (per_pulse s) delays (config_of all time (draw_at rest))))
   unfolding records_with
   recorded_by r r' at h p =
       record_is r r' at _ h p
-      ∙ (λ i. overwritten at (record_bytes (message i) first (draw_at rest).kind (counted_by (count_with s last delays first rest m) refl i)) r)
+      ∙ (λ i. overwritten r at (record_bytes (message i) first (draw_at rest).kind (counted_by (count_with s last delays first rest m) refl i)))

@@ -14,7 +14,7 @@ use Rattle.run_theory.specs.Generator.{Generator, start_from}
 use Rattle.run_theory.specs.PlainRun.{kind_of}
 use Rattle.run_theory.specs.PlainBench as Bench
 use Rattle.run_call_model.specs.Machine.{later}
-use Rattle.run_call_model.specs.Buffers.{overwritten}
+use Rattle.le_read.specs.LeBytes.{overwritten}
 use Rattle.run_call_model.specs.Progress as Turns
 use Rattle.run_call_model.specs.Plan as Plans
 use Rattle.run_call_model.specs.Plan.{Plan, stop_at, drain_many, due_many, ignore, end_run, add_reply}
@@ -160,7 +160,7 @@ module _ (P : Planned) where
     added = added_of t;
     rest = rest;
     output = (samples_written_output s.setting noise memory output memory' output' t.written t.samples n memory_is f.noise_fits f.output_fits e
-        ∙ ap (λ (l : List Float). overwritten (2 * t.samples) l output) (sym (any_samples (draws (filters_of s mode_s mode_ac)) s.setting s.total memory t.written (take (2 * n) (drop (2 * t.samples) noise))))) j;
+        ∙ ap (λ (l : List Float). overwritten output (2 * t.samples) l) (sym (any_samples (draws (filters_of s mode_s mode_ac)) s.setting s.total memory t.written (take (2 * n) (drop (2 * t.samples) noise))))) j;
     records = records;
   }
 
@@ -266,5 +266,5 @@ module _ (P : Planned) where
         rest = drop 65 rest;
         output = output;
         records = (recorded_by s.setting s.distributions s.delays at first rest last next_is memory memory_is records records' (66 * t.records) (omega (arith, f.fits)) o
-            ∙ ap (λ (n : ℕ). overwritten (66 * t.records) (record_bytes message first (draw_at rest).kind n) records) (sym (counts (filters_of s mode_s mode_ac) s.total (draw_at rest).amplitude message))) j;
+            ∙ ap (λ (n : ℕ). overwritten records (66 * t.records) (record_bytes message first (draw_at rest).kind n)) (sym (counts (filters_of s mode_s mode_ac) s.total (draw_at rest).amplitude message))) j;
       }

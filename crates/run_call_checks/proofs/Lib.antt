@@ -1,3 +1,4 @@
 pub mod NoiseInRange
 pub mod Lengths
 pub mod Draws
+mod Rows

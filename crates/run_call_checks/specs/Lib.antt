@@ -1,3 +1,4 @@
 pub mod NoiseModel
 pub mod Checks
 pub mod ChecksModel
+pub mod RowsModel

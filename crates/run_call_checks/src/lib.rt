@@ -1,16 +1,18 @@
 // The checks of a run call: refusal 9 for lengths, 7 for draws, 8 for noise.
 #![tactic(auto)]
 
-ghost use Rattle.std.specs.Prelude.{◌≡◌, ◌||◌, false, cond, None, Some};
+ghost use Rattle.std.specs.Prelude.{◌≡◌, ◌||◌, false, true, cond, None, Some};
 ghost use Rattle.constants.specs.Setting.{per_pulse};
 ghost use Rattle.run_theory.specs.PlainBench.{draw_refusal, draws_of};
 ghost use Rattle.run_call_checks.specs.Checks.{wrong_memory};
 ghost use Rattle.run_call_checks.specs.ChecksModel.{wrong_buffers, jump_of, fault_read, check_generator};
 ghost use Rattle.run_generator.specs.Instance.{out_of_range};
+ghost use Rattle.run_call_checks.specs.RowsModel.{AllWithin};
 ghost use Rattle.run_call_checks.specs.NoiseModel.{out_of_range_from, noise_fault_read};
 
 use constants::{DRAW_LEN, SamplesPerPulse};
 use settings::{Distributions, MessagesPerSecond};
+use std::simd::prelude::*;
 
 // Refusal 9.
 pub fn lengths_wrong(
@@ -72,16 +74,27 @@ fn first_out_of_range(noise: &[f32]) -> Option<u64>
     None
 }
 
-// No noise value is at fault. Without an early exit the compiler can test several at once.
-#[tactic(auto, using(crate::proofs::NoiseInRange::in_range_end))]
+// Values of a row.
+const ROW: usize = 8;
+
+// No value of a row is at fault. The processor compares several at once.
+fn row_in_range(row: f32x8) -> bool
+    ensures { result ≡ true → AllWithin row }
+{
+    row.simd_le(f32x8::splat(NOISE_LIMIT)).all() && row.simd_ge(f32x8::splat(-NOISE_LIMIT)).all()
+}
+
+// No noise value is at fault: by rows, since nearly always none is.
 fn all_in_range(noise: &[f32]) -> bool
     ensures { cond result (out_of_range_from 0 noise.now) None ≡ None }
 {
-    let mut within = true;
-    for x in noise {
-        within &= float_range::within_f32(*x, NOISE_LIMIT);
+    let (rows, rest) = noise.as_chunks::<ROW>();
+    for row in rows {
+        if !row_in_range(f32x8::from_array(*row)) {
+            return false;
+        }
     }
-    within
+    first_out_of_range(rest).is_none()
 }
 
 // Refusal 8.

@@ -10,7 +10,7 @@ use Rattle.run_theory.specs.Generator.{Generator}
 use Rattle.run_theory.specs.PlainRun.{Kind, ignored, ends, reply}
 use Rattle.run_theory.specs.PlainBench.{Stop, wants_draws, Call, result_of}
 use Rattle.run_call_model.specs.Machine.{later, State, machine_call}
-use Rattle.run_call_model.specs.Buffers.{overwritten}
+use Rattle.le_read.specs.LeBytes.{overwritten}
 use Rattle.run_call_model.specs.Progress.{Progress, Ended, initial_progress, stopped, rest_of, Within, step_fuel}
 use Rattle.run_call_model.specs.Plan.{Plan, stop_at, drain_many, due_many, ignore, end_run, add_reply}
 use Rattle.run_call_model.proofs.FlatLists.{length_overwritten, draws_cons, length_draws}
@@ -29,7 +29,7 @@ module _ (G : Generator) (o : G.Value) (noise : List G.Value) where
   next_progress t (end_run time) = progress_with_draw G o noise t ends t.lines t.added t.records
   next_progress t (add_reply time s) =
       progress_with_draw G o noise t (reply s) (t.lines + 1) (t.added + length (adds (next_time G o noise t) (draw_at t.rest) s))
-      (overwritten (record_bytes * t.lines) (entry (next_time G o noise t) (draw_at t.rest) s (length (adds (next_time G o noise t) (draw_at t.rest) s))) t.records)
+      (overwritten t.records (record_bytes * t.lines) (entry (next_time G o noise t) (draw_at t.rest) s (length (adds (next_time G o noise t) (draw_at t.rest) s))))
 
   abbrev pub progress_by : (Progress G o → Ended G o) → Progress G o → Plan Time → Ended G o
   progress_by go t (stop_at s) = stopped G o t s

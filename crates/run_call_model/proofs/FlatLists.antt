@@ -9,7 +9,7 @@ use lib.ListN.{set, get_or, replicate, length, take, drop, length-append, length
 use lib.Seq.{length-take-le, drop-drop, drop-cons, set_at, get_or-append-add, get_or-drop, take_at, drop_at}
 use Rattle.run_theory.specs.Generator.{Generator, Pair}
 use Rattle.run_theory.specs.PlainBench.{pairs, flatten, join, over, cut, draws_of}
-use Rattle.run_call_model.specs.Buffers.{overwritten}
+use Rattle.le_read.specs.LeBytes.{overwritten}
 
 module _ {X : Type 0} where
   pub length_flatten : (l : List (Pair X)) → length (flatten l) ≡ 2 * length l
@@ -88,31 +88,39 @@ module _ {X : Type 0} where
 
 -- ---- a buffer with xs written at an offset
 module _ {X : Type 0} where
-  pub length_overwritten : (at : ℕ) (xs buffer : List X) → at + length xs ≤ length buffer → length (overwritten at xs buffer) ≡ length buffer
+  -- as its definition has it, and with what is from the offset on in one
+  in_front : (at : ℕ) (xs buffer : List X) → overwritten buffer at xs ≡ (take at buffer ++ xs) ++ drop (at + length xs) buffer
+  unfolding overwritten
+  in_front at xs buffer = refl
+
+  pub behind : (at : ℕ) (xs buffer : List X) → overwritten buffer at xs ≡ take at buffer ++ (xs ++ drop (at + length xs) buffer)
+  behind at xs buffer = in_front at xs buffer ∙ append_assoc (take at buffer) xs (drop (at + length xs) buffer)
+
+  pub length_overwritten : (at : ℕ) (xs buffer : List X) → at + length xs ≤ length buffer → length (overwritten buffer at xs) ≡ length buffer
   length_overwritten at xs buffer h =
-      length-append (take at buffer) (xs ++ drop (at + length xs) buffer)
+      ap length (behind at xs buffer)
+      ∙ length-append (take at buffer) (xs ++ drop (at + length xs) buffer)
       ∙ omega (arith, length-take-le at buffer (omega arith), length-append xs (drop (at + length xs) buffer), length-drop (at + length xs) buffer)
 
   -- one part after another is both at once
-  pub overwritten_overwritten : (at n : ℕ) (xs ys buffer : List X) → length xs ≡ n → at + n ≤ length buffer → overwritten (at + n) ys (overwritten at xs buffer) ≡ overwritten at (xs ++ ys) buffer
+  pub overwritten_overwritten : (at n : ℕ) (xs ys buffer : List X) → length xs ≡ n → at + n ≤ length buffer → overwritten (overwritten buffer at xs) (at + n) ys ≡ overwritten buffer at (xs ++ ys)
   overwritten_overwritten at n xs ys buffer e h =
-      (λ i. front i ++ (ys ++ back i))
+      behind (at + n) ys (overwritten buffer at xs)
+      ∙ (λ i. front i ++ (ys ++ back i))
       ∙ append_assoc (take at buffer) xs (ys ++ drop (at + length (xs ++ ys)) buffer)
       ∙ ap (λ (l : List X). take at buffer ++ l) (sym (append_assoc xs ys (drop (at + length (xs ++ ys)) buffer)))
+      ∙ sym (behind at (xs ++ ys) buffer)
     where
       len : length (take at buffer ++ xs) ≡ at + n
       len = length-append (take at buffer) xs ∙ omega (arith, length-take-le at buffer (omega arith))
 
-      whole : overwritten at xs buffer ≡ (take at buffer ++ xs) ++ drop (at + length xs) buffer
-      whole = sym (append_assoc (take at buffer) xs (drop (at + length xs) buffer))
+      front : take (at + n) (overwritten buffer at xs) ≡ take at buffer ++ xs
+      front = ap (λ (l : List X). take (at + n) l) (in_front at xs buffer) ∙ take_at (take at buffer ++ xs) (drop (at + length xs) buffer) (at + n) len
 
-      front : take (at + n) (overwritten at xs buffer) ≡ take at buffer ++ xs
-      front = ap (λ (l : List X). take (at + n) l) whole ∙ take_at (take at buffer ++ xs) (drop (at + length xs) buffer) (at + n) len
-
-      back : drop (at + n + length ys) (overwritten at xs buffer) ≡ drop (at + length (xs ++ ys)) buffer
+      back : drop (at + n + length ys) (overwritten buffer at xs) ≡ drop (at + length (xs ++ ys)) buffer
       back =
-          sym (drop-drop (length ys) (at + n) (overwritten at xs buffer))
-          ∙ ap (λ (l : List X). drop (length ys) l) (ap (λ (l : List X). drop (at + n) l) whole ∙ drop_at (take at buffer ++ xs) (drop (at + length xs) buffer) (at + n) len)
+          sym (drop-drop (length ys) (at + n) (overwritten buffer at xs))
+          ∙ ap (λ (l : List X). drop (length ys) l) (ap (λ (l : List X). drop (at + n) l) (in_front at xs buffer) ∙ drop_at (take at buffer ++ xs) (drop (at + length xs) buffer) (at + n) len)
           ∙ drop-drop (length ys) (at + length xs) buffer
           ∙ ap (λ (k : ℕ). drop k buffer) {x = at + length xs + length ys} {y = at + length (xs ++ ys)} (omega (arith, length-append xs ys))
 
@@ -139,18 +147,19 @@ module _ {X : Type 0} where
   pairs_none (x ∷ y ∷ xs) h = absurd (omega arith)
 
   -- one more after a part
-  pub overwritten_snoc : (at n : ℕ) (xs buffer : List X) (v : X) → length xs ≡ n → at + n < length buffer → set (overwritten at xs buffer) (at + n) v ≡ overwritten at (xs ++ (v ∷ [])) buffer
+  pub overwritten_snoc : (at n : ℕ) (xs buffer : List X) (v : X) → length xs ≡ n → at + n < length buffer → set (overwritten buffer at xs) (at + n) v ≡ overwritten buffer at (xs ++ (v ∷ []))
   overwritten_snoc at n xs buffer v e h =
-      ap (λ (l : List X). set l (at + n) v) (sym (append_assoc (take at buffer) xs (drop (at + length xs) buffer)) ∙ ap (λ (l : List X). (take at buffer ++ xs) ++ l) (ap (λ (k : ℕ). drop (at + k) buffer) e ∙ drop-cons buffer (at + n) v h))
+      ap (λ (l : List X). set l (at + n) v) (in_front at xs buffer ∙ ap (λ (l : List X). (take at buffer ++ xs) ++ l) (ap (λ (k : ℕ). drop (at + k) buffer) e ∙ drop-cons buffer (at + n) v h))
       ∙ set_at (take at buffer ++ xs) (get_or buffer (at + n) v) (drop (suc (at + n)) buffer) v (at + n) (length-append (take at buffer) xs ∙ omega (arith, length-take-le at buffer (omega arith)))
       ∙ append_assoc (take at buffer) xs (v ∷ drop (suc (at + n)) buffer)
       ∙ ap (λ (l : List X). take at buffer ++ l) (sym (append_assoc xs (v ∷ []) (drop (suc (at + n)) buffer)))
       ∙ ap (λ (k : ℕ). take at buffer ++ ((xs ++ (v ∷ [])) ++ drop k buffer)) {x = suc (at + n)} {y = at + length (xs ++ (v ∷ []))} (omega (arith, length-append xs (v ∷ [])))
+      ∙ sym (behind at (xs ++ (v ∷ [])) buffer)
 
   -- what is beyond a part is as it was
-  pub overwritten_beyond : (at n k : ℕ) (xs buffer : List X) (d : X) → length xs ≡ n → at + n ≤ length buffer → get_or (overwritten at xs buffer) (at + n + k) d ≡ get_or buffer (at + n + k) d
+  pub overwritten_beyond : (at n k : ℕ) (xs buffer : List X) (d : X) → length xs ≡ n → at + n ≤ length buffer → get_or (overwritten buffer at xs) (at + n + k) d ≡ get_or buffer (at + n + k) d
   overwritten_beyond at n k xs buffer d e h =
-      ap (λ (l : List X). get_or l (at + n + k) d) (sym (append_assoc (take at buffer) xs (drop (at + length xs) buffer)) ∙ ap (λ (i : ℕ). (take at buffer ++ xs) ++ drop (at + i) buffer) e)
+      ap (λ (l : List X). get_or l (at + n + k) d) (in_front at xs buffer ∙ ap (λ (i : ℕ). (take at buffer ++ xs) ++ drop (at + i) buffer) e)
       ∙ ap (λ (i : ℕ). get_or ((take at buffer ++ xs) ++ drop (at + n) buffer) (i + k) d) (sym (length-append (take at buffer) xs ∙ omega (arith, length-take-le at buffer (omega arith))))
       ∙ get_or-append-add (take at buffer ++ xs) (drop (at + n) buffer) k d
       ∙ get_or-drop (at + n) buffer k d

@@ -13,7 +13,7 @@ use Rattle.run_theory.specs.Generator.{Generator, from}
 use Rattle.run_theory.specs.PlainRun.{Kind, ignored, ends, reply, kind_of}
 use Rattle.run_theory.specs.PlainBench.{done, output_full, wants_noise, wants_draws, records_full}
 use Rattle.run_call_model.specs.Machine.{later}
-use Rattle.run_call_model.specs.Buffers.{overwritten}
+use Rattle.le_read.specs.LeBytes.{overwritten}
 use Rattle.run_call_model.specs.Progress.{Progress, Ended, stopped, rest_of, Within}
 use Rattle.run_call_model.specs.Plan.{Plan, stop_at, drain_many, due_many, ignore, end_run, add_reply, batch, stop_for, some_or, plan_ended, plan_reply, plan_draw, plan}
 use Rattle.run_theory.proofs.StepFacts.{reply_fits}
@@ -195,7 +195,7 @@ module _ (G : Generator) (o : G.Value) (noise : List G.Value) where
     after_plan t (add_reply time s) =
         rest_of G o noise
         (progress_with_draw G o noise t (reply s) (t.lines + 1) (t.added + length (adds (next_time G o noise t) (draw_at t.rest) s))
-        (overwritten (record_bytes * t.lines) (entry (next_time G o noise t) (draw_at t.rest) s (length (adds (next_time G o noise t) (draw_at t.rest) s))) t.records))
+        (overwritten t.records (record_bytes * t.lines) (entry (next_time G o noise t) (draw_at t.rest) s (length (adds (next_time G o noise t) (draw_at t.rest) s)))))
 
     module _ (line_length : (t : Time) (d : G.Draw) (s n : ℕ) → length (entry t d s n) ≡ record_bytes) where
       by_says : (t : Progress G o) (p : Plan Time) → PlanSays t p → rest_of G o noise t ≡ after_plan t p

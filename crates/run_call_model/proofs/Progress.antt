@@ -15,11 +15,11 @@ use Rattle.run_theory.specs.Added.{sum_of}
 use Rattle.run_theory.specs.PlainRun.{Kind, ignored, ends, reply, kind}
 use Rattle.run_theory.specs.PlainBench.{Stop, done, output_full, wants_noise, wants_draws, records_full, Answer, ran, pairs, flatten, join, over, Call, Result, draws_of, Remaining, remaining_of, Step, halt, drain, due, taking, write, step4, step5, due_by, step1, fuel, result_of}
 use Rattle.run_call_model.specs.Machine.{later, State, Ran, state_step, state_after_draw, noted, machine_on, machine_call}
-use Rattle.run_call_model.specs.Buffers.{overwritten}
+use Rattle.le_read.specs.LeBytes.{overwritten}
 use Rattle.run_call_model.specs.Batch.{written}
 use Rattle.run_call_model.specs.Progress.{all_steps, remaining_with, Progress, Ended, initial_progress, stopped, left_of, finish, rest_of}
 use Rattle.run_call_model.proofs.EnoughFuel.{machine_repeats}
-use Rattle.run_call_model.proofs.FlatLists.{length_overwritten, overwritten_overwritten, pairs_split, pairs_none, length_flatten, flatten_append, draws_none, draws_cons}
+use Rattle.run_call_model.proofs.FlatLists.{behind, length_overwritten, overwritten_overwritten, pairs_split, pairs_none, length_flatten, flatten_append, draws_none, draws_cons}
 use Rattle.run_call_model.proofs.Counted.{Counted, counted}
 use Rattle.run_call_model.proofs.Batch.{length_written, state_after_samples, with_samples, drain_many_lem, due_many_lem}
 
@@ -32,8 +32,8 @@ module _ (G : Generator) (o : G.Value) where
     by_step t s e = ap (λ (r : Ran G o). finish G o noise t r) (machine_repeats G o t.state (left_of G o noise t) ∙ ap (λ (x : Step G). machine_on G o (λ z l. all_steps G o z l) t.state (left_of G o noise t) x) e)
 
     -- ---- stops
-    overwritten_none : {X : Type 0} (at : ℕ) (buffer : List X) → overwritten at [] buffer ≡ buffer
-    overwritten_none at buffer = ap (λ (n : ℕ). take at buffer ++ drop n buffer) {x = at + 0} {y = at} (omega arith) ∙ take-append-drop at buffer
+    overwritten_none : {X : Type 0} (at : ℕ) (buffer : List X) → overwritten buffer at [] ≡ buffer
+    overwritten_none at buffer = behind at [] buffer ∙ ap (λ (n : ℕ). take at buffer ++ drop n buffer) {x = at + 0} {y = at} (omega arith) ∙ take-append-drop at buffer
 
     step_stops : (t : Progress G o) (s : Stop) → state_step G o t.state (left_of G o noise t) ≡ halt s → rest_of G o noise t ≡ stopped G o t s
     step_stops t s e = by_step t (halt s) e ∙ (λ i. record {
@@ -149,7 +149,7 @@ module _ (G : Generator) (o : G.Value) where
       lines = t.lines;
       added = t.added;
       rest = t.rest;
-      output = overwritten (2 * t.samples) (flatten (next_samples t n)) t.output;
+      output = overwritten t.output (2 * t.samples) (flatten (next_samples t n));
       records = t.records;
     }
 
@@ -188,18 +188,18 @@ module _ (G : Generator) (o : G.Value) where
         lines = t.lines + length r.records;
         added = t.added + sum_of r.added;
         output = joined i;
-        records = overwritten (record_bytes * t.lines) (join r.records) t.records;
+        records = overwritten t.records (record_bytes * t.lines) (join r.records);
         stop = r.stop;
       }
         where
           q : t.samples + length (next_samples t n ++ r.samples) ≡ t.samples + n + length r.samples
           q = omega (arith, length-append (next_samples t n) r.samples, count)
 
-          joined : overwritten (2 * t.samples) (flatten (next_samples t n ++ r.samples)) t.output ≡ overwritten (2 * (t.samples + n)) (flatten r.samples) (progress_with_samples t n m).output
+          joined : overwritten t.output (2 * t.samples) (flatten (next_samples t n ++ r.samples)) ≡ overwritten (progress_with_samples t n m).output (2 * (t.samples + n)) (flatten r.samples)
           joined =
-              ap (λ (l : List Value). overwritten (2 * t.samples) l t.output) (flatten_append (next_samples t n) r.samples)
+              ap (λ (l : List Value). overwritten t.output (2 * t.samples) l) (flatten_append (next_samples t n) r.samples)
               ∙ sym (overwritten_overwritten (2 * t.samples) (2 * n) (flatten (next_samples t n)) (flatten r.samples) t.output (length_flatten (next_samples t n) ∙ ap (λ (k : ℕ). 2 * k) count) (omega arith))
-              ∙ ap (λ (k : ℕ). overwritten k (flatten r.samples) (progress_with_samples t n m).output) {x = 2 * t.samples + 2 * n} {y = 2 * (t.samples + n)} (omega arith)
+              ∙ ap (λ (k : ℕ). overwritten (progress_with_samples t n m).output k (flatten r.samples)) {x = 2 * t.samples + 2 * n} {y = 2 * (t.samples + n)} (omega arith)
 
       steps_written : (m : Time) → AreDue t n m → all_steps G o t.state (left_of G o noise t) ≡ with_samples G o (next_samples t n) (all_steps G o (state_after_samples G o t.state n m) (left_of G o noise (progress_with_samples t n m)))
       steps_written m (after_end e h) =
@@ -260,8 +260,8 @@ module _ (G : Generator) (o : G.Value) where
             samples = t.samples + length r.samples;
             lines = t.lines + length r.records;
             added = t.added + sum_of r.added;
-            output = overwritten (2 * t.samples) (flatten r.samples) t.output;
-            records = overwritten (record_bytes * t.lines) (join r.records) t.records;
+            output = overwritten t.output (2 * t.samples) (flatten r.samples);
+            records = overwritten t.records (record_bytes * t.lines) (join r.records);
             stop = r.stop;
           })
         where
@@ -301,7 +301,7 @@ module _ (G : Generator) (o : G.Value) where
         abbrev pub line : List Byte
         line = entry (next_time t) (draw_at t.rest) s (length (adds (next_time t) (draw_at t.rest) s))
 
-        pub step_adds : length line ≡ record_bytes → record_bytes * (t.lines + 1) ≤ length t.records → rest_of G o noise t ≡ rest_of G o noise (progress_with_draw t (reply s) (t.lines + 1) (t.added + reply_count) (overwritten (record_bytes * t.lines) line t.records))
+        pub step_adds : length line ≡ record_bytes → record_bytes * (t.lines + 1) ≤ length t.records → rest_of G o noise t ≡ rest_of G o noise (progress_with_draw t (reply s) (t.lines + 1) (t.added + reply_count) (overwritten t.records (record_bytes * t.lines) line))
         unfolding rest_of
         step_adds len h =
             by_step t (taking (draw_at t.rest) (reply s) left)
@@ -312,13 +312,13 @@ module _ (G : Generator) (o : G.Value) where
               samples = t.samples + length r.samples;
               lines = count i;
               added = more i;
-              output = overwritten (2 * t.samples) (flatten r.samples) t.output;
+              output = overwritten t.output (2 * t.samples) (flatten r.samples);
               records = joined i;
               stop = r.stop;
             })
           where
             next : Progress G o
-            next = progress_with_draw t (reply s) (t.lines + 1) (t.added + reply_count) (overwritten (record_bytes * t.lines) line t.records)
+            next = progress_with_draw t (reply s) (t.lines + 1) (t.added + reply_count) (overwritten t.records (record_bytes * t.lines) line)
 
             left : Remaining G
             left = left_of G o noise next
@@ -332,7 +332,7 @@ module _ (G : Generator) (o : G.Value) where
             enough : t.lines + 1 ≤ length t.records / record_bytes
             enough = (le-div_iff_mul-le record-pos).1 (omega (arith, mul_comm record_bytes (t.lines + 1)))
 
-            one_slot : length t.records / record_bytes - t.lines ≡ suc (length (overwritten (record_bytes * t.lines) line t.records) / record_bytes - (t.lines + 1))
+            one_slot : length t.records / record_bytes - t.lines ≡ suc (length (overwritten t.records (record_bytes * t.lines) line) / record_bytes - (t.lines + 1))
             one_slot =
                 omega (arith, enough)
                 ∙ ap (λ (n : ℕ). suc (n / record_bytes - (t.lines + 1))) (sym (length_overwritten (record_bytes * t.lines) line t.records (omega (arith, fits, len))))
@@ -343,10 +343,10 @@ module _ (G : Generator) (o : G.Value) where
             more : t.added + (reply_count + sum_of r.added) ≡ t.added + reply_count + sum_of r.added
             more = omega arith
 
-            joined : overwritten (record_bytes * t.lines) (line ++ join r.records) t.records ≡ overwritten (record_bytes * (t.lines + 1)) (join r.records) (overwritten (record_bytes * t.lines) line t.records)
+            joined : overwritten t.records (record_bytes * t.lines) (line ++ join r.records) ≡ overwritten (overwritten t.records (record_bytes * t.lines) line) (record_bytes * (t.lines + 1)) (join r.records)
             joined =
                 sym (overwritten_overwritten (record_bytes * t.lines) record_bytes line (join r.records) t.records len fits)
-                ∙ ap (λ (k : ℕ). overwritten k (join r.records) (overwritten (record_bytes * t.lines) line t.records)) {x = record_bytes * t.lines + record_bytes} {y = record_bytes * (t.lines + 1)} (omega (arith, mul-add record_bytes t.lines 1))
+                ∙ ap (λ (k : ℕ). overwritten (overwritten t.records (record_bytes * t.lines) line) k (join r.records)) {x = record_bytes * t.lines + record_bytes} {y = record_bytes * (t.lines + 1)} (omega (arith, mul-add record_bytes t.lines 1))
 
   -- ---- the whole call
   abbrev pub answer_of : Ended G o → Answer
@@ -380,7 +380,7 @@ module _ (G : Generator) (o : G.Value) where
     call_result = ap end_result first_rest ∙ (λ i. record {
       answer = ran (taken i) (samples i) (noise i) (lines i) (added i) r.stop;
       output = at_start (flatten r.samples) c.output i;
-      records = (ap (λ (n : ℕ). overwritten n (join r.records) c.records) {x = record_bytes * 0} {y = 0} (omega arith) ∙ at_start (join r.records) c.records) i;
+      records = (ap (λ (n : ℕ). overwritten c.records n (join r.records)) {x = record_bytes * 0} {y = 0} (omega arith) ∙ at_start (join r.records) c.records) i;
     })
       where
         r : Ran G o
@@ -404,5 +404,5 @@ module _ (G : Generator) (o : G.Value) where
         added : 0 + sum_of r.added ≡ sum_of r.added
         added = omega arith
 
-        at_start : {X : Type 0} (xs buffer : List X) → overwritten 0 xs buffer ≡ over xs buffer
-        at_start xs buffer = ap (λ (n : ℕ). xs ++ drop n buffer) {x = 0 + length xs} {y = length xs} (omega arith)
+        at_start : {X : Type 0} (xs buffer : List X) → overwritten buffer 0 xs ≡ over xs buffer
+        at_start xs buffer = behind 0 xs buffer ∙ ap (λ (n : ℕ). xs ++ drop n buffer) {x = 0 + length xs} {y = length xs} (omega arith)

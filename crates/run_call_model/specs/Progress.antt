@@ -5,7 +5,7 @@ use Rattle.run_theory.specs.Generator.{Generator, NoisePair}
 use Rattle.run_theory.specs.Added.{sum_of}
 use Rattle.run_theory.specs.PlainBench.{Stop, pairs, flatten, join, Call, draws_of, Remaining, fuel}
 use Rattle.run_call_model.specs.Machine.{State, Ran, machine_steps}
-use Rattle.run_call_model.specs.Buffers.{overwritten}
+use Rattle.le_read.specs.LeBytes.{overwritten}
 
 module _ (G : Generator) (o : G.Value) where
   open G use {Value, Byte, Draw, draw_bytes, record_bytes}
@@ -58,8 +58,8 @@ module _ (G : Generator) (o : G.Value) where
       samples = t.samples + length r.samples;
       lines = t.lines + length r.records;
       added = t.added + sum_of r.added;
-      output = overwritten (2 * t.samples) (flatten r.samples) t.output;
-      records = overwritten (record_bytes * t.lines) (join r.records) t.records;
+      output = overwritten t.output (2 * t.samples) (flatten r.samples);
+      records = overwritten t.records (record_bytes * t.lines) (join r.records);
       stop = r.stop;
     }
 

@@ -12,7 +12,8 @@ use borrow.Author.Tests.{eq-eqb, ne_eqb, le-leb, tests}
 use Rattle.constants.specs.Rate.{working_memory}
 use Rattle.constants.specs.Setting.{per_pulse}
 use Rattle.constants.specs.declared.SamplesPerPulse.{SamplesPerPulse}
-use Rattle.run_call_model.specs.Buffers.{overwritten}
+use Rattle.le_read.specs.LeBytes.{overwritten}
+use Rattle.run_call_model.proofs.FlatLists.{behind}
 use Rattle.run_due_samples.specs.DueModel.{samples_of, clear_of, fits_of, DueBuffers, due_of}
 
 pub record Fits (s : SamplesPerPulse) (memory noise output k n : ℕ) : Type 0 where
@@ -36,7 +37,7 @@ memory_not s memory noise output k n h = ap (λ (b : Bool). b && leb (2 * (k + n
 module _ (s : SamplesPerPulse) (noise memory output : List Float) (w k n : ℕ) where
   -- what is left, by whether they fit
   abbrev left : Bool → DueBuffers
-  left b = cond b (record { memory = clear_of s memory w n; output = overwritten (2 * k) (samples_of s memory w (take (2 * n) (drop (2 * k) noise))) output }) (record { memory = memory; output = output })
+  left b = cond b (record { memory = clear_of s memory w n; output = overwritten output (2 * k) (samples_of s memory w (take (2 * n) (drop (2 * k) noise))) }) (record { memory = memory; output = output })
 
   pub other_memory : (length memory ≡ working_memory (per_pulse s) → ⊥) → record { memory = memory; output = output } ≡ due_of s noise w k n (record { memory = memory; output = output })
   unfolding due_of
@@ -52,7 +53,8 @@ module _ (s : SamplesPerPulse) (noise memory output : List Float) (w k n : ℕ) 
   unfolding due_of
   changed memory' part a b m h ea eb long p q =
       (λ i. record { memory = (q ∙ ap (clear_of s memory w) half) i; output = take (2 * k) output ++ (part ++ (drop-drop b (2 * k) output ∙ ap (λ (j : ℕ). drop (2 * k + j) output) (sym long)) i) })
-      ∙ (λ i. record { memory = clear_of s memory w n; output = overwritten (2 * k) ((p ∙ (λ j. samples_of s memory w (take (ea j) (drop (2 * k) noise)))) i) output })
+      ∙ (λ i. record { memory = clear_of s memory w n; output = sym (behind (2 * k) part output) i })
+      ∙ (λ i. record { memory = clear_of s memory w n; output = overwritten output (2 * k) ((p ∙ (λ j. samples_of s memory w (take (ea j) (drop (2 * k) noise)))) i) })
       ∙ ap left (fits_if s (length memory) (length noise) (length output) k n (record { memory_is = m; noise_holds = omega arith; output_holds = omega arith }))
     where
       half : length (take a (drop (2 * k) noise)) / 2 ≡ n

@@ -3,7 +3,7 @@ use Rattle.std.specs.Prelude.{Bool, cond, ◌&&◌, List, ℕ, ◌+◌, ◌*◌,
 use Rattle.std.specs.Float.{nan}
 use Rattle.run_theory.specs.Generator.{Generator}
 use Rattle.run_theory.specs.PlainBench.{pairs, flatten}
-use Rattle.run_call_model.specs.Buffers.{overwritten}
+use Rattle.le_read.specs.LeBytes.{overwritten}
 use Rattle.run_call_model.specs.Batch.{written, cleared, mixed}
 use Rattle.constants.specs.Rate.{working_memory}
 use Rattle.constants.specs.Setting.{per_pulse}
@@ -40,5 +40,5 @@ pub record DueBuffers : Type 0 where
 unfoldable pub due_of : SamplesPerPulse → List Float → ℕ → ℕ → ℕ → DueBuffers → DueBuffers
 due_of setting noise w k n l =
     cond (fits_of setting (length l.memory) (length noise) (length l.output) k n)
-    (record { memory = clear_of setting l.memory w n; output = overwritten (2 * k) (samples_of setting l.memory w (take (2 * n) (drop (2 * k) noise))) l.output })
+    (record { memory = clear_of setting l.memory w n; output = overwritten l.output (2 * k) (samples_of setting l.memory w (take (2 * n) (drop (2 * k) noise))) })
     l

@@ -96,7 +96,7 @@ module _ (f : Filters) (R : FiltersInRange f) (total : ℕ) (few : total ≤ 2 ^
       (rate_within (pulse_samples f) c (draw_finite f R t (time_in_range t g) d r).rate)
       (phase_within (pulse_samples f) f.delays c (reply_finite f R t (time_in_range t g) d r s start low).first_phase_lem))
 
-  kept : KeptBySums (instance_of f total) (instance_laws f R total few) (AtMost (2 ^ 53)) (AtMost most)
+  pub kept : KeptBySums (instance_of f total) (instance_laws f R total few) (AtMost (2 ^ 53)) (AtMost most)
   unfolding instance_laws laws
   kept = record {
     first = lit≤ tt;

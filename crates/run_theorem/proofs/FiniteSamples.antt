@@ -25,11 +25,11 @@ use Rattle.run_open_checks.specs.Opening as Opening
 use Rattle.run_open_checks.proofs.WhatIsOpened.{opened_run_in_range, what_is_opened}
 use Rattle.run_theorem.specs.OpenedRuns.{Finite53}
 
-each_on : {X : Type 0} (P Q : X → Type 0) → ((x : X) → P x → Q x) → (xs : List X) → Each P xs → Each Q xs
+pub each_on : {X : Type 0} (P Q : X → Type 0) → ((x : X) → P x → Q x) → (xs : List X) → Each P xs → Each Q xs
 each_on P Q f [] h = tt
 each_on P Q f (x ∷ xs) h = (f x h.0, each_on P Q f xs h.1)
 
-finite_53 : (x : Float) → AtMost (2 ^ 53) x → Finite53 x
+pub finite_53 : (x : Float) → AtMost (2 ^ 53) x → Finite53 x
 unfolding within abs
 finite_53 nan h = absurd h
 finite_53 (inf s) h = absurd h

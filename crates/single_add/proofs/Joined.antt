@@ -14,7 +14,8 @@ use lib.Ieee.{Float}
 use Rattle.constants.specs.Rate.{working_memory, ring_slots}
 use Rattle.run_theory.specs.FloatGenerator.{nought}
 use Rattle.run_theory.specs.Zeros.{zeros}
-use Rattle.run_call_model.specs.Buffers.{overwritten}
+use Rattle.le_read.specs.LeBytes.{overwritten}
+use Rattle.run_call_model.proofs.FlatLists.{behind}
 use Rattle.reply_samples.specs.declared.Sample.{Sample}
 use Rattle.reply_samples.specs.RingModel.{added_reply}
 use Rattle.single_add.specs.Stretch.{first_reached, passed_over}
@@ -33,10 +34,11 @@ pub blank_length : (sps k n : ℕ) → k ≡ working_memory sps → k ≤ n → 
 blank_length sps k n e h = length-take-le k (zeros n) (omega (arith, length-replicate n nought)) ∙ e
 
 -- a part of a buffer, of n numbers from an offset on, with others in it
-part_written : (at n : ℕ) (b ys : List Float) → at + n ≤ length b → length ys ≡ length (take (at + n - at) (drop at b)) → put_mid at (at + n - at) b ys ≡ overwritten at ys b
+part_written : (at n : ℕ) (b ys : List Float) → at + n ≤ length b → length ys ≡ length (take (at + n - at) (drop at b)) → put_mid at (at + n - at) b ys ≡ overwritten b at ys
 part_written at n b ys h l =
     ap (λ (r : List Float). take at b ++ (ys ++ r))
     (drop-drop (at + n - at) at b ∙ ap (λ (k : ℕ). drop k b) {x = at + (at + n - at)} {y = at + length ys} (omega (arith, l, length-take-le (at + n - at) (drop at b) (omega (arith, length-drop at b)))))
+    ∙ sym (behind at ys b)
 
 pub through_memory : (sps at past n : ℕ) (zs : List Sample) (xs blank given memory back : List Float) → n ≡ min (length xs - at) (length blank - past) → at ≤ length xs → past ≤ working_memory sps
     → blank ≡ zeros (working_memory sps) → length blank ≡ working_memory sps
@@ -47,10 +49,10 @@ pub through_memory : (sps at past n : ℕ) (zs : List Sample) (xs blank given me
 unfolding windowed memory_with
 through_memory sps at past n zs xs blank given memory back k inside within b w g lg m r lr =
     part_written at n xs back (omega arith) lr
-    ∙ ap (λ (l : List Float). overwritten at l xs) (r ∙ (λ i. take (same past i) (drop past (m i))))
-    ∙ ap (λ (l : List Float). overwritten at (take n (drop past (added_reply sps l 0 zs))) xs) (part_written past n blank given (omega (arith, w)) lg ∙ (λ i. overwritten past (g i) (b i)))
-    ∙ ap (λ (j : ℕ). overwritten at (take n (drop past (added_reply sps (overwritten past (take j (drop at xs)) (zeros (working_memory sps))) 0 zs))) xs) (same at)
-    ∙ ap (λ (j : ℕ). overwritten at (take j (drop past (added_reply sps (overwritten past (take j (drop at xs)) (zeros (working_memory sps))) 0 zs))) xs) (k ∙ ap (λ (j : ℕ). min (length xs - at) (j - past)) w)
+    ∙ ap (λ (l : List Float). overwritten xs at l) (r ∙ (λ i. take (same past i) (drop past (m i))))
+    ∙ ap (λ (l : List Float). overwritten xs at (take n (drop past (added_reply sps l 0 zs)))) (part_written past n blank given (omega (arith, w)) lg ∙ (λ i. overwritten (b i) past (g i)))
+    ∙ ap (λ (j : ℕ). overwritten xs at (take n (drop past (added_reply sps (overwritten (zeros (working_memory sps)) past (take j (drop at xs))) 0 zs)))) (same at)
+    ∙ ap (λ (j : ℕ). overwritten xs at (take j (drop past (added_reply sps (overwritten (zeros (working_memory sps)) past (take j (drop at xs))) 0 zs)))) (k ∙ ap (λ (j : ℕ). min (length xs - at) (j - past)) w)
   where
     same : (a : ℕ) → a + n - a ≡ n
     same a = omega arith

@@ -15,10 +15,10 @@ use Rattle.constants.specs.Rate.{working_memory, ring_slots}
 use Rattle.filterbank.proofs.Padded.{le_or_lt}
 use Rattle.run_theory.specs.FloatGenerator.{nought}
 use Rattle.run_theory.specs.Zeros.{zeros}
-use Rattle.run_call_model.proofs.FlatLists.{length_overwritten}
+use Rattle.run_call_model.proofs.FlatLists.{behind, length_overwritten}
 use Rattle.reply_samples.specs.declared.Sample.{Sample}
 use Rattle.reply_samples.specs.RingModel.{added_at, next_slot, added_from, added_reply}
-use Rattle.reply_samples.proofs.LoopSteps.{next_on, added_here}
+use Rattle.reply_samples.proofs.AtSlot.{next_on, added_here}
 use Rattle.single_add.specs.Stretch.{laid, numbers_of, added_to, first_reached, passed_over, with_reply}
 use Rattle.single_add.specs.StretchModel.{memory_with, windowed, added_window, stretch_of}
 use Rattle.single_add.proofs.Loops.{laid_length}
@@ -132,7 +132,8 @@ module _ (sps : ℕ) (S : 0 < ring_slots sps) (at past : ℕ) (zs : List Sample)
   held : take n (drop past (memory_with sps at past xs)) ≡ take n part
   unfolding memory_with
   held =
-      ap (λ (k : ℕ). take n (drop k (take past (zeros (working_memory sps)) ++ (take n part ++ drop (past + length (take n part)) (zeros (working_memory sps)))))) (sym front)
+      ap (λ (m : List Float). take n (drop past m)) (behind past (take n part) (zeros (working_memory sps)))
+      ∙ ap (λ (k : ℕ). take n (drop k (take past (zeros (working_memory sps)) ++ (take n part ++ drop (past + length (take n part)) (zeros (working_memory sps)))))) (sym front)
       ∙ ap (λ (l : List Float). take n l) (drop-append_seam (take past (zeros (working_memory sps))) _)
       ∙ ap (λ (k : ℕ). take k (take n part ++ drop (past + length (take n part)) (zeros (working_memory sps)))) (sym taken)
       ∙ take-append_seam (take n part) _
@@ -160,7 +161,8 @@ module _ (sps : ℕ) (S : 0 < ring_slots sps) (at past : ℕ) (zs : List Sample)
   pub window : windowed sps at past zs xs ≡ take at xs ++ added_to (drop at xs) (drop past (numbers_of zs))
   unfolding windowed
   window =
-      ap (λ (l : List Float). take at xs ++ (l ++ drop (at + length l) xs)) back
+      behind at (take n (drop past (added_reply sps (memory_with sps at past xs) 0 zs))) xs
+      ∙ ap (λ (l : List Float). take at xs ++ (l ++ drop (at + length l) xs)) back
       ∙ ap (λ (k : ℕ). take at xs ++ (added_to (take n part) ys ++ drop (at + k) xs)) back_length
       ∙ ap (λ (l : List Float). take at xs ++ (added_to (take n part) ys ++ l)) (sym (drop-drop n at xs))
       ∙ ap (λ (l : List Float). take at xs ++ l) whole

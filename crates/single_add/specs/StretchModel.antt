@@ -2,7 +2,7 @@
 use Rattle.std.specs.Prelude.{ℕ, ◌-◌, ◌*◌, ◌/◌, min, cond, ◌&&◌, List, eqb, leb, ltb, ℤ, length, take, drop, Float}
 use Rattle.constants.specs.Rate.{working_memory, ring_slots}
 use Rattle.run_theory.specs.Zeros.{zeros}
-use Rattle.run_call_model.specs.Buffers.{overwritten}
+use Rattle.le_read.specs.LeBytes.{overwritten}
 use Rattle.reply_samples.specs.declared.Sample.{Sample}
 use Rattle.reply_samples.specs.RingModel.{added_reply}
 use Rattle.single_add.specs.Stretch.{laid, first_reached, passed_over}
@@ -13,11 +13,11 @@ reached sps at past xs = min (length xs - at) (working_memory sps - past)
 
 -- working memory with that part of the output
 unfoldable pub memory_with : ℕ → ℕ → ℕ → List Float → List Float
-memory_with sps at past xs = overwritten past (take (reached sps at past xs) (drop at xs)) (zeros (working_memory sps))
+memory_with sps at past xs = overwritten (zeros (working_memory sps)) past (take (reached sps at past xs) (drop at xs))
 
 -- the output with that part as memory has it, once the reply is added from slot 0 on
 unfoldable pub windowed : ℕ → ℕ → ℕ → List Sample → List Float → List Float
-windowed sps at past zs xs = overwritten at (take (reached sps at past xs) (drop past (added_reply sps (memory_with sps at past xs) 0 zs))) xs
+windowed sps at past zs xs = overwritten xs at (take (reached sps at past xs) (drop past (added_reply sps (memory_with sps at past xs) 0 zs)))
 
 -- a reply whose start is past the end, or that ends before sample 0 with all of working memory, adds nothing
 unfoldable pub added_window : ℕ → ℤ → List Sample → List Float → List Float

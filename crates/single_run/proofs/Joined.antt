@@ -1,5 +1,6 @@
 -- What the functions answer and leave, from what their calls give.
 use Rattle.std.specs.Prelude.{Result, Ok}
+use Rattle.std.specs.Result.{result_and}
 use Prim.Native.Nat.{ℕ}
 use mathlib.Core.Path.{◌≡◌, sym, ap, ◌∙◌}
 use mathlib.Core.List.{List}
@@ -26,7 +27,7 @@ use Rattle.run_open_checks.specs.Opening.{opened_at}
 use Rattle.run_open_checks.proofs.OpenedAs.{OpenedAs}
 use Rattle.run_open_checks.proofs.InUse.{used}
 use Rattle.single_add.specs.StretchModel.{stretch_of}
-use Rattle.single_theory.specs.Single.{lengths_checked, values_checked, after, opened_then, single_at, single_run, left_in, single_output}
+use Rattle.single_theory.specs.Single.{lengths_checked, values_checked, opened_then, single_at, single_run, left_in, single_output}
 use Rattle.single_theory.proofs.Count.{accepted_is}
 use Rattle.single_run.specs.Answer.{answer_of}
 use Rattle.single_run.specs.MakeModel.{made_by}
@@ -46,12 +47,12 @@ made state mode_s mode_ac draw noise output p kind amplitude picks c out e f g h
 module _ (settings : List ℕ) (taps_s taps_ac : List Float) (draw : List ℕ) (noise output : List Float) (z : SamplesPerPulse) (s : setting_at settings ≡ Ok z)
     (l : lengths_checked (per_pulse z) settings (length draw) (length noise) (length output) ≡ Ok tt) (p : Prepared) (o : OpenedAs taps_s taps_ac (opened_at taps_s taps_ac settings z) p) (v : values_checked p.state draw noise ≡ Ok tt) where
   run_is : single_run settings taps_s taps_ac draw noise (length output) ≡ Ok p.state
-  unfolding single_run single_at at_setting after opened_then
+  unfolding single_run single_at at_setting opened_then
   run_is =
       ap (at_setting (single_at settings taps_s taps_ac draw noise (length output))) s
-      ∙ ap (λ (r : Result (Unit {0}) Refusal). after r (opened_then draw noise (opened_at taps_s taps_ac settings z))) l
+      ∙ ap (λ (r : Result (Unit {0}) Refusal). result_and r (opened_then draw noise (opened_at taps_s taps_ac settings z))) l
       ∙ ap (opened_then draw noise) o.opens
-      ∙ ap (λ (r : Result (Unit {0}) Refusal). after r (Ok p.state)) v
+      ∙ ap (λ (r : Result (Unit {0}) Refusal). result_and r (Ok p.state)) v
 
   pub accepted : (mode_s mode_ac out : List Float) → mode_s ≡ used p.state.setting p.mode_s → mode_ac ≡ used p.state.setting p.mode_ac → out ≡ made_by p.state mode_s mode_ac draw noise output
       → (Ok tt ≡ answer_of (single_run settings taps_s taps_ac draw noise (length output))) × (out ≡ single_output settings taps_s taps_ac draw noise output)

@@ -30,7 +30,7 @@ fn make(state: State, prototypes: Filters, draw: &[u8], noise: &[f32], output: &
 }
 
 // One reply alone (SPECIFICATION 14). The prototypes are the function's own.
-#[tactic(auto, unfolding(single_theory::specs::Single::single_run, single_theory::specs::Single::single_at, single_theory::specs::Single::after, single_theory::specs::Single::opened_then, single_theory::specs::Single::single_output, single_theory::specs::Single::left_in, settings::specs::Accepted::at_setting, run_open_checks::specs::Opening::with_prototypes, run_open_checks::specs::Opening::prepared_read, crate::specs::Answer::answer_of))]
+#[tactic(auto, unfolding(single_theory::specs::Single::single_run, single_theory::specs::Single::single_at, single_theory::specs::Single::opened_then, single_theory::specs::Single::single_output, single_theory::specs::Single::left_in, settings::specs::Accepted::at_setting, run_open_checks::specs::Opening::with_prototypes, run_open_checks::specs::Opening::prepared_read, crate::specs::Answer::answer_of))]
 pub fn single(
     settings: &[u8],
     taps: Filters,

@@ -1,78 +1,20 @@
--- Sums with zeros, of floats that their format holds: 0.0 and a number that is not -0.0 are that number (`zero_plus`); any number and -0.0 are that number (`plus_minus_zero`). So a number added to 0.0, and then another that is not -0.0, are the second and the first (`either_way`).
-use Prim.Native.Nat.{ℕ, zero, suc, ◌+◌, ◌-◌, ◌*◌, ◌^◌, ◌≤◌, ◌<◌, zero-le}
-use native.Mathlib.Nat.{mul-one, one-mul, zero-mul, zero-add, add-zero, sub-zero, mul_assoc, mul-pos, lt_of_lt_of_le, zero-lt-suc}
-use native.Mathlib.Omega.{arith}
+-- Sums with zeros, of floats that their format holds: 0.0 and a number that is not -0.0 are that number (`zero_plus`), as any number and -0.0 are. So a number added to 0.0, and then another that is not -0.0, are the second and the first (`either_way`).
+use Prim.Native.Nat.{ℕ, zero, suc, ◌+◌, ◌-◌, ◌*◌, ◌<◌}
+use native.Mathlib.Nat.{mul-one, one-mul, zero-mul, zero-add, sub-zero, mul-pos, zero-lt-suc}
 use mathlib.Core.Path.{◌≡◌, refl, sym, ap, ◌∙◌, subst}
 use mathlib.Core.Bool.{Bool, true, false, not, cond, ◌&&◌}
 use mathlib.Core.Logic.{◌≢◌, ◌⊎◌, inl, inr}
-use borrow.Author.Tests.{le-ltb}
-use lib.IntN.{ℤ, pos, negsuc}
+use lib.IntN.{ℤ}
 use lib.Dec.{T, ltb, lt→ltb}
-use lib.Pow.{pow-add, pow_pos, pow_mono, shl_lt}
-use lib.Ieee.{Float, nan, inf, fin, Format, binary32, binary64, prec, emax, low, up, down, round, sum, add, fits}
+use lib.Ieee.{Float, nan, inf, fin, binary32, up, down, round, sum, add, fits}
 use lib.Ieee.Bits.{is_true}
-use lib.Ieee.Exact.{HasValue, round_exact}
-use lib.Ieee.Fits.{up_pos, round-fits}
-use Rattle.float_rounding.proofs.Pattern.{pow_le_back}
-use Rattle.float_remainder.proofs.Unique.{is_short, is_coarse, is_under, zero_exponent, same_float}
+use lib.Ieee.Fits.{up_pos}
+use Rattle.float_remainder.proofs.Unique.{zero_exponent}
+use Rattle.float_remainder.proofs.Itself.{rounds_to_itself, plus_minus_zero}
 use Rattle.run_theory.specs.FloatGenerator.{nought}
 use Rattle.single_theorem.specs.Agreement.{minus_zero}
 use Rattle.single_theory.proofs.Sums.{plus_comm}
 
--- ---- a value that fits is what it rounds to
-rounds : (f : Format) (s : Bool) (m : ℕ) (e : ℤ) → T (fits f (fin s (suc m) e)) → HasValue (round f s (suc m * up e) (down e)) s (suc m * up e) (down e)
-rounds f s m (pos k) t =
-    round_exact f s (suc m * 2 ^ k) 1 (suc m) (k + low f) (zero-lt-suc 0) (is_short f s m (pos k) t)
-    (subst (λ (x : ℕ). x < 2 ^ (low f + suc (emax f))) (sym (grown (suc m))) (bound (suc m * 2 ^ k) (is_under f s m (pos k) t)))
-    (grown_too (suc m))
-  where
-    grown : (q : ℕ) → q * 2 ^ (k + low f) ≡ q * 2 ^ k * 2 ^ low f
-    grown q = ap (λ (x : ℕ). q * x) (pow-add 2 k (low f)) ∙ sym (mul_assoc q (2 ^ k) (2 ^ low f))
-
-    grown_too : (q : ℕ) → q * 2 ^ k * 2 ^ low f ≡ q * 2 ^ (k + low f) * 1
-    grown_too q = sym (grown q) ∙ sym (mul-one (q * 2 ^ (k + low f)))
-
-    bound : (x : ℕ) → x < 2 ^ suc (emax f) * 1 → x * 2 ^ low f < 2 ^ (low f + suc (emax f))
-    bound x h = subst (λ (y : ℕ). x * 2 ^ low f < 2 ^ y) (plus (suc (emax f)) (low f)) (shl_lt (suc (emax f)) (low f) (subst (λ (y : ℕ). x < y) (mul-one (2 ^ suc (emax f))) h))
-      where
-        plus : (i j : ℕ) → i + j ≡ j + i
-        plus i j = omega arith
-rounds f s m (negsuc k) t =
-    round_exact f s (suc m * 1) (2 ^ suc k) (suc m) (low f - suc k) (pow_pos (suc k)) (is_short f s m (negsuc k) t) bound exact
-  where
-    fine : suc k ≤ low f
-    fine = pow_le_back (suc k) (low f) (is_coarse f s m (negsuc k) t)
-
-    split : 2 ^ low f ≡ 2 ^ (low f - suc k) * 2 ^ suc k
-    split = ap (λ (x : ℕ). 2 ^ x) (sym (back (low f) (suc k) fine)) ∙ pow-add 2 (low f - suc k) (suc k)
-      where
-        back : (i j : ℕ) → j ≤ i → i - j + j ≡ i
-        back i j h = omega arith
-
-    exact : suc m * 1 * 2 ^ low f ≡ suc m * 2 ^ (low f - suc k) * 2 ^ suc k
-    exact = ap (λ (x : ℕ). x * 2 ^ low f) (mul-one (suc m)) ∙ ap (λ (x : ℕ). suc m * x) split ∙ sym (mul_assoc (suc m) (2 ^ (low f - suc k)) (2 ^ suc k))
-
-    bound : suc m * 2 ^ (low f - suc k) < 2 ^ (low f + suc (emax f))
-    bound = lt_of_lt_of_le (subst (λ (y : ℕ). suc m * 2 ^ (low f - suc k) < 2 ^ y) refl (shl_lt (prec f) (low f - suc k) (is_short f s m (negsuc k) t))) (pow_mono (few f (low f) k))
-      where
-        few : (f : Format) (l k : ℕ) → prec f + (l - suc k) ≤ l + suc (emax f)
-        few binary32 l k = omega arith
-        few binary64 l k = omega arith
-
-pub rounds_to_itself : (f : Format) (s : Bool) (m : ℕ) (e : ℤ) → T (fits f (fin s m e)) → round f s (m * up e) (down e) ≡ fin s m e
-rounds_to_itself f s zero e t = nothing f s e (zero_exponent f s e t)
-  where
-    nothing : (f : Format) (s : Bool) (e : ℤ) → e ≡ pos 0 → round f s (zero * up e) (down e) ≡ fin s zero e
-    nothing f s e h = ap (λ (z : ℤ). round f s (zero * up z) (down z)) h ∙ closed f s ∙ ap (λ (z : ℤ). fin s zero z) (sym h)
-      where
-        closed : (f : Format) (s : Bool) → round f s 0 1 ≡ fin s 0 (pos 0)
-        closed binary32 true = unfold round in refl
-        closed binary32 false = unfold round in refl
-        closed binary64 true = unfold round in refl
-        closed binary64 false = unfold round in refl
-rounds_to_itself f s (suc m) e t = same_float f s m e (round f s (suc m * up e) (down e)) t (round-fits f s (suc m * up e) (down e)) (rounds f s m e t)
-
--- ---- the sums
 pub zero_plus : (x : Float) → T (fits binary32 x) → x ≢ minus_zero → add binary32 nought x ≡ x
 unfolding add sum
 zero_plus nan t h = refl
@@ -86,18 +28,6 @@ zero_plus (fin true (suc n) d) t h =
   where
     some : ltb (0 * down d) (suc n * up d * 1) ≡ true
     some = is_true (ltb (0 * down d) (suc n * up d * 1)) (lt→ltb (0 * down d) (suc n * up d * 1) (subst (λ (x : ℕ). x < suc n * up d * 1) (sym (zero-mul (down d))) (mul-pos (mul-pos (zero-lt-suc n) (up_pos d)) (zero-lt-suc 0))))
-
-pub plus_minus_zero : (x : Float) → T (fits binary32 x) → add binary32 x minus_zero ≡ x
-unfolding add sum
-plus_minus_zero nan t = refl
-plus_minus_zero (inf s) t = refl
-plus_minus_zero (fin true m e) t = (λ i. round binary32 true (mul-one (m * up e) i + zero-mul (down e) i) (mul-one (down e) i)) ∙ ap (λ (x : ℕ). round binary32 true x (down e)) (add-zero (m * up e)) ∙ rounds_to_itself binary32 true m e t
-plus_minus_zero (fin false m e) t =
-    ap (λ (b : Bool). cond b (round binary32 true (0 * down e - m * up e * 1) (down e * 1)) (round binary32 (false && ltb (0 * down e) (m * up e * 1)) (m * up e * 1 - 0 * down e) (down e * 1))) less
-    ∙ (λ i. round binary32 false (mul-one (m * up e) i - zero-mul (down e) i) (mul-one (down e) i)) ∙ ap (λ (x : ℕ). round binary32 false x (down e)) (sub-zero (m * up e)) ∙ rounds_to_itself binary32 false m e t
-  where
-    less : ltb (m * up e * 1) (0 * down e) ≡ false
-    less = ap (λ (x : ℕ). ltb (m * up e * 1) x) (zero-mul (down e)) ∙ le-ltb (m * up e * 1) 0 zero-le
 
 -- 0.0 and -0.0 are 0.0
 zeros_are : add binary32 nought minus_zero ≡ nought
@@ -129,6 +59,6 @@ is_minus_zero (fin true (suc m) e) t = inr (λ q. subst Sized q (lt→ltb 0 (suc
 
 pub either_way : (z w : Float) → T (fits binary32 z) → T (fits binary32 w) → w ≢ minus_zero → add binary32 (add binary32 nought z) w ≡ add binary32 w z
 either_way z w p q h = elim (is_minus_zero z p) [
-  | inl e ↦ ap (λ (x : Float). add binary32 x w) (ap (λ (y : Float). add binary32 nought y) e ∙ zeros_are) ∙ zero_plus w q h ∙ sym (ap (λ (y : Float). add binary32 w y) e ∙ plus_minus_zero w q)
+  | inl e ↦ ap (λ (x : Float). add binary32 x w) (ap (λ (y : Float). add binary32 nought y) e ∙ zeros_are) ∙ zero_plus w q h ∙ sym (ap (λ (y : Float). add binary32 w y) e ∙ plus_minus_zero binary32 w q)
   | inr k ↦ ap (λ (x : Float). add binary32 x w) (zero_plus z p k) ∙ plus_comm binary32 z w
 ]

@@ -1,5 +1,6 @@
 -- One reply alone (SPECIFICATION 14): its checks in order, and what it leaves in the output.
 use Rattle.std.specs.Prelude.{Option, Some, None, option_map, Result, Ok, Err}
+use Rattle.std.specs.Result.{result_and}
 use Rattle.std.specs.Prelude.{ℕ, ◌*◌, ◌%◌, Bool, cond, not, ◌&&◌, ◌||◌, List, eqb, length, Float}
 use Rattle.constants.specs.Setting.{per_pulse}
 use Rattle.constants.specs.declared.SamplesPerPulse.{SamplesPerPulse}
@@ -65,14 +66,9 @@ draw_then noise (Some (k, field)) = Err (Refused.Draw k field)
 unfoldable pub values_checked : State → List ℕ → List Float → Result (Unit {0}) Refusal
 values_checked state draw noise = draw_then noise (first_fault state.rates state.distributions draw)
 
--- what follows a check that is passed
-unfoldable pub after : Result (Unit {0}) Refusal → Result State Refusal → Result State Refusal
-after (Ok tt) next = next
-after (Err q) next = Err q
-
 -- refusals 2, 3, 4, 14, 5 and 6, of opening; then 7 and 8
 unfoldable pub opened_then : List ℕ → List Float → Result State Refusal → Result State Refusal
-opened_then draw noise (Ok state) = after (values_checked state draw noise) (Ok state)
+opened_then draw noise (Ok state) = result_and (values_checked state draw noise) (Ok state)
 opened_then draw noise (Err q) = Err q
 
 -- ---- the call
@@ -80,7 +76,7 @@ opened_then draw noise (Err q) = Err q
 module _ (settings : List ℕ) (taps_s taps_ac : List Float) (draw : List ℕ) (noise : List Float) where
   -- the run of which the reply is one, or the refusal, given an output of this length. Opening's own buffers have their lengths: nothing is asked of them
   unfoldable pub single_at : ℕ → SamplesPerPulse → Result State Refusal
-  single_at output setting = after (lengths_checked (per_pulse setting) settings (length draw) (length noise) output) (opened_then draw noise (opened_at taps_s taps_ac settings setting))
+  single_at output setting = result_and (lengths_checked (per_pulse setting) settings (length draw) (length noise) output) (opened_then draw noise (opened_at taps_s taps_ac settings setting))
 
   -- refusal 15 first, but for 9 for settings of another length
   unfoldable pub single_run : ℕ → Result State Refusal

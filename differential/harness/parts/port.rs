@@ -7,9 +7,6 @@ use crate::calls::{OPENING_MARK, OUTPUT_MARK, RECORDS_MARK};
 use crate::tape::*;
 use more1090_generator::{STOP_DONE, RunResult, Run, State};
 
-/// A stored state: its last number is the samples per pulse.
-const STATE_BYTES: usize = size_of::<State>();
-
 /// A run that the port opened, with the memory lent to it.
 pub struct Port {
     state: State,
@@ -151,14 +148,18 @@ pub fn run_whole(tape: &Tape, samples: usize, stored: bool) -> (Vec<f32>, Vec<u8
     all
 }
 
-/// The run that was stored as these bytes; none where bytes of another length, or with the other setting, are taken for one.
+/// The run that was stored as these bytes; none where bytes of another length, or with a bit changed, are taken for one.
 fn taken_up(bytes: &[u8]) -> Option<Run> {
     let longer = [bytes, &[0]].concat();
-    let mut other = bytes.to_vec();
-    other[STATE_BYTES - 8] = OTHER;
-    let others = [&[], &bytes[1..], &longer, &other];
-    let taken = others.iter().any(|b| Run::restore(b).is_some());
-    Run::restore(bytes).filter(|_| !taken)
+    let flipped = |at: usize| {
+        let mut other = bytes.to_vec();
+        other[at] ^= 1 << (at % 8);
+        other
+    };
+    let (first, middle, last) = (flipped(0), flipped(bytes.len() / 2), flipped(bytes.len() - 1));
+    let others = [&[], &bytes[1..], &longer, &first, &middle, &last];
+    let taken = others.iter().any(|b| Run::restore(b).is_ok());
+    Run::restore(bytes).ok().filter(|_| !taken)
 }
 
 /// A refusal with its values, or a stop and the counts.

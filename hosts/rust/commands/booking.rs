@@ -2,7 +2,7 @@
 use crate::more1090_generator::{
     Booking, BookingEnd, DRAW_LEN, SETTINGS_LEN, SamplesPerPulse, booking,
 };
-use crate::shell::{Command, Failure, floats_of, print, read, refused, words};
+use crate::shell::{Command, Failure, Input, floats_of, print, refused, words};
 
 pub const COMMAND: Command = Command {
     name: "booking",
@@ -15,16 +15,16 @@ pub const COMMAND: Command = Command {
     run,
 };
 
-/// A section: its count and its bytes, so many for each of the count.
-fn section<'a>(rest: &mut &'a [u8], count: Option<usize>, each: usize) -> Option<&'a [u8]> {
-    let (number, behind) = rest.split_first_chunk()?;
-    let found = u32::from_le_bytes(*number) as usize;
+/// A section: its bytes, so many for each of its count. A tape that is short or has another count is refused.
+fn section(tape: &mut Input, count: Option<usize>, each: usize) -> Result<Vec<u8>, Failure> {
+    let wrong = || refused(11, 0, 0);
+    let number: [u8; 4] = tape.next(4)?.try_into().map_err(|_| wrong())?;
+    let found = u32::from_le_bytes(number) as usize;
     if count.is_some_and(|n| n != found) {
-        return None;
+        return Err(wrong());
     }
-    let (bytes, behind) = behind.split_at_checked(found.checked_mul(each)?)?;
-    *rest = behind;
-    Some(bytes)
+    let bytes = tape.next((found * each) as u64)?;
+    if bytes.len() == found * each { Ok(bytes) } else { Err(wrong()) }
 }
 
 /// What is wrong with the settings alone: 5 says that there are no taps, which is not their fault.
@@ -36,22 +36,23 @@ fn check(settings: &[u8]) -> Result<(), Failure> {
 }
 
 fn run(args: &[String]) -> Result<(), Failure> {
-    let tape = read(words(args, &[], 1, 1)?.rest[0])?;
-    let mut rest = &tape[..];
-    let short = || refused(11, 0, 0);
-    let settings = section(&mut rest, Some(1), SETTINGS_LEN).ok_or_else(short)?;
-    check(settings)?;
-    let setting = SamplesPerPulse::of_settings(settings);
+    let name = words(args, &[], 1, 1)?.rest[0];
+    print(&booked(&mut Input::open(name)?).map_err(|e| e.of_file(name))?)
+}
+
+fn booked(tape: &mut Input) -> Result<String, Failure> {
+    let settings = section(tape, Some(1), SETTINGS_LEN)?;
+    check(&settings)?;
+    let setting = SamplesPerPulse::of_settings(&settings);
     let of_mode_s = setting.mode_s_taps_len();
-    let taps = section(&mut rest, Some(of_mode_s + setting.mode_ac_taps_len()), 4).ok_or_else(short)?;
-    let draws = section(&mut rest, None, DRAW_LEN).ok_or_else(short)?;
-    let taps = floats_of(taps);
+    let taps = floats_of(&section(tape, Some(of_mode_s + setting.mode_ac_taps_len()), 4)?);
+    let draws = section(tape, None, DRAW_LEN)?;
     let (taps_s, taps_ac) = taps.split_at(of_mode_s);
-    let Booking { samples, noise, records, end, .. } = booking(settings, taps_s, taps_ac, draws)
+    let Booking { samples, noise, records, end, .. } = booking(&settings, taps_s, taps_ac, &draws)
         .map_err(|[number, value, field]| refused(number, value, field))?;
     let last = match end {
         BookingEnd::Draw(index) => format!("ends at draw {index}"),
         BookingEnd::RanOut(_) => "draws ran out".into(),
     };
-    print(&format!("samples {samples} noise {noise} records {records}\n{last}\n"))
+    Ok(format!("samples {samples} noise {noise} records {records}\n{last}\n"))
 }

@@ -1,6 +1,8 @@
 //! `more1090 heard`: what a receiver heard, held against the records of a run.
 use crate::more1090_generator::{ENTRY_LEN, NOBODY, RECORD_LEN, compare_log};
-use crate::shell::{Command, Failure, bytes_of, number, print, read, refused, words};
+use crate::shell::{
+    Command, Failure, LENGTH_REFUSED, bytes_of, message_text, number, print, read, refused, refused_length, words,
+};
 use std::fmt::Write;
 
 pub const COMMAND: Command = Command {
@@ -16,10 +18,11 @@ pub const COMMAND: Command = Command {
         \x20   @0000016CE3671C8D4840D6202CC371C32CE0576098;  a timestamp of 48 bits at 12 MHz, then the message\n\
         A timestamp is turned into a sample, the nearest: TICKS (0) is the timestamp of sample 0, and RATE (8000000) the samples\n\
         a second: 16000000 where the run had 8 samples per pulse. A message of four digits is Mode A/C, high byte first, as the\n\
-        records are printed. `-` is standard input.\n",
+        records are printed; the lists have its squawk behind it. `-` is standard input.\n",
     run,
 };
 
+const LOG_REFUSED: u64 = 16;
 const TICKS_A_SECOND: u128 = 12_000_000;
 const TIMESTAMP_DIGITS: usize = 12;
 
@@ -33,7 +36,7 @@ fn entries_of(text: &[u8], start: u64, rate: u64) -> Result<Vec<u8>, Failure> {
         if line.is_empty() {
             continue;
         }
-        let wrong = |what: &str| Failure::Refused(format!("LOG, line {}: {what}: {line}", k + 1));
+        let wrong = |what: &str| Failure::Refused(format!("line {}: {what}: {line}", k + 1));
         let body = line.strip_suffix(';').ok_or_else(|| wrong("no `;` at its end"))?;
         let message = if let Some(message) = body.strip_prefix('*') {
             message
@@ -67,13 +70,6 @@ fn sample_of(ticks: u64, rate: u64) -> u64 {
     nearest.try_into().unwrap_or(u64::MAX)
 }
 
-/// A message in hexadecimal from its length and bytes; Mode A/C high byte first.
-fn hex(length_and_bytes: &[u8]) -> String {
-    let bytes = &length_and_bytes[1..][..usize::from(length_and_bytes[0])];
-    let digits = |b: &u8| format!("{b:02x}");
-    if bytes.len() == 2 { bytes.iter().rev().map(digits).collect() } else { bytes.iter().map(digits).collect() }
-}
-
 fn u64_of(bytes: &[u8]) -> u64 {
     bytes.iter().take(8).rev().fold(0, |v, &b| v << 8 | u64::from(b))
 }
@@ -100,19 +96,27 @@ fn run(args: &[String]) -> Result<(), Failure> {
     let text = read(words.rest[0])?;
     let log = match words.option("--format") {
         None | Some("entries") => text,
-        Some("avr") => entries_of(&text, start, rate)?,
+        Some("avr") => entries_of(&text, start, rate).map_err(|e| e.of_file(words.rest[0]))?,
         Some(other) => return Err(Failure::Use(format!("--format is entries or avr, and not {other}"))),
     };
     let records = read(words.rest[1])?;
-    let heard = compare_log(&log, &records, tolerance).map_err(|(number, value)| refused(number, value, 0))?;
+    let heard = compare_log(&log, &records, tolerance).map_err(|(number, value)| {
+        let (log_name, records_name) = (words.rest[0], words.rest[1]);
+        match number {
+            LENGTH_REFUSED if log.len() % ENTRY_LEN != 0 => refused_length("entries", ENTRY_LEN).of_file(log_name),
+            LENGTH_REFUSED => refused_length("records", RECORD_LEN).of_file(records_name),
+            LOG_REFUSED => refused(number, value, 0).of_file(log_name),
+            _ => refused(number, value, 0).of_file(records_name),
+        }
+    })?;
     let mut out = format!("pairs {}\nunheard {}\nunsent {}\n", heard.pairs, heard.unheard, heard.unsent);
     out += &list("unheard: record, first sample, type, message", &heard.owners, |j| {
         let r = &records[RECORD_LEN * j..];
-        format!("{:>16} {} {}", u64_of(&r[40..]), r[48], hex(&r[51..]))
+        format!("{:>16} {} {}", u64_of(&r[40..]), r[48], message_text(&r[51..]))
     });
     out += &list("unsent: entry, sample, message", &heard.partners, |i| {
         let e = &log[ENTRY_LEN * i..];
-        format!("{:>16}   {}", u64_of(e), hex(&e[8..]))
+        format!("{:>16}   {}", u64_of(e), message_text(&e[8..]))
     });
     print(&out)
 }

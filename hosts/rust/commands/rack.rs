@@ -1,18 +1,22 @@
 //! `more1090 rack`: a run of random replies, fed to one to sixteen files or pipes, each with its own delay and gain.
-use crate::draws::{Asked, RandomRun};
+use crate::draws::{Asked, RandomRun, rate_of};
 use crate::more1090_generator::{Rack, STOP_DONE};
-use crate::shell::{Command, Failure, Output, SAMPLES_PER_PULSE, duration, number, refused, words};
+use crate::shell::{
+    Command, Failure, Output, SAMPLES_PER_PULSE, SUM, apart, duration, number, print_sums, refused, words_and_flags,
+};
 
 pub const COMMAND: Command = Command {
     name: "rack",
-    arguments: "[--seed N] [--samples-per-pulse N] SECONDS REPLIES DELAY:GAIN:FILE ..",
+    arguments: "[--seed N] [--samples-per-pulse N] [--sum] SECONDS REPLIES_A_SECOND DELAY:GAIN:FILE ..",
     summary: "a run of random replies, delayed and scaled for each of up to sixteen files or pipes",
-    help: "Makes SECONDS of signal with REPLIES random replies a second, and writes it to each FILE as pairs of little-endian f32\n\
-        (cf32): DELAY samples late (0 to 4095), with 0.0 before that, and multiplied by GAIN (0 to 1). Every FILE is as long as\n\
-        the signal. A FILE may be a pipe that is there already, and one of them `-`, standard output. The same seed gives the\n\
-        same signal.\n\n\
+    help: "Makes SECONDS of signal with REPLIES_A_SECOND random replies on average (at most 1,000,000), and writes it to each\n\
+        FILE as pairs of little-endian f32 (cf32): DELAY samples late (0 to 4095), with 0.0 before that, and multiplied by\n\
+        GAIN (0 to 1). Every FILE is as long as the signal. A FILE may be a pipe that is there already, and one of them `-`,\n\
+        standard output. Files get their names once the run is done. The same seed gives the same signal.\n\n\
         --seed N               a whole number below 2^64 (1)\n\
-        --samples-per-pulse N  4, which is 8,000,000 samples a second, or 8, which is 16,000,000 (4)\n",
+        --samples-per-pulse N  4, which is 8,000,000 samples a second, or 8, which is 16,000,000 (4)\n\
+        --sum                  print the SHA-256 of what was written, a line a file as sha256sum prints it; on standard\n\
+        \x20                      error where a FILE is standard output\n",
     run,
 };
 
@@ -37,30 +41,35 @@ fn feed_of(word: &str) -> Result<Feed<'_>, Failure> {
 }
 
 fn run(args: &[String]) -> Result<(), Failure> {
-    let found = words(args, &["--seed", SAMPLES_PER_PULSE], 3, usize::MAX)?;
+    let found = words_and_flags(args, &["--seed", SAMPLES_PER_PULSE], &[SUM], 3, usize::MAX)?;
     let asked = Asked {
         duration: duration(found.rest[0])?,
-        rate: number(found.rest[1], "the replies")?,
+        rate: rate_of(found.rest[1], "REPLIES_A_SECOND")?,
         seed: found.number("--seed", 1)?,
         level: None,
         trigger_level: TRIGGER_LEVEL,
         samples_per_pulse: found.samples_per_pulse()?,
     };
     let feeds = found.rest[2..].iter().map(|word| feed_of(word)).collect::<Result<Vec<_>, _>>()?;
-    let twice = |k: usize| feeds[..k].iter().any(|f| f.file == feeds[k].file);
-    if let Some(k) = (0..feeds.len()).find(|&k| twice(k)) {
-        return Err(Failure::Use(format!("{} is given twice", feeds[k].file)));
+    for (k, one) in feeds.iter().enumerate() {
+        feeds[..k].iter().try_for_each(|other| apart(other.file, one.file))?;
     }
     let delays: Vec<u64> = feeds.iter().map(|f| f.delay).collect();
     let gains: Vec<f32> = feeds.iter().map(|f| f.gain).collect();
     let rack = Rack::open(&delays, &gains).map_err(|number| refused(number, 0, 0))?;
     let run = RandomRun::open(&asked, CALL).map_err(|(number, value)| refused(number, value, 0))?;
-    let outputs = feeds.iter().map(|f| Output::open(f.file)).collect::<Result<Vec<_>, _>>()?;
-    feed(run, rack, outputs)
+    let sum = found.flag(SUM);
+    let open = |f: &Feed| Ok(Output::open_binary(f.file)?.summed(sum));
+    let mut outputs = feeds.iter().map(open).collect::<Result<Vec<_>, _>>()?;
+    feed(run, rack, &mut outputs)?;
+    outputs.iter_mut().try_for_each(Output::finish)?;
+    let sums = Output::sum_lines(&outputs);
+    outputs.into_iter().try_for_each(Output::close)?;
+    print_sums(&sums, feeds.iter().any(|f| f.file == "-"))
 }
 
 /// Runs to the end, and hands each run call's samples to the rack.
-fn feed(mut run: RandomRun, mut rack: Rack, mut outputs: Vec<Output>) -> Result<(), Failure> {
+fn feed(mut run: RandomRun, mut rack: Rack, outputs: &mut [Output]) -> Result<(), Failure> {
     let mut room = vec![0.0; outputs.len() * 2 * CALL];
     loop {
         let ran = run.call();
@@ -76,7 +85,7 @@ fn feed(mut run: RandomRun, mut rack: Rack, mut outputs: Vec<Output>) -> Result<
             }
         }
         if ran.stop == STOP_DONE {
-            return outputs.into_iter().try_for_each(Output::close);
+            return Ok(());
         }
     }
 }

@@ -1,9 +1,9 @@
 //! `more1090 random`: a whole run with random replies as the published Rust draws them, windowed-sinc lowpasses and normal noise.
-use crate::draws::{Asked, RandomRun, level_of};
+use crate::draws::{Asked, RandomRun, level_of, rate_of};
 use crate::more1090_generator::{RECORD_LEN, STOP_DONE};
 use crate::shell::{
-    Command, Failure, Output, SAMPLES_PER_PULSE, SUM, Words, apart, close_both, duration, note, number, print, refused,
-    words_and_flags,
+    Command, Failure, Output, SAMPLES_PER_PULSE, SUM, Words, apart, close_both, duration, message_text, note, number,
+    print_sums, refused, words_and_flags,
 };
 
 pub const COMMAND: Command = Command {
@@ -13,7 +13,7 @@ pub const COMMAND: Command = Command {
     help: "Writes SECONDS (digits, and at most nine after a point) of signal to OUT: pairs of little-endian f32 at 8,000,000 a\n\
         second, or 16,000,000. Replies come at random, REPLIES_A_SECOND on average (at most 1,000,000). SEED is a whole number\n\
         below 2^64; the same words give the same bytes. RECORDS gets a line for each reply: first sample, type, count of\n\
-        samples, time in samples, C/N0 in dB Hz, message.\n\n\
+        samples, time in samples, C/N0 in dB Hz, message; Mode A/C high byte first, and its squawk behind it.\n\n\
         --level DB             the level of every reply, 0.0 to 200.0 dB, at 4 samples per pulse; otherwise each has its own,\n\
         \x20                      by distance\n\
         --trigger-level PART   where on its rise a pulse is timed, 0.1 to 0.9 of its height (0.5)\n\
@@ -27,15 +27,10 @@ pub const COMMAND: Command = Command {
     run,
 };
 
-/// Replies last 91 microseconds on average: at this rate each sample has those of 91 replies.
-const HIGHEST_RATE: f64 = 1e6;
 const SAMPLES_A_CALL: usize = 1 << 16;
 
 fn asked(words: &Words) -> Result<Asked, Failure> {
-    let rate: f64 = number(words.rest[1], "REPLIES_A_SECOND")?;
-    if rate.is_finite() && rate > HIGHEST_RATE {
-        return Err(Failure::Refused(format!("REPLIES_A_SECOND: {} is above 1000000, where replies lie 91 deep", words.rest[1])));
-    }
+    let rate = rate_of(words.rest[1], "REPLIES_A_SECOND")?;
     let level = level_of(words)?;
     Ok(Asked {
         duration: duration(words.rest[0])?,
@@ -51,8 +46,7 @@ fn line(r: &[u8]) -> String {
     let number = |at: usize| f64::from_le_bytes(r[at..at + 8].try_into().unwrap());
     let first = u64::from_le_bytes(r[40..48].try_into().unwrap());
     let count = u16::from_le_bytes([r[49], r[50]]);
-    let message: String = r[52..52 + r[51] as usize].iter().map(|b| format!("{b:02x}")).collect();
-    format!("{first} {} {count} {} {:.1} {message}\n", r[48], number(0), number(8))
+    format!("{first} {} {count} {} {:.1} {}\n", r[48], number(0), number(8), message_text(&r[51..]))
 }
 
 fn simulate(mut made: RandomRun, out: &mut Output, mut lines: Option<&mut Output>) -> Result<(), Failure> {
@@ -94,14 +88,10 @@ fn run(args: &[String]) -> Result<(), Failure> {
     let mut out = Output::open_binary(name)?.summed(sum);
     let mut lines = records.map(Output::open).transpose()?.map(|lines| lines.summed(sum));
     simulate(opened, &mut out, lines.as_mut())?;
-    let sums = [Some(&out), lines.as_ref()].into_iter().flatten().filter_map(Output::sum_line).collect::<String>();
+    let sums = Output::sum_lines([Some(&out), lines.as_ref()].into_iter().flatten());
     match lines {
         Some(lines) => close_both(out, lines)?,
         None => out.close()?,
     }
-    match sum {
-        true if name == "-" || records == Some("-") => Ok(note(sums.trim_end())),
-        true => print(&sums),
-        false => Ok(()),
-    }
+    print_sums(&sums, name == "-" || records == Some("-"))
 }

@@ -1,8 +1,9 @@
 //! `more1090 single`: one reply alone, as cf32.
 use crate::draws::{Level, level_of, lowpasses, noise};
+use crate::messages::{Picks, picks};
 use crate::more1090_generator::{SamplesPerPulse, single};
 use crate::shell::{
-    Command, Failure, Output, SAMPLES_PER_PULSE, SUM, Words, bytes_of, note, number, print, refused, words_and_flags,
+    Command, Failure, Output, SAMPLES_PER_PULSE, SUM, Words, bytes_of, number, print_sums, refused, words_and_flags,
 };
 
 pub const COMMAND: Command = Command {
@@ -12,7 +13,8 @@ pub const COMMAND: Command = Command {
     help: "Writes one reply of a type, 0 to 6, to OUT: pairs of little-endian f32 at 8,000,000 a second, or 16,000,000. - is\n\
         standard output.\n\n\
         --message HEX          7 or 14 bytes; the last three of types 0, 1 and 3 become the parity, of type 3 with the overlay.\n\
-        \x20                      Type 6: four digits of the data, SPI as bit 12. Without it, 0 in all that the type leaves open\n\
+        \x20                      Type 6: four digits, of the data (the squawk's digits, three bits each) and SPI as bit 12:\n\
+        \x20                      squawk 7000 is 0e00. Without it, 0 in all that the type leaves open\n\
         --level DB             0.0 to 200.0 dB with one digit after the point or none, at 4 samples per pulse\n\
         --amplitude A          in place of a level, 0 to 1048576 (1)\n\
         --offset HZ            of the carrier, at most half the samples a second in size (0)\n\
@@ -35,46 +37,11 @@ const MOST_SAMPLES: u32 = 80_000_000;
 /// A stretch, in pulses, that holds the longest reply.
 const STRETCH: u32 = 300;
 
-/// The formats of each type, the capabilities, and the controls of DF 18, as a draw picks from them.
-const FORMATS: [&[u8]; 6] = [&[17, 18], &[11], &[0, 4, 5], &[11], &[16, 20, 21, 24, 25, 26, 27, 28, 29, 30, 31], &[19]];
-const CAPABILITIES: &[u8] = &[0, 4, 5, 6, 7];
-const CONTROLS: &[u8] = &[0, 2, 3, 4, 5, 6];
-
-/// Format pick, capability pick, 14 bytes, Mode A/C data and SPI.
-type Picks = (u8, u8, [u8; 14], u16, u8);
-
-/// The index of x in a list that a draw picks from.
-fn pick(list: &[u8], x: u8, what: &str) -> Result<u8, Failure> {
-    let found = list.iter().position(|y| *y == x);
-    found.map(|k| k as u8).ok_or_else(|| Failure::Use(format!("--message: the type has no {what} {x}")))
-}
-
-fn picks(kind: u8, hex: Option<&str>) -> Result<Picks, Failure> {
-    let mut all: Picks = (0, 0, [0; 14], 0, 0);
-    let Some(hex) = hex else { return Ok(all) };
-    let bytes = bytes_of(hex)?;
-    let wanted = match kind {
-        6 => 2,
-        0 | 4 | 5 => 14,
-        _ => 7,
-    };
-    if bytes.len() != wanted {
-        return Err(Failure::Use(format!("--message: the type has {wanted} bytes, and not {}", bytes.len())));
+fn picks_of(kind: u8, hex: Option<&str>) -> Result<Picks, Failure> {
+    match hex {
+        Some(hex) => picks(kind, &bytes_of(hex)?).map_err(|why| Failure::Use(format!("--message: {why}"))),
+        None => Ok(Picks::default()),
     }
-    if kind == 6 {
-        let word = u16::from_be_bytes([bytes[0], bytes[1]]);
-        (all.3, all.4) = (word & 0xfff, (word >> 12) as u8);
-        return Ok(all);
-    }
-    let (format, low) = (bytes[0] >> 3, bytes[0] & 7);
-    all.0 = pick(FORMATS[usize::from(kind)], format, "format")?;
-    all.1 = match (kind, format) {
-        (0, 18) => pick(CONTROLS, low, "control")?,
-        (0 | 1 | 3, _) => pick(CAPABILITIES, low, "capability")?,
-        _ => 0,
-    };
-    all.2[..wanted].copy_from_slice(&bytes);
-    Ok(all)
 }
 
 /// The amplitude, and the C/N0 beside it in the draw, which no sample shows.
@@ -113,7 +80,7 @@ fn settings(w: &Words, setting: SamplesPerPulse, samples: u32) -> Result<Vec<u8>
 }
 
 fn draw(w: &Words, kind: u8) -> Result<Vec<u8>, Failure> {
-    let (format, capability, bytes, data, spi) = picks(kind, w.option("--message"))?;
+    let picks = picks_of(kind, w.option("--message"))?;
     let (amplitude, cn0) = amplitude(w)?;
     let mut d = Vec::new();
     d.extend(w.number("--time", 50f64)?.to_le_bytes());
@@ -122,10 +89,7 @@ fn draw(w: &Words, kind: u8) -> Result<Vec<u8>, Failure> {
     d.extend(amplitude.to_le_bytes());
     // The carrier, phase and clock error of a draw: the settings' constants are taken in their place.
     d.extend([0; 24]);
-    d.extend([format, capability, w.number("--overlay", 1u8)?]);
-    d.extend(bytes);
-    d.extend(data.to_le_bytes());
-    d.push(spi);
+    d.extend(picks.bytes(w.number("--overlay", 1u8)?));
     Ok(d)
 }
 
@@ -158,11 +122,7 @@ fn run(args: &[String]) -> Result<(), Failure> {
     }
     let mut out = Output::open_binary(w.rest[1])?.summed(w.flag(SUM));
     out.put(&output.iter().flat_map(|x| x.to_le_bytes()).collect::<Vec<u8>>())?;
-    let sum = out.sum_line();
+    let sum = Output::sum_lines([&out]);
     out.close()?;
-    match sum {
-        Some(line) if w.rest[1] == "-" => Ok(note(line.trim_end())),
-        Some(line) => print(&line),
-        None => Ok(()),
-    }
+    print_sums(&sum, w.rest[1] == "-")
 }

@@ -1,10 +1,7 @@
--- `all_in_range` meets its contract. The loop's invariant: while all were in range, the first fault of the rest is that of all.
-use Rattle.std.specs.Prelude.{None}
-use mathlib.Core.Path.{◌≡◌}
-use mathlib.Core.Bool.{cond}
-use lib.ListN.{drop}
+-- `all_in_range` meets its contract. The loop's invariant: the first fault of what is behind the rows tested is that of all.
+use Rattle.std.proofs.Common.{◌≡◌, ◌*◌, drop}
 use Rattle.run_call_checks.specs.NoiseModel.{out_of_range_from}
 use Rattle.run_call_checks.proofs.all_in_range.Given as goal
 
-abbrev pub invariant-loop-x : goal.invariant-loop-x
-invariant-loop-x l = cond l.within (out_of_range_from l.x-index (drop l.x-index l.noise)) None ≡ cond l.within (out_of_range_from 0 l.noise) None
+abbrev pub invariant-loop-row : goal.invariant-loop-row
+invariant-loop-row l = out_of_range_from (8 * l.row-index) (drop (8 * l.row-index) l.noise) ≡ out_of_range_from 0 l.noise

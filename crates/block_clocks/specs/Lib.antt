@@ -1,0 +1,2 @@
+pub mod Ticks
+pub mod TicksModel

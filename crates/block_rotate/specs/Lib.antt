@@ -1,0 +1,2 @@
+pub mod BlockSamples
+pub mod BlockModel

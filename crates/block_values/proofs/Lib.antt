@@ -1,0 +1,3 @@
+pub mod Guess
+pub mod Lanes
+pub mod Written

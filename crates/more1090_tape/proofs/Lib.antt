@@ -1,0 +1,3 @@
+mod Feed
+pub mod TakenText
+pub mod TapeInC

@@ -1,0 +1,5 @@
+pub mod Written
+pub mod Read
+pub mod Lengths
+pub mod Parts
+pub mod Taken

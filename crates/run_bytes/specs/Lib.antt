@@ -1,0 +1,3 @@
+pub mod Layout
+pub mod Sums
+pub mod Reading

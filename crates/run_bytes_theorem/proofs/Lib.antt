@@ -1,0 +1,15 @@
+pub mod EachOf
+pub mod Back
+pub mod Heads
+pub mod SmallSums
+pub mod RackBack
+pub mod RoundTrip
+pub mod Sums
+pub mod Damage
+pub mod Flips
+pub mod StepsKeep
+pub mod KeepsTyped
+pub mod KeepsLengths
+pub mod OpenedTyped
+pub mod StoredRuns
+pub mod NoNan

@@ -1,0 +1,5 @@
+pub mod Typed
+pub mod RoundTrip
+pub mod Damage
+pub mod StoredRuns
+pub mod NoNan
