@@ -3,6 +3,7 @@
 
 mod loads;
 mod ours;
+mod random;
 mod theirs_at_4 {
     use reference as published;
     include!("theirs.rs");

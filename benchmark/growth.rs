@@ -4,9 +4,11 @@
 #![allow(dead_code)]
 #[path = "../hosts/rust/more1090_generator.rs"]
 mod more1090_generator;
+mod random;
 
 use more1090_generator::SamplesPerPulse::{self, Eight, Four};
 use more1090_generator::{DRAW_LEN, RECORD_LEN, Rack, Run, STOP_DONE};
+use random::Random;
 use std::hint::black_box;
 use std::time::Instant;
 
@@ -16,18 +18,7 @@ const CALL: usize = 4_096;
 /// Noise values, used over and over.
 const NOISE: usize = 1 << 20;
 
-/// SplitMix64.
-struct Random(u64);
-
 impl Random {
-    fn next(&mut self) -> u64 {
-        self.0 = self.0.wrapping_add(0x9e37_79b9_7f4a_7c15);
-        let mut z = self.0;
-        z = (z ^ (z >> 30)).wrapping_mul(0xbf58_476d_1ce4_e5b9);
-        z = (z ^ (z >> 27)).wrapping_mul(0x94d0_49bb_1331_11eb);
-        z ^ (z >> 31)
-    }
-
     /// From -1 to below 1.
     fn signed(&mut self) -> f64 {
         (self.next() >> 11) as f64 / (1u64 << 52) as f64 - 1.0

@@ -5,20 +5,15 @@
 #![allow(dead_code)]
 #[path = "../hosts/rust/more1090_generator.rs"]
 mod more1090_generator;
+mod random;
 
 use more1090_generator::{ENTRY_LEN, RECORD_LEN, compare_log_into};
+use random::Random;
 use std::time::Instant;
-
-/// SplitMix64.
-struct Random(u64);
 
 impl Random {
     fn below(&mut self, n: u64) -> u64 {
-        self.0 = self.0.wrapping_add(0x9e37_79b9_7f4a_7c15);
-        let mut z = self.0;
-        z = (z ^ (z >> 30)).wrapping_mul(0xbf58_476d_1ce4_e5b9);
-        z = (z ^ (z >> 27)).wrapping_mul(0x94d0_49bb_1331_11eb);
-        (z ^ (z >> 31)) % n
+        self.next() % n
     }
 }
 

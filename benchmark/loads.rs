@@ -1,6 +1,7 @@
 //! What both are fed: settings, taps, draws and noise, from one seed.
 
 use crate::ours::SamplesPerPulse;
+use crate::random::Random;
 use lent::{Draw, NOISE};
 
 /// The Rust's weights of the message types, and its distributions of carrier and clock.
@@ -23,18 +24,7 @@ pub struct Load {
     pub noise: &'static [f32; NOISE],
 }
 
-/// SplitMix64.
-struct Random(u64);
-
 impl Random {
-    fn next(&mut self) -> u64 {
-        self.0 = self.0.wrapping_add(0x9e37_79b9_7f4a_7c15);
-        let mut z = self.0;
-        z = (z ^ (z >> 30)).wrapping_mul(0xbf58_476d_1ce4_e5b9);
-        z = (z ^ (z >> 27)).wrapping_mul(0x94d0_49bb_1331_11eb);
-        z ^ (z >> 31)
-    }
-
     /// From 0 to below 1.
     fn unit(&mut self) -> f64 {
         (self.next() >> 11) as f64 / (1u64 << 53) as f64
