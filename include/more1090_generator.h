@@ -1,5 +1,6 @@
 /* The reply generator for C and C++: opening a run, and run calls; what a run will use; the parity of messages; and levels in
- * decibels. Link libmore1090.a and -lm (tools/library makes it).
+ * decibels. Link libmore1090.a and -lm (tools/library makes it). It runs on x86-64-v2 processors (with SSE4.2), and faster on
+ * x86-64-v3 ones (with AVX2), with the same bytes.
  *
  * A run makes the samples of transponder replies, each a pair of floats, real part first, and a record of every reply. Its
  * settings say how many samples a pulse of 500 ns has: 4, which is 8,000,000 a second, or 8, which is 16,000,000. The caller

@@ -1,7 +1,8 @@
-mod Signs
+mod Quarters
 mod Limits
 mod Turns
 mod Sums
 mod Quadrants
+mod Scaled
 mod Stretches
 mod Blocks

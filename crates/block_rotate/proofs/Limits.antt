@@ -1,15 +1,13 @@
--- The reduction of a phase by the number of limits that lie above it, and that number from the signs of four sums.
-use Rattle.std.proofs.Common.{◌≡◌, ℕ, zero, suc, ◌+◌, ◌≤◌, Bool, true, false, cond, not, T, sym, refl, ap, ◌∙◌, subst, arith}
-use Rattle.std.specs.Float.{is_sign_negative}
-use Rattle.std.proofs.lemmas.Float.{lt_trans, not_nan_f64_bits}
-use lib.IntN.{pos, negsuc}
-use lib.Ieee.{Float, nan, inf, fin, binary64, is_nan, of_bits, of_int, nan_bits, add, sub, mul, div, neg, lt}
-use Rattle.float_rounding.proofs.More.{sub_is}
-use Rattle.math.specs.Phase.{pi}
-use Rattle.math.specs.Carrier.{half_pi, outer_limit, inner_limit}
+-- How many limits of the reduction lie above the phase in each lane, and such a number as a float.
+use Rattle.std.proofs.Common.{◌≡◌, ℕ, zero, suc, ◌+◌, ◌%◌, ◌^◌, ◌≤◌, Bool, true, false, not, T, List, [], ◌∷◌, map, length, replicate, sym, refl, ◌∙◌, w64, arith}
+use Rattle.std.proofs.lemmas.Float.{not_nan_f64_bits}
+use Rattle.std.proofs.lemmas.Simd.{splat_is_map}
+use lib.IntN.{pos}
+use lib.Lanes.{Each1, zip2, sel_l}
+use lib.Ieee.{Float, binary64, of_bits, of_int, nan_bits, sub, neg, lt}
 use Rattle.math.proofs.Literals.{outer_limit_is, inner_limit_is}
-use Rattle.block_rotate.specs.BlockModel.{bit, at_most_pi, limits_above}
-use Rattle.block_rotate.proofs.Signs.{number, negative_is}
+use Rattle.block_rotate.specs.BlockModel.{bit, limits_above}
+use Rattle.float_narrow.proofs.Rows.{as_map, compared, tests, select_of_maps}
 
 -- ---- the limits, as the code writes them
 abbrev outer : Float
@@ -18,112 +16,54 @@ outer = of_bits binary64 0x4002_d97c_7f33_21d2
 abbrev inner : Float
 inner = of_bits binary64 0x3fe9_21fb_5444_2d18
 
-outer_digits : outer ≡ fin false (suc 2652839157010664) (negsuc 49)
-unfolding of_bits
-outer_digits = refl
+abbrev above : Float → Float → ℕ
+above limit x = bit (lt x limit)
 
-inner_digits : inner ≡ fin false (suc 884279719003554) (negsuc 49)
-unfolding of_bits
-inner_digits = refl
+-- ---- a 1 where one lies above
+pub marks_are : (p : List Float) (limit : Float) → length p ≡ 8 → sel_l (tests w64 (compared w64 lt p (replicate 8 limit))) (replicate 8 1) (replicate 8 0) ≡ map (above limit) p
+unfolding bit
+marks_are p limit l = select_of_maps w64 lt (λ x. x) (λ _. limit) p (as_map p) (splat_is_map p 8 limit l) (λ _. 1) (λ _. 0) (splat_is_map p 8 1 l) (splat_is_map p 8 0 l)
 
-minus_outer : neg outer ≡ fin true (suc 2652839157010664) (negsuc 49)
-unfolding of_bits neg
-minus_outer = refl
-
-minus_inner : neg inner ≡ fin true (suc 884279719003554) (negsuc 49)
-unfolding of_bits neg
-minus_inner = refl
-
--- ---- PI in place of what is no less
-pub at_most_pi_number : (p : Float) → T (not (is_nan (at_most_pi p)))
-unfolding at_most_pi is_nan
-at_most_pi_number nan = unfold pi of_bits lt in tt
-at_most_pi_number (inf s) = go (lt (inf s) pi)
-  where
-    go : (b : Bool) → T (not (is_nan (cond b (inf s) pi)))
-    go true = tt
-    go false = unfold pi of_bits in tt
-at_most_pi_number (fin s m e) = go (lt (fin s m e) pi)
-  where
-    go : (b : Bool) → T (not (is_nan (cond b (fin s m e) pi)))
-    go true = tt
-    go false = unfold pi of_bits in tt
-
--- a limit below PI lies above both or neither
-same_limit : (p l : Float) → T (lt l pi) → lt pi l ≡ false → lt (at_most_pi p) l ≡ lt p l
-unfolding at_most_pi
-same_limit p l h k = go (lt p pi) (lt p l) refl (λ (t : T (lt p l)). lt_trans p l pi t h)
-  where
-    go : (b x : Bool) → lt p l ≡ x → (T (lt p l) → T b) → lt (cond b p pi) l ≡ lt p l
-    go true x e f = refl
-    go false false e f = k ∙ sym e
-    go false true e f = absurd (f (subst T (sym e) tt))
-
-pub same_count : (p : Float) → limits_above (at_most_pi p) ≡ limits_above p
-unfolding limits_above
-same_count p =
-    λ t. bit (first t) + bit (second t) + bit (third t) + bit (fourth t)
-  where
-    first : lt (at_most_pi p) (neg outer_limit) ≡ lt p (neg outer_limit)
-    first = same_limit p (neg outer_limit) (unfold pi outer_limit half_pi mul div of_bits neg lt in tt) (unfold pi outer_limit half_pi mul div of_bits neg lt in refl)
-
-    second : lt (at_most_pi p) (neg inner_limit) ≡ lt p (neg inner_limit)
-    second = same_limit p (neg inner_limit) (unfold pi inner_limit half_pi mul div of_bits neg lt in tt) (unfold pi inner_limit half_pi mul div of_bits neg lt in refl)
-
-    third : lt (at_most_pi p) inner_limit ≡ lt p inner_limit
-    third = same_limit p inner_limit (unfold pi inner_limit half_pi mul div of_bits lt in tt) (unfold pi inner_limit half_pi mul div of_bits lt in refl)
-
-    fourth : lt (at_most_pi p) outer_limit ≡ lt p outer_limit
-    fourth = same_limit p outer_limit (unfold pi outer_limit half_pi mul div of_bits lt in tt) (unfold pi outer_limit half_pi mul div of_bits lt in refl)
-
--- ---- the four sums
-outer_twice : neg (neg outer) ≡ outer
-unfolding of_bits neg
-outer_twice = refl
-
-inner_twice : neg (neg inner) ≡ inner
-unfolding of_bits neg
-inner_twice = refl
+-- ---- the number
+-- the language's sum of `u64` lanes
+abbrev plus : ℕ → ℕ → ℕ
+plus a b = (a + b) % 2 ^ 64
 
 bit_most : (b : Bool) → bit b ≤ 1
 unfolding bit
 bit_most true = omega arith
 bit_most false = omega arith
 
-module _ (x : Float) (X : T (not (is_nan x))) where
-  pub first_number : T (not (is_nan (add binary64 x outer)))
-  first_number = number x outer X false 2652839157010664 (negsuc 49) outer_digits
+-- no sum reaches 2^64
+no_wrap : (a b c d : Bool) → plus (plus (plus (bit a) (bit b)) (bit c)) (bit d) ≡ bit a + bit b + bit c + bit d
+no_wrap a b c d = omega (arith, bit_most a, bit_most b, bit_most c, bit_most d)
 
-  pub second_number : T (not (is_nan (add binary64 x inner)))
-  second_number = number x inner X false 884279719003554 (negsuc 49) inner_digits
+count_is : (x : Float) → plus (plus (plus (above (neg outer) x) (above (neg inner) x)) (above inner x)) (above outer x) ≡ limits_above x
+unfolding limits_above
+count_is x =
+    no_wrap (lt x (neg outer)) (lt x (neg inner)) (lt x inner) (lt x outer)
+    ∙ (λ i. above (neg (sym outer_limit_is i)) x + above (neg (sym inner_limit_is i)) x + above (sym inner_limit_is i) x + above (sym outer_limit_is i) x)
 
-  pub third_number : T (not (is_nan (sub binary64 x inner)))
-  third_number = subst (λ (y : Float). T (not (is_nan y))) (sym (sub_is x inner)) (number x (neg inner) X true 884279719003554 (negsuc 49) minus_inner)
+counts_are : (p : List Float) → zip2 plus (zip2 plus (zip2 plus (map (above (neg outer)) p) (map (above (neg inner)) p)) (map (above inner) p)) (map (above outer) p) ≡ map limits_above p
+counts_are [] = refl
+counts_are (x ∷ p) = λ i. count_is x i ∷ counts_are p i
 
-  pub fourth_number : T (not (is_nan (sub binary64 x outer)))
-  fourth_number = subst (λ (y : Float). T (not (is_nan y))) (sym (sub_is x outer)) (number x (neg outer) X true 2652839157010664 (negsuc 49) minus_outer)
-
-  first_is : is_sign_negative (add binary64 x outer) ≡ lt x (neg outer_limit)
-  first_is = negative_is x outer X false 2652839157010664 (negsuc 49) outer_digits ∙ ap (λ (l : Float). lt x (neg l)) (sym outer_limit_is)
-
-  second_is : is_sign_negative (add binary64 x inner) ≡ lt x (neg inner_limit)
-  second_is = negative_is x inner X false 884279719003554 (negsuc 49) inner_digits ∙ ap (λ (l : Float). lt x (neg l)) (sym inner_limit_is)
-
-  third_is : is_sign_negative (sub binary64 x inner) ≡ lt x inner_limit
-  third_is = ap is_sign_negative (sub_is x inner) ∙ negative_is x (neg inner) X true 884279719003554 (negsuc 49) minus_inner ∙ ap (lt x) (inner_twice ∙ sym inner_limit_is)
-
-  fourth_is : is_sign_negative (sub binary64 x outer) ≡ lt x outer_limit
-  fourth_is = ap is_sign_negative (sub_is x outer) ∙ negative_is x (neg outer) X true 2652839157010664 (negsuc 49) minus_outer ∙ ap (lt x) (outer_twice ∙ sym outer_limit_is)
-
-  pub limits_counted : (i j k l : ℕ) → i ≡ bit (is_sign_negative (add binary64 x outer)) → j ≡ bit (is_sign_negative (add binary64 x inner)) → k ≡ bit (is_sign_negative (sub binary64 x inner)) → l ≡ bit (is_sign_negative (sub binary64 x outer)) → i + j + k + l ≡ limits_above x
-  unfolding limits_above
-  limits_counted i j k l d e f g = λ t. (d ∙ ap bit first_is) t + (e ∙ ap bit second_is) t + (f ∙ ap bit third_is) t + (g ∙ ap bit fourth_is) t
+pub limits_counted : (p : List Float) {a b c d : List ℕ} → a ≡ map (above (neg outer)) p → b ≡ map (above (neg inner)) p → c ≡ map (above inner) p → d ≡ map (above outer) p → zip2 plus (zip2 plus (zip2 plus a b) c) d ≡ map limits_above p
+limits_counted p ea eb ec ed = (λ i. zip2 plus (zip2 plus (zip2 plus (ea i) (eb i)) (ec i)) (ed i)) ∙ counts_are p
 
 -- ---- a number from 0 to 4 as a float
-pub no_nan : (n : ℕ) → n ≤ 4 → T (not (nan_bits binary64 (0x4330_0000_0000_0000 + n)))
-no_nan n h = not_nan_f64_bits (0x4330_0000_0000_0000 + n) (omega arith)
+abbrev whole : ℕ
+whole = 0x4330_0000_0000_0000
 
-pub as_float_is : (n : ℕ) → n ≤ 4 → sub binary64 (of_bits binary64 (0x4330_0000_0000_0000 + n)) (of_bits binary64 0x4330_0000_0000_0000) ≡ of_int binary64 (pos n)
+no_nan : (n : ℕ) → n ≤ 4 → T (not (nan_bits binary64 (plus n whole)))
+no_nan n h = not_nan_f64_bits (plus n whole) (omega arith)
+
+pub no_nans : (m : ℕ) (n : List ℕ) → Each1 (λ k. k ≤ 4) n → Each1 (λ b. T (not (nan_bits binary64 b))) (zip2 plus n (replicate m whole))
+no_nans m [] h = tt
+no_nans zero (k ∷ n) h = tt
+no_nans (suc m) (k ∷ n) h = (no_nan k h.0, no_nans m n h.1)
+
+as_float_is : (n : ℕ) → n ≤ 4 → sub binary64 (of_bits binary64 (plus n whole)) (of_bits binary64 whole) ≡ of_int binary64 (pos n)
 unfolding sub of_bits of_int
 as_float_is zero h = refl
 as_float_is (suc zero) h = refl
@@ -131,3 +71,8 @@ as_float_is (suc (suc zero)) h = refl
 as_float_is (suc (suc (suc zero))) h = refl
 as_float_is (suc (suc (suc (suc zero)))) h = refl
 as_float_is (suc (suc (suc (suc (suc n))))) h = absurd (omega arith)
+
+pub as_floats_are : (m : ℕ) (n : List ℕ) → length n ≡ m → Each1 (λ k. k ≤ 4) n → zip2 (sub binary64) (map (of_bits binary64) (zip2 plus n (replicate m whole))) (replicate m (of_bits binary64 whole)) ≡ map (λ k. of_int binary64 (pos k)) n
+as_floats_are m [] e h = refl
+as_floats_are zero (k ∷ n) e h = absurd (omega arith)
+as_floats_are (suc m) (k ∷ n) e h = λ i. as_float_is k h.0 i ∷ as_floats_are m n (omega arith) h.1 i

@@ -2,14 +2,13 @@
 use Rattle.std.proofs.Common.{◌≡◌, ℕ, zero, suc, ◌+◌, ◌-◌, ◌*◌, ◌<◌, ◌≤◌, min, Bool, cond, List, [], ◌∷◌, length, get_or, set, take, drop, refl, sym, ap, ◌∙◌, inl, inr, add-one, arith}
 use borrow.Author.Tests.{le-ltb}
 use Rattle.std.proofs.lemmas.List.{get_or-set_other}
-use lib.Ieee.{Float, nan, binary32, add, mul}
+use lib.Ieee.{Float, nan, binary32, add}
 use Rattle.constants.specs.Rate.{ring_slots}
 use Rattle.float_rounding.proofs.Size.{le_or_lt}
-use Rattle.math.specs.Carrier.{quadrant}
 use Rattle.reply_samples.specs.declared.Sample.{Sample}
 use Rattle.reply_samples.specs.RingModel.{added_at, next_slot, added_from}
 use Rattle.reply_samples.proofs.AtSlot.{next_on}
-use Rattle.block_rotate.specs.BlockModel.{turned_at, turned, added_line}
+use Rattle.block_rotate.specs.BlockModel.{zipped, added_line}
 
 -- ---- in the ring
 module _ (sps : ℕ) where
@@ -40,35 +39,25 @@ module _ (sps : ℕ) where
       none k n w slot e g h = omega arith
 
 -- ---- one sample
-pub added_is : (m : List Float) (slot at : ℕ) (x c s : Float) (z : Sample) → at ≡ 2 * slot → z ≡ record { re = mul binary32 x c; im = mul binary32 x s }
-    → set (set m at (add binary32 (get_or m at nan) (mul binary32 x c))) (at + 1) (add binary32 (get_or (set m at (add binary32 (get_or m at nan) (mul binary32 x c))) (at + 1) nan) (mul binary32 x s)) ≡ added_at m slot z
+pub added_is : (m : List Float) (slot at : ℕ) (re im : Float) → at ≡ 2 * slot
+    → set (set m at (add binary32 (get_or m at nan) re)) (at + 1) (add binary32 (get_or (set m at (add binary32 (get_or m at nan) re)) (at + 1) nan) im) ≡ added_at m slot (record { re = re; im = im })
 unfolding added_at
-added_is m slot at x c s z e w =
-    ap (λ (y : Float). set (set m at (add binary32 (get_or m at nan) (mul binary32 x c))) (at + 1) (add binary32 y (mul binary32 x s))) (get_or-set_other m at (at + 1) (add binary32 (get_or m at nan) (mul binary32 x c)) nan (λ (p : at + 1 ≡ at). next at p))
-    ∙ (λ t. set (set m (e t) (add binary32 (get_or m (e t) nan) (sym w t).re)) (e t + 1) (add binary32 (get_or m (e t + 1) nan) (sym w t).im))
+added_is m slot at re im e =
+    ap (λ (y : Float). set (set m at (add binary32 (get_or m at nan) re)) (at + 1) (add binary32 y im)) (get_or-set_other m at (at + 1) (add binary32 (get_or m at nan) re) nan (λ (p : at + 1 ≡ at). next at p))
+    ∙ ap (λ (k : ℕ). set (set m k (add binary32 (get_or m k nan) re)) (k + 1) (add binary32 (get_or m (k + 1) nan) im)) e
   where
     next : (k : ℕ) → k + 1 ≡ k → ⊥
     next k p = omega arith
 
-pub turned_is : (a v : Float) (q : ℕ) (s c sin cos : Float) → sin ≡ (quadrant q s c).sin → cos ≡ (quadrant q s c).cos → turned_at a v q s c ≡ record { re = mul binary32 (mul binary32 a v) cos; im = mul binary32 (mul binary32 a v) sin }
-unfolding turned_at
-turned_is a v q s c sin cos d e = λ t. record { re = mul binary32 (mul binary32 a v) (sym e t); im = mul binary32 (mul binary32 a v) (sym d t) }
+zipped_suc : (xs ys : List Float) (i : ℕ) → i < length xs → i < length ys → drop i (zipped xs ys) ≡ record { re = get_or xs i nan; im = get_or ys i nan } ∷ drop (suc i) (zipped xs ys)
+unfolding zipped
+zipped_suc [] ys i h k = absurd (omega arith)
+zipped_suc (x ∷ xs) [] i h k = absurd (omega arith)
+zipped_suc (x ∷ xs) (y ∷ ys) zero h k = refl
+zipped_suc (x ∷ xs) (y ∷ ys) (suc i) h k = zipped_suc xs ys i (omega arith) (omega arith)
 
-turned_suc : (a : Float) (vs : List Float) (qs : List ℕ) (ss cs : List Float) (i : ℕ) → i < length vs → i < length qs → i < length ss → i < length cs
-    → drop i (turned a vs qs ss cs) ≡ turned_at a (get_or vs i nan) (get_or qs i 0) (get_or ss i nan) (get_or cs i nan) ∷ drop (suc i) (turned a vs qs ss cs)
-unfolding turned
-turned_suc a [] qs ss cs i h j k l = absurd (omega arith)
-turned_suc a (v ∷ vs) [] ss cs i h j k l = absurd (omega arith)
-turned_suc a (v ∷ vs) (q ∷ qs) [] cs i h j k l = absurd (omega arith)
-turned_suc a (v ∷ vs) (q ∷ qs) (s ∷ ss) [] i h j k l = absurd (omega arith)
-turned_suc a (v ∷ vs) (q ∷ qs) (s ∷ ss) (c ∷ cs) zero h j k l = refl
-turned_suc a (v ∷ vs) (q ∷ qs) (s ∷ ss) (c ∷ cs) (suc i) h j k l = turned_suc a vs qs ss cs i (omega arith) (omega arith) (omega arith) (omega arith)
-
-pub turned_more : (a : Float) (vs : List Float) (qs : List ℕ) (ss cs : List Float) (i : ℕ) → i < length vs → i < length qs → i < length ss → i < length cs
-    → drop i (turned a vs qs ss cs) ≡ turned_at a (get_or vs i nan) (get_or qs i 0) (get_or ss i nan) (get_or cs i nan) ∷ drop (i + 1) (turned a vs qs ss cs)
-turned_more a vs qs ss cs i h j k l =
-    turned_suc a vs qs ss cs i h j k l
-    ∙ ap (λ (n : ℕ). turned_at a (get_or vs i nan) (get_or qs i 0) (get_or ss i nan) (get_or cs i nan) ∷ drop n (turned a vs qs ss cs)) (sym (add-one i))
+pub zipped_more : (xs ys : List Float) (i : ℕ) → i < length xs → i < length ys → drop i (zipped xs ys) ≡ record { re = get_or xs i nan; im = get_or ys i nan } ∷ drop (i + 1) (zipped xs ys)
+zipped_more xs ys i h k = zipped_suc xs ys i h k ∙ ap (λ (n : ℕ). record { re = get_or xs i nan; im = get_or ys i nan } ∷ drop n (zipped xs ys)) (sym (add-one i))
 
 -- ---- the loop over a stretch
 module _ (m : List Float) (slot from to i : ℕ) (zs : List Sample) (whole : List Float) (e : added_line m (slot + (i - from)) (take (to - i) (drop i zs)) ≡ whole) where

@@ -1,32 +1,53 @@
--- The Horner sums, taken in two parts.
-use Rattle.std.proofs.Common.{◌≡◌, ℕ, suc, sym, ap}
+-- The Horner sums of a row's lanes: each number that the code names is the coefficient.
+use Rattle.std.proofs.Common.{◌≡◌, ℕ, zero, suc, List, [], ◌∷◌, map, length, replicate, refl, sym, arith}
+use lib.Lanes.{zip2}
 use lib.Ieee.{Float, binary64, add, mul, neg, of_bits}
-use Rattle.math.specs.Carrier.{horner, sine_coefficient, cosine_coefficient, sine_sum, cosine_sum}
+use Rattle.math.specs.Carrier.{horner, sine_sum, cosine_sum}
 use Rattle.math.proofs.Literals.{sine_0, sine_1, sine_2, sine_3, sine_4, sine_5, sine_6, cosine_0, cosine_1, cosine_2, cosine_3, cosine_4, cosine_5, cosine_6, cosine_7}
-use Rattle.block_rotate.specs.BlockModel.{sine_begun, cosine_begun}
 
+-- a step of one sum, and of n of them
 abbrev step : Float → Float → Float → Float
 step z sum a = add binary64 (mul binary64 sum z) a
 
--- three steps on, for any coefficients
-pub horner_3 : (coefficient : ℕ → Float) (k n : ℕ) {a b c : Float} (z sum : Float) → coefficient n ≡ a → coefficient (suc n) ≡ b → coefficient (suc (suc n)) ≡ c → sum ≡ horner coefficient k (suc (suc (suc n))) z
-    → step z (step z (step z sum c) b) a ≡ horner coefficient (suc (suc (suc k))) n z
-unfolding horner
-horner_3 coefficient k n z sum ea eb ec es = λ i. step z (step z (step z (es i) (sym ec i)) (sym eb i)) (sym ea i)
+abbrev steps : ℕ → List Float → List Float → Float → List Float
+steps n z sums a = zip2 (add binary64) (zip2 (mul binary64) sums z) (replicate n a)
 
--- ---- the numbers of the code
-pub sine_first : (z : Float) → step z (step z (step z (of_bits binary64 0x3de6_1246_13a8_6d09) (neg (of_bits binary64 0x3e5a_e645_67f5_44e4))) (of_bits binary64 0x3ec7_1de3_a556_c734)) (neg (of_bits binary64 0x3f2a_01a0_1a01_a01a)) ≡ horner sine_coefficient 3 3 z
-sine_first z = horner_3 sine_coefficient 0 3 z (of_bits binary64 0x3de6_1246_13a8_6d09) sine_3 sine_4 sine_5 (unfold horner in sym sine_6)
+-- ---- of n lanes, as the code has them
+abbrev sines : ℕ → List Float → List Float
+sines n r =
+    let z = zip2 (mul binary64) r r in
+    let a = steps n z (replicate n (of_bits binary64 0x3de6_1246_13a8_6d09)) (neg (of_bits binary64 0x3e5a_e645_67f5_44e4)) in
+    let b = steps n z a (of_bits binary64 0x3ec7_1de3_a556_c734) in
+    let c = steps n z b (neg (of_bits binary64 0x3f2a_01a0_1a01_a01a)) in
+    let d = steps n z c (of_bits binary64 0x3f81_1111_1111_1111) in
+    let e = steps n z d (neg (of_bits binary64 0x3fc5_5555_5555_5555)) in
+    zip2 (mul binary64) r (steps n z e (of_bits binary64 0x3ff0_0000_0000_0000))
 
-pub cosine_first : (z : Float) → step z (step z (step z (neg (of_bits binary64 0x3da9_3974_a8c0_7c9d)) (of_bits binary64 0x3e21_eed8_eff8_d898)) (neg (of_bits binary64 0x3e92_7e4f_b778_9f5c))) (of_bits binary64 0x3efa_01a0_1a01_a01a) ≡ horner cosine_coefficient 3 4 z
-cosine_first z = horner_3 cosine_coefficient 0 4 z (neg (of_bits binary64 0x3da9_3974_a8c0_7c9d)) cosine_4 cosine_5 cosine_6 (unfold horner in sym cosine_7)
+abbrev cosines : ℕ → List Float → List Float
+cosines n r =
+    let z = zip2 (mul binary64) r r in
+    let a = steps n z (replicate n (neg (of_bits binary64 0x3da9_3974_a8c0_7c9d))) (of_bits binary64 0x3e21_eed8_eff8_d898) in
+    let b = steps n z a (neg (of_bits binary64 0x3e92_7e4f_b778_9f5c)) in
+    let c = steps n z b (of_bits binary64 0x3efa_01a0_1a01_a01a) in
+    let d = steps n z c (neg (of_bits binary64 0x3f56_c16c_16c1_6c17)) in
+    let e = steps n z d (of_bits binary64 0x3fa5_5555_5555_5555) in
+    let f = steps n z e (neg (of_bits binary64 0x3fe0_0000_0000_0000)) in
+    steps n z f (of_bits binary64 0x3ff0_0000_0000_0000)
 
-pub sine_last : (r begun : Float) → begun ≡ sine_begun r
-    → mul binary64 r (step (mul binary64 r r) (step (mul binary64 r r) (step (mul binary64 r r) begun (of_bits binary64 0x3f81_1111_1111_1111)) (neg (of_bits binary64 0x3fc5_5555_5555_5555))) (of_bits binary64 0x3ff0_0000_0000_0000)) ≡ sine_sum r
-unfolding sine_sum sine_begun
-sine_last r begun e = ap (mul binary64 r) (horner_3 sine_coefficient 3 0 (mul binary64 r r) begun sine_0 sine_1 sine_2 e)
+pub sines_are : (n : ℕ) (r : List Float) → length r ≡ n → sines n r ≡ map sine_sum r
+unfolding sine_sum horner
+sines_are zero [] l = refl
+sines_are zero (x ∷ r) l = absurd (omega arith)
+sines_are (suc n) [] l = absurd (omega arith)
+sines_are (suc n) (x ∷ r) l =
+    let z = mul binary64 x x in
+    λ i. mul binary64 x (step z (step z (step z (step z (step z (step z (sym sine_6 i) (sym sine_5 i)) (sym sine_4 i)) (sym sine_3 i)) (sym sine_2 i)) (sym sine_1 i)) (sym sine_0 i)) ∷ sines_are n r (omega arith) i
 
-pub cosine_last : (r begun : Float) → begun ≡ cosine_begun r
-    → step (mul binary64 r r) (step (mul binary64 r r) (step (mul binary64 r r) (step (mul binary64 r r) begun (neg (of_bits binary64 0x3f56_c16c_16c1_6c17))) (of_bits binary64 0x3fa5_5555_5555_5555)) (neg (of_bits binary64 0x3fe0_0000_0000_0000))) (of_bits binary64 0x3ff0_0000_0000_0000) ≡ cosine_sum r
-unfolding cosine_sum cosine_begun
-cosine_last r begun e = λ i. unfold horner in step (mul binary64 r r) (horner_3 cosine_coefficient 3 1 (mul binary64 r r) begun cosine_1 cosine_2 cosine_3 e i) (sym cosine_0 i)
+pub cosines_are : (n : ℕ) (r : List Float) → length r ≡ n → cosines n r ≡ map cosine_sum r
+unfolding cosine_sum horner
+cosines_are zero [] l = refl
+cosines_are zero (x ∷ r) l = absurd (omega arith)
+cosines_are (suc n) [] l = absurd (omega arith)
+cosines_are (suc n) (x ∷ r) l =
+    let z = mul binary64 x x in
+    λ i. step z (step z (step z (step z (step z (step z (step z (sym cosine_7 i) (sym cosine_6 i)) (sym cosine_5 i)) (sym cosine_4 i)) (sym cosine_3 i)) (sym cosine_2 i)) (sym cosine_1 i)) (sym cosine_0 i) ∷ cosines_are n r (omega arith) i

@@ -1,14 +1,14 @@
--- A phase less two quarters of a turn, but one for each limit above it, is the phase reduced.
-use Rattle.std.proofs.Common.{◌≡◌, ℕ, ◌+◌, ◌-◌, ◌%◌, Bool, true, false, cond, T, sym, refl, ap, ◌∙◌, subst}
-use Rattle.std.proofs.lemmas.Float.{lt_trans}
+-- A phase less two quarters of a turn, but one for each limit above it, is what is left of the phase.
+use Rattle.std.proofs.Common.{◌≡◌, ℕ, zero, suc, ◌+◌, true, T, List, [], ◌∷◌, map, length, replicate, sym, refl, ap, ◌∙◌, arith}
 use lib.IntN.{pos}
-use lib.Ieee.{Float, fin, binary64, of_bits, of_int, fits, add, sub, mul, div, neg, lt}
+use lib.Lanes.{Each1, zip2}
+use lib.Ieee.{Float, fin, binary64, of_bits, of_int, fits, add, sub, mul, div, neg}
 use Rattle.float_rounding.proofs.More.{sub_is}
 use Rattle.float_remainder.proofs.Itself.{plus_minus_zero}
-use Rattle.math.specs.declared.Reduced.{Reduced}
 use Rattle.math.specs.Phase.{pi}
-use Rattle.math.specs.Carrier.{half_pi, outer_limit, inner_limit, reduced}
+use Rattle.math.specs.Carrier.{half_pi, reduced}
 use Rattle.block_rotate.specs.BlockModel.{bit, limits_above}
+use Rattle.block_rotate.proofs.Quarters.{by_tests, row_of}
 
 -- what is taken off, by the number of limits
 abbrev off : ℕ → Float
@@ -34,28 +34,29 @@ none : neg (off 0) ≡ neg pi
 unfolding pi of_bits of_int sub mul neg
 none = refl
 
-abbrev turned_by : Float → ℕ → Reduced
-turned_by p n = record { r = sub binary64 p (off n); q = (6 - n) % 4 }
+reduced_is : (p : Float) → T (fits binary64 p) → sub binary64 p (off (limits_above p)) ≡ (reduced p).r
+unfolding limits_above reduced bit
+reduced_is p F =
+    by_tests (λ a b c d. sub binary64 p (off (bit a + bit b + bit c + bit d)) ≡ (row_of p a b c d).r)
+    (sub_is p (off 4) ∙ ap (add binary64 p) four)
+    (sub_is p (off 3) ∙ ap (add binary64 p) three)
+    (sub_is p (off 2) ∙ ap (add binary64 p) two ∙ plus_minus_zero binary64 p F)
+    (sub_is p (off 1) ∙ ap (add binary64 p) one ∙ sym (sub_is p half_pi))
+    (sub_is p (off 0) ∙ ap (add binary64 p) none ∙ sym (sub_is p pi))
+    p
 
-by_tests : (p : Float) → T (fits binary64 p) → (a b c d : Bool) → (T a → T b) → (T b → T c) → (T c → T d)
-    → turned_by p (bit a + bit b + bit c + bit d) ≡ cond a (record { r = add binary64 p pi; q = 2 }) (cond b (record { r = add binary64 p half_pi; q = 3 }) (cond c (record { r = p; q = 0 }) (cond d (record { r = sub binary64 p half_pi; q = 1 }) (record { r = sub binary64 p pi; q = 2 }))))
-unfolding bit
-by_tests p F true true true true f g h = λ i. record { r = (sub_is p (off 4) ∙ ap (add binary64 p) four) i; q = 2 }
-by_tests p F false true true true f g h = λ i. record { r = (sub_is p (off 3) ∙ ap (add binary64 p) three) i; q = 3 }
-by_tests p F false false true true f g h = λ i. record { r = (sub_is p (off 2) ∙ ap (add binary64 p) two ∙ plus_minus_zero binary64 p F) i; q = 0 }
-by_tests p F false false false true f g h = λ i. record { r = (sub_is p (off 1) ∙ ap (add binary64 p) one ∙ sym (sub_is p half_pi)) i; q = 1 }
-by_tests p F false false false false f g h = λ i. record { r = (sub_is p (off 0) ∙ ap (add binary64 p) none ∙ sym (sub_is p pi)) i; q = 2 }
-by_tests p F true false c d f g h = absurd (f tt)
-by_tests p F a true false d f g h = absurd (g tt)
-by_tests p F a b true false f g h = absurd (h tt)
+-- ---- m phases at once, as the code has them: x are their numbers of limits as floats
+abbrev rests : ℕ → List Float → List Float → List Float
+rests m p x = zip2 (sub binary64) p (zip2 (mul binary64) (zip2 (sub binary64) (replicate m (of_bits binary64 0x4000_0000_0000_0000)) x) (replicate m (of_bits binary64 0x3ff9_21fb_5444_2d18)))
 
-pub reduced_is : (p : Float) → fits binary64 p ≡ true → (n : ℕ) → n ≡ limits_above p → (x : Float) → x ≡ of_int binary64 (pos n)
-    → ◌≡◌ {A = Reduced} (record { r = sub binary64 p (mul binary64 (sub binary64 (of_bits binary64 0x4000_0000_0000_0000) x) (of_bits binary64 0x3ff9_21fb_5444_2d18)); q = (6 - n) % 4 }) (reduced p)
-unfolding limits_above reduced
-reduced_is p F n e x w =
-    (λ i. record { r = sub binary64 p (mul binary64 (sub binary64 (of_bits binary64 0x4000_0000_0000_0000) (w i)) (of_bits binary64 0x3ff9_21fb_5444_2d18)); q = (6 - n) % 4 })
-    ∙ ap (turned_by p) e
-    ∙ by_tests p (subst T (sym F) tt) (lt p (neg outer_limit)) (lt p (neg inner_limit)) (lt p inner_limit) (lt p outer_limit)
-    (λ t. lt_trans p (neg outer_limit) (neg inner_limit) t (unfold outer_limit inner_limit half_pi pi mul div of_bits neg lt in tt))
-    (λ t. lt_trans p (neg inner_limit) inner_limit t (unfold inner_limit half_pi pi mul div of_bits neg lt in tt))
-    (λ t. lt_trans p inner_limit outer_limit t (unfold outer_limit inner_limit half_pi pi mul div of_bits lt in tt))
+abbrev floats : List ℕ → List Float
+floats n = map (λ k. of_int binary64 (pos k)) n
+
+lanes : (m : ℕ) (p : List Float) → length p ≡ m → Each1 (λ x. T (fits binary64 x)) p → rests m p (floats (map limits_above p)) ≡ map (λ x. (reduced x).r) p
+lanes zero [] l F = refl
+lanes zero (x ∷ p) l F = absurd (omega arith)
+lanes (suc m) [] l F = absurd (omega arith)
+lanes (suc m) (x ∷ p) l F = λ i. reduced_is x F.0 i ∷ lanes m p (omega arith) F.1 i
+
+pub reduced_are : (m : ℕ) (p : List Float) → length p ≡ m → Each1 (λ x. T (fits binary64 x)) p → {n : List ℕ} {x : List Float} → n ≡ map limits_above p → x ≡ floats n → rests m p x ≡ map (λ x. (reduced x).r) p
+reduced_are m p l F e w = ap (rests m p) (w ∙ ap floats e) ∙ lanes m p l F

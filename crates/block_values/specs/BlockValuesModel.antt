@@ -2,12 +2,17 @@
 use Rattle.std.specs.Prelude.{ℕ, ◌+◌, ◌*◌, ◌<◌, ◌≡◌, Bool, true, false, cond, ◌&&◌, List, pos, from_bits, nat_lt, length, slice_index_or, Float}
 use Rattle.std.specs.Float.{nan, binary32, binary64}
 use Rattle.std.specs.Float.Ieee.{of_int, add, sub, mul, lt, le}
+use Rattle.std.specs.Simd.Lanes.{Each1}
 use Rattle.filterbank.specs.Taps.{scaled, branch_of, tau_of, filter_taps}
 use Rattle.filterbank.specs.PaddedPulsesModel.{padded_sum}
 
 -- from 0.0 to below 1.0
 abbrev pub in_unit : Float → Bool
 in_unit x = le (from_bits binary64 0) x && lt x (from_bits binary64 0x3ff0_0000_0000_0000)
+
+-- each of a row
+abbrev pub EachInUnit : List Float → Type 0
+EachInUnit row = Each1 (λ x. in_unit x ≡ true) row
 
 abbrev pub InUnit : List Float → ℕ → Type 0
 InUnit phases n = (k : ℕ) → k < n → in_unit (slice_index_or phases k nan) ≡ true

@@ -8,22 +8,34 @@ ghost use Rattle.constants.specs.Setting.{per_pulse};
 ghost use Rattle.constants.specs.Rate.{branches, prototype_length};
 ghost use Rattle.filterbank.specs.Taps.{one};
 ghost use Rattle.block_values.specs.BlockValues.{values_at, values_left};
-ghost use Rattle.block_values.specs.BlockValuesModel.{in_unit, InUnit, Placed, EachPlaced, Found, OneIndex, tap_at, last_tap_at, plus_where, lane, value_in};
+ghost use Rattle.block_values.specs.BlockValuesModel.{in_unit, InUnit, EachInUnit, Placed, EachPlaced, Found, OneIndex, tap_at, last_tap_at, plus_where, lane, value_in};
 
 use block_clocks::Block;
 use constants::SamplesPerPulse;
 use filterbank_apply::PADDED_LEN;
 use float_narrow::BLOCK;
+use std::simd::prelude::*;
 
 // Indices at which a sum reaches a position.
 const INDICES: usize = PADDED_LEN - 6;
+
+// Phases that the processor tests at once.
+const ROW: usize = 8;
+
+// A row's phases lie from 0.0 to below 1.0.
+fn row_in_unit(x: f64x8) -> bool
+    ensures { result ≡ true → EachInUnit x }
+{
+    (x.simd_ge(f64x8::splat(0.0)) & x.simd_lt(f64x8::splat(1.0))).all()
+}
 
 // All lie from 0.0 to below 1.0.
 fn all_in_unit(x: &[f64; BLOCK]) -> bool
     ensures { result ≡ true → InUnit x.now 32 }
 {
-    for i in 0..BLOCK {
-        if !(0.0 <= x[i] && x[i] < 1.0) {
+    let (rows, _) = x.as_chunks::<ROW>();
+    for row in rows {
+        if !row_in_unit(f64x8::from_array(*row)) {
             return false;
         }
     }
@@ -284,26 +296,28 @@ fn spots_at(at: &[usize; BLOCK], tau: &[f32; BLOCK], i: usize) -> Spots
     }
 }
 
-// Writes four values of one index.
-fn put_four(
+// A filterbank at a block: its prototype, the padded pulses that it runs over, and the branch and tau that were found at each clock.
+#[derive(Clone, Copy)]
+struct Bank<'a> {
     setting: SamplesPerPulse,
-    p: &[f32],
-    padded: &[bool; PADDED_LEN],
-    block: &Block,
-    at: &[usize; BLOCK],
-    tau: &[f32; BLOCK],
-    i: usize,
-    values: &mut [f32],
-)
-    requires bank { length p.now ≡ prototype_length (per_pulse setting) }
-    requires found { Found (per_pulse setting) block.now.phases at.now tau.now }
+    prototype: &'a [f32],
+    padded: &'a [bool; PADDED_LEN],
+    at: &'a [usize; BLOCK],
+    tau: &'a [f32; BLOCK],
+}
+
+// Writes four values of one index.
+fn put_four(b: Bank, block: &Block, i: usize, values: &mut [f32])
+    requires bank { length b.prototype.now ≡ prototype_length (per_pulse b.setting) }
+    requires found { Found (per_pulse b.setting) block.now.phases b.at.now b.tau.now }
     requires room { (i + 4 ≤ 32) × (i + 4 ≤ length values.old) }
     requires one_index { OneIndex block.now.indices i }
-    ensures { let v = value_in (per_pulse setting) p.now padded.now block.now.phases block.now.indices in
+    ensures { let v = value_in (per_pulse b.entry.setting) b.entry.prototype.now b.entry.padded.now block.now.phases block.now.indices in
         values.new ≡ slice_set (slice_set (slice_set (slice_set values.old i (v i)) (i + 1) (v (i + 1))) (i + 2) (v (i + 2))) (i + 3) (v (i + 3)) }
 {
     let index = block.indices[i];
-    let v = four_values(p, setting.branches(), padded, index, spots_at(at, tau, i));
+    let spots = spots_at(b.at, b.tau, i);
+    let v = four_values(b.prototype, b.setting.branches(), b.padded, index, spots);
     values[i] = v.v0;
     values[i + 1] = v.v1;
     values[i + 2] = v.v2;
@@ -311,53 +325,36 @@ fn put_four(
 }
 
 // Writes one value.
-fn put_one(
-    setting: SamplesPerPulse,
-    p: &[f32],
-    padded: &[bool; PADDED_LEN],
-    block: &Block,
-    at: &[usize; BLOCK],
-    tau: &[f32; BLOCK],
-    i: usize,
-    values: &mut [f32],
-)
-    requires bank { length p.now ≡ prototype_length (per_pulse setting) }
-    requires found { Found (per_pulse setting) block.now.phases at.now tau.now }
+fn put_one(b: Bank, block: &Block, i: usize, values: &mut [f32])
+    requires bank { length b.prototype.now ≡ prototype_length (per_pulse b.setting) }
+    requires found { Found (per_pulse b.setting) block.now.phases b.at.now b.tau.now }
     requires room { (i < 32) × (i < length values.old) }
-    ensures { values.new ≡ slice_set values.old i (value_in (per_pulse setting) p.now padded.now block.now.phases block.now.indices i) }
+    ensures { values.new ≡ slice_set values.old i (value_in (per_pulse b.entry.setting) b.entry.prototype.now b.entry.padded.now block.now.phases block.now.indices i) }
 {
     values[i] = one_value(
-        p,
-        setting.branches(),
-        padded,
+        b.prototype,
+        b.setting.branches(),
+        b.padded,
         block.indices[i],
-        at[i],
-        tau[i],
+        b.at[i],
+        b.tau[i],
     );
 }
 
 // By fours where there is one index and one by one else, over the branches that were found.
-fn by_fours(
-    setting: SamplesPerPulse,
-    p: &[f32],
-    padded: &[bool; PADDED_LEN],
-    block: &Block,
-    at: &[usize; BLOCK],
-    tau: &[f32; BLOCK],
-    values: &mut [f32],
-)
-    requires bank { length p.now ≡ prototype_length (per_pulse setting) }
-    requires found { Found (per_pulse setting) block.now.phases at.now tau.now }
-    ensures { values.new ≡ values_left (values_at (per_pulse setting) p.now padded.now block.now.phases block.now.indices) values.old }
+fn by_fours(b: Bank, block: &Block, values: &mut [f32])
+    requires bank { length b.prototype.now ≡ prototype_length (per_pulse b.setting) }
+    requires found { Found (per_pulse b.setting) block.now.phases b.at.now b.tau.now }
+    ensures { values.new ≡ values_left (values_at (per_pulse b.entry.setting) b.entry.prototype.now b.entry.padded.now block.now.phases block.now.indices) values.old }
 {
     let n = values.len().min(BLOCK);
     let mut i: usize = 0;
     while i < n {
         if alike(&block.indices, i, n) {
-            put_four(setting, p, padded, block, at, tau, i, values);
+            put_four(b, block, i, values);
             i += 4;
         } else {
-            put_one(setting, p, padded, block, at, tau, i, values);
+            put_one(b, block, i, values);
             i += 1;
         }
     }
@@ -397,7 +394,14 @@ pub fn fill(
         && find_places(setting, &block.phases, &mut at, &mut rest)
     {
         float_narrow::narrow_block(&rest, &mut tau);
-        by_fours(setting, p, padded, block, &at, &tau, values);
+        let bank = Bank {
+            setting,
+            prototype: p,
+            padded,
+            at: &at,
+            tau: &tau,
+        };
+        by_fours(bank, block, values);
     } else {
         by_ones(setting, p, padded, block, values);
     }

@@ -5,5 +5,7 @@ pub mod NarrowOrder
 pub mod CeilAsFloat
 pub mod Widening
 pub mod Ranges
-mod Blocks
+mod PlainBits
 pub mod Written
+mod PlainSquare
+pub mod Rows

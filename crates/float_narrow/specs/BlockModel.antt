@@ -6,8 +6,8 @@ use Rattle.std.specs.Float.{binary64, nan}
 abbrev pub IsPlain : ℕ → Type 0
 IsPlain bits = (bits % 0x8000_0000_0000_0000 ≡ 0) ⊎ ((0x3810_0000_0000_0000 ≤ bits % 0x8000_0000_0000_0000) × (bits % 0x8000_0000_0000_0000 < 0x47e0_0000_0000_0000))
 
-abbrev pub NoNaN : List Float → Type 0
-NoNaN xs = (i : ℕ) → i < 32 → T (not (is_nan (slice_index_or xs i nan)))
+abbrev pub Plain : Float → Type 0
+Plain x = T (not (is_nan x)) × IsPlain (to_bits binary64 x)
 
 abbrev pub AllPlain : List Float → Type 0
-AllPlain xs = (i : ℕ) → i < 32 → T (not (is_nan (slice_index_or xs i nan))) × IsPlain (to_bits binary64 (slice_index_or xs i nan))
+AllPlain xs = (i : ℕ) → i < 32 → Plain (slice_index_or xs i nan)

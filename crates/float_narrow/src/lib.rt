@@ -3,8 +3,11 @@
 
 ghost use Rattle.std.specs.Prelude.{◌≡◌, ◌%◌, ◌<◌, ◌≤◌, true, T, not, map, is_nan, to_bits, from_bits};
 ghost use Rattle.std.specs.Float.{binary64};
+ghost use Rattle.std.specs.Simd.Lanes.{Each1};
 ghost use Rattle.float_narrow.specs.Narrow.{narrow as narrowed};
-ghost use Rattle.float_narrow.specs.BlockModel.{NoNaN, AllPlain, IsPlain};
+ghost use Rattle.float_narrow.specs.BlockModel.{Plain, AllPlain, IsPlain};
+
+use std::simd::prelude::*;
 
 // The sign's bit, and without it the patterns of the least normal `f32` and of the first `f64` beyond the normal range.
 const SIGN: u64 = 0x8000_0000_0000_0000;
@@ -14,7 +17,7 @@ const LEAST_NORMAL: u64 = 0x3810_0000_0000_0000;
 const BEYOND_NORMAL: u64 = 0x47e0_0000_0000_0000;
 
 // The `f32` of a pattern of zero or in the normal range: rounded as a whole to its upper 35 bits it is a value that `f32` holds, so that the cast loses nothing.
-#[tactic(auto, using(crate::proofs::Blocks::rounded_plain, crate::proofs::Blocks::holds_plain, crate::proofs::Blocks::no_nan_plain), unfolding(crate::proofs::Widening::upper))]
+#[tactic(auto, using(crate::proofs::PlainBits::rounded_plain, crate::proofs::PlainBits::holds_plain, crate::proofs::PlainBits::no_nan_plain), unfolding(crate::proofs::Widening::upper))]
 fn narrow_bits(bits: u64) -> f32
     requires { IsPlain bits }
     ensures { result ≡ narrowed (from_bits binary64 bits) }
@@ -26,7 +29,7 @@ fn narrow_bits(bits: u64) -> f32
 // The same of the value.
 #[tactic(auto, using(crate::proofs::Narrowing::by_bits))]
 fn narrow_normal(x: f64) -> f32
-    requires { T (not (is_nan x)) × IsPlain (to_bits binary64 x) }
+    requires { Plain x }
     ensures { result ≡ narrowed x }
 {
     narrow_bits(f64::to_bits(x))
@@ -51,37 +54,34 @@ pub fn narrow(x: f64) -> f32
 // Values of a block.
 pub const BLOCK: usize = 32;
 
-// No value is a NaN, whose pattern is not defined.
-fn no_nan(x: &[f64; BLOCK]) -> bool
-    ensures { result ≡ true → NoNaN x.now }
+// Values of a row.
+const ROW: usize = 8;
+
+// Bounds of a square, 2^-250 and 2^250. A value below the normal range has a square of at most 2^-252, and one beyond it a square of at least 2^254, also as rounded.
+const LEAST_SQUARE: f64 = 5.527147875260445e-76;
+
+const GREATEST_SQUARE: f64 = 1.8092513943330656e75;
+
+// True only where each value of a row is zero or in the normal range. By its square, which has no sign, and is a NaN for a NaN. The processor compares several at once.
+fn row_is_plain(x: f64x8) -> bool
+    ensures { result ≡ true → Each1 Plain x }
 {
-    for v in x {
-        if *v != *v {
+    let square = x * x;
+    let large = square.simd_ge(f64x8::splat(LEAST_SQUARE)) | x.simd_eq(f64x8::splat(0.0));
+    (large & square.simd_le(f64x8::splat(GREATEST_SQUARE))).all()
+}
+
+// All values are zero or in the normal range.
+fn all_plain(x: &[f64; BLOCK]) -> bool
+    ensures { result ≡ true → AllPlain x.now }
+{
+    let (rows, _) = x.as_chunks::<ROW>();
+    for row in rows {
+        if !row_is_plain(f64x8::from_array(*row)) {
             return false;
         }
     }
     true
-}
-
-#[tactic(auto, using(crate::proofs::Blocks::plain_by_bits))]
-// Its highest bit is 0 where a pattern is of zero or in the normal range.
-fn outside(bits: u64) -> u64
-    ensures { result < 0x8000_0000_0000_0000 → IsPlain bits }
-{
-    let size = bits % SIGN;
-    (BEYOND_NORMAL - 1).wrapping_sub(size) | size.wrapping_sub(LEAST_NORMAL) & !size.wrapping_sub(1)
-}
-
-// All values are zero or in the normal range. A sum of bits and no comparison, so that the compiler takes several values at once.
-fn all_plain(x: &[f64; BLOCK]) -> bool
-    requires { NoNaN x.now }
-    ensures { result ≡ true → AllPlain x.now }
-{
-    let mut bad: u64 = 0;
-    for i in 0..BLOCK {
-        bad |= outside(f64::to_bits(x[i]));
-    }
-    bad < SIGN
 }
 
 // Each value of the normal range as `f32`.
@@ -107,7 +107,7 @@ fn narrow_each(x: &[f64; BLOCK], y: &mut [f32; BLOCK])
 pub fn narrow_block(x: &[f64; BLOCK], y: &mut [f32; BLOCK])
     ensures { y.new ≡ map narrowed x.now }
 {
-    if no_nan(x) && all_plain(x) {
+    if all_plain(x) {
         narrow_plainly(x, y);
     } else {
         narrow_each(x, y);

@@ -86,10 +86,11 @@ module _ (sps : ℕ) (prototype : List Float) (padded : List Bool) (amplitude : 
       covered : (w o m n : ℕ) → w ≡ m + n → o ≡ m → o ≤ w
       covered w o m n e h = omega arith
 
-  samples_of_block : (ts : List Tick) (cs : List Float) → samples_at amplitude (map value_of ts) (map (λ (t : Tick). t.carrier) ts ++ cs) ≡ map sample_of ts
+  -- whatever a block holds behind its ticks
+  samples_of_block : (ts : List Tick) (vs cs : List Float) → take (length ts) (samples_at amplitude (map value_of ts ++ vs) (map (λ (t : Tick). t.carrier) ts ++ cs)) ≡ map sample_of ts
   unfolding samples_at
-  samples_of_block [] cs = refl
-  samples_of_block (t ∷ ts) cs = ap (λ (l : List Sample). sample_of t ∷ l) (samples_of_block ts cs)
+  samples_of_block [] vs cs = refl
+  samples_of_block (t ∷ ts) vs cs = ap (λ (l : List Sample). sample_of t ∷ l) (samples_of_block ts vs cs)
 
   -- those of all ticks are those of the wave
   wave_of_ticks : (k limit : ℕ) (step rate : Float) (clock : Clock) (carrier : Float) → limit ≤ 246
@@ -202,16 +203,15 @@ module _ (setting : SamplesPerPulse) (prototype : List Float) (padded : List Boo
         ∙ ap (λ (vs : List Float). values_left vs before) (values_split sps prototype padded w.carrier.amplitude of_block (drop (length of_block) old.phases) (drop (length of_block) old.indices))
         ∙ left_of sps prototype padded w.carrier.amplitude (map (value_of sps prototype padded w.carrier.amplitude) of_block) (values_at sps prototype padded (drop (length of_block) old.phases) (drop (length of_block) old.indices)) before (l ∙ ap (λ (x : Ended). x.n) f.0 ∙ sym (length-map of_block (value_of sps prototype padded w.carrier.amplitude)))
 
-    pub block_added : (slot slots : ℕ) (m m' before values all : List Float) → Filled → k ≡ most - count → length m ≡ working_memory sps → slot < ring_slots sps → slots ≡ ring_slots sps → length before ≡ at.n
-        → values ≡ values_left (values_at sps prototype padded new.phases new.indices) before → m' ≡ added_reply sps m slot (samples_at w.carrier.amplitude values new.carriers)
+    pub block_added : (slot slots : ℕ) (m m' before values behind all : List Float) → Filled → k ≡ most - count → length m ≡ working_memory sps → slot < ring_slots sps → slots ≡ ring_slots sps → length before ≡ at.n
+        → values ≡ values_left (values_at sps prototype padded new.phases new.indices) before → m' ≡ added_reply sps m slot (take at.n (samples_at w.carrier.amplitude (values ++ behind) new.carriers))
         → added_from sps m slot (samples (ticks k (pace_of w) t)) ≡ all
         → added_from sps m' ((slot + at.n) % slots) (samples (ticks (most - (count + at.n)) (pace_of w) at.tick)) ≡ all
     unfolding written
-    block_added slot slots m m' before values all f e long held es l ev em h =
-        let turned : samples_at w.carrier.amplitude values new.carriers ≡ samples of_block =
-        ap (λ (vs : List Float). samples_at w.carrier.amplitude vs new.carriers) (block_values before values f l ev)
-        ∙ ap (λ (b : Block). samples_at w.carrier.amplitude (map (value_of sps prototype padded w.carrier.amplitude) of_block) b.carriers) f.1
-        ∙ samples_of_block sps prototype padded w.carrier.amplitude of_block (drop (length of_block) old.carriers) in
+    block_added slot slots m m' before values behind all f e long held es l ev em h =
+        let turned : take at.n (samples_at w.carrier.amplitude (values ++ behind) new.carriers) ≡ samples of_block =
+        (λ j. take (f.0 j).n (samples_at w.carrier.amplitude (block_values before values f l ev j ++ behind) (f.1 j).carriers))
+        ∙ samples_of_block sps prototype padded w.carrier.amplitude of_block behind (drop (length of_block) old.carriers) in
         let here : m' ≡ added_from sps m slot (samples of_block) = em ∙ ap (added_reply sps m slot) turned ∙ added_inside setting m slot (samples of_block) long held in
         let place : slot + at.n ≡ slot + length (samples of_block) = ap (λ (n : ℕ). slot + n) (ap (λ (x : Ended). x.n) f.0 ∙ sym (length-map of_block (sample_of sps prototype padded w.carrier.amplitude))) in
         (λ j. added_from sps (here j) (place j % es j) (samples (after f e j)))

@@ -80,11 +80,17 @@ impl Bank<'_> {
         let mut count: usize = 0;
         while count < most && at.tick.clock.index < w.limit {
             at = block_clocks::fill(at.tick, most - count, pace, &mut block);
-            let values = &mut values[..at.n];
-            block_values::fill(self.setting, self.prototype, self.padded, &block, values);
+            block_values::fill(
+                self.setting,
+                self.prototype,
+                self.padded,
+                &block,
+                &mut values[..at.n],
+            );
             block_rotate::add(
                 self.setting,
-                values,
+                &values,
+                at.n,
                 w.carrier.amplitude,
                 &block.carriers,
                 memory,

@@ -1,19 +1,18 @@
 -- Noise by rows: what the test of a row says, and that a row in range has no fault.
-use Rattle.std.proofs.Common.{◌≡◌, ℕ, zero, suc, ◌+◌, ◌-◌, ◌*◌, ◌%◌, ◌^◌, ◌<◌, ◌≤◌, Bool, true, false, cond, not, T, List, [], ◌∷◌, map, take, drop, length, get_or, replicate, sym, refl, ap, ◌∙◌, subst, arith, nat_eq}
-use Rattle.std.proofs.lemmas.Simd.{tops_compared, length-zip2, mask_l-mod}
+use Rattle.std.proofs.Common.{◌≡◌, ℕ, zero, suc, ◌+◌, ◌*◌, ◌%◌, ◌^◌, ◌<◌, ◌≤◌, Bool, true, false, cond, not, T, List, [], ◌∷◌, take, drop, length, get_or, replicate, sym, refl, ap, ◌∙◌, subst, arith, nat_eq}
+use Rattle.std.proofs.lemmas.Simd.{splat_is_map}
 use Rattle.std.specs.Prelude.{Option, Some, None, is_none}
 use mir.Syntax.{w32}
-use lib.Dec.{eqb}
 use borrow.Author.Tests.{eqb-true}
-use lib.Lanes.{Each1, zip2, mask_l, top}
+use lib.Lanes.{mask_l}
 use lib.ListN.{length-drop}
 use Rattle.std.proofs.lemmas.List.{drop-drop}
-use native.Mathlib.Nat.{mul-suc}
 use Rattle.std.specs.Simd.{first_chunks}
 use lib.Ieee.{Float, binary32, of_bits, le, neg}
 use Rattle.run_theory.specs.PlainBench as Bench
 use Rattle.float_narrow.specs.Range.{within}
 use Rattle.float_narrow.proofs.Ranges.{within_low}
+use Rattle.float_narrow.proofs.Rows.{as_map, compared, tests, compared_of_maps, all_of_mask, each_with, first_chunk}
 use Rattle.run_generator.specs.Instance.{out_of_range}
 use Rattle.run_call_checks.specs.NoiseModel.{out_of_range_from, noise_fault_read}
 use Rattle.run_call_checks.specs.RowsModel.{AllWithin}
@@ -26,43 +25,14 @@ abbrev pub limit : Float
 limit = of_bits binary32 0x4280_0000
 
 -- ---- a row's test
-abbrev AllTrue : List Bool → Type 0
-AllTrue ms = Each1 (λ (b : Bool). b ≡ true) ms
-
--- the number of n lanes that are set
-full : ℕ → ℕ
-full zero = 0
-full (suc n) = 1 + 2 * full n
-
-all_ones : (ms : List Bool) → mask_l ms ≡ full (length ms) → AllTrue ms
-unfolding full
-all_ones [] e = tt
-all_ones (true ∷ ms) e = (refl, all_ones ms (omega arith))
-all_ones (false ∷ ms) e = absurd (omega arith)
-
-each_within : (n : ℕ) (row : List Float) → length row ≡ n → AllTrue (zip2 le row (replicate n limit)) → AllTrue (zip2 le (replicate n (neg limit)) row) → AllWithin row
-each_within n [] e high low = tt
-each_within zero (x ∷ row) e high low = absurd (omega arith)
-each_within (suc n) (x ∷ row) e high low = (subst T (sym (sym (within_low x limit high.0) ∙ low.0)) tt, each_within n row (omega arith) high.1 low.1)
-
-abbrev pub set_where : (Float → Float → Bool) → List Float → List Float → ℕ
-set_where t xs ys = mask_l (map (top 31) (zip2 (λ (a b : Float). cond (t a b) (2 ^ 32 - 1) 0) xs ys)) % 2 ^ 64
-
--- the test's number has a 1 for each lane
-ones_set : (xs ys : List Float) → length xs ≡ 8 → length ys ≡ 8 → set_where le xs ys ≡ 255 → AllTrue (zip2 le xs ys)
-unfolding full
-ones_set xs ys lx ly e =
-    let l : length (zip2 le xs ys) ≡ 8 = length-zip2 le xs ys (lx ∙ sym ly) ∙ lx in
-    all_ones (zip2 le xs ys) (sym (ap (λ (ms : List Bool). mask_l ms % 2 ^ 64) (tops_compared w32 le xs ys) ∙ mask_l-mod (zip2 le xs ys) 64 (omega (arith, l))) ∙ e ∙ ap full (sym l))
-
-pub row_within : (row : List Float) → length row ≡ 8 → set_where le row (replicate 8 limit) ≡ 255 → nat_eq (set_where le (replicate 8 (neg limit)) row) 255 ≡ true → AllWithin row
-row_within row l high low = each_within 8 row l (ones_set row (replicate 8 limit) l refl high) (ones_set (replicate 8 (neg limit)) row refl l (eqb-true _ _ low))
-
--- ---- rows of a list
-first_chunk : (n k i : ℕ) (xs : List Float) → i < k → get_or (first_chunks n k xs) i [] ≡ take n (drop (n * i) xs)
-first_chunk n zero i xs h = absurd (omega arith)
-first_chunk n (suc k) zero xs h = ap (λ (m : ℕ). take n (drop m xs)) {x = 0} {y = n * 0} (omega arith)
-first_chunk n (suc k) (suc i) xs h = first_chunk n k i (drop n xs) (omega arith) ∙ ap (take n) (drop-drop (n * i) n xs ∙ ap (λ (m : ℕ). drop m xs) {x = n + n * i} {y = n * suc i} (omega (arith, mul-suc n i)))
+pub row_within : (row : List Float) → length row ≡ 8 → mask_l (tests w32 (compared w32 le row (replicate 8 limit))) % 2 ^ 64 ≡ 255 → nat_eq (mask_l (tests w32 (compared w32 le (replicate 8 (neg limit)) row)) % 2 ^ 64) 255 ≡ true → AllWithin row
+row_within row l high low =
+    each_with (λ x. le x limit ≡ true) (λ x. le (neg limit) x ≡ true) (λ x. T (within x limit)) both row
+    (all_of_mask (λ x. le x limit) w32 row l (compared_of_maps w32 le (λ x. x) (λ _. limit) row (as_map row) (splat_is_map row 8 limit l)) high)
+    (all_of_mask (λ x. le (neg limit) x) w32 row l (compared_of_maps w32 le (λ _. neg limit) (λ x. x) row (splat_is_map row 8 (neg limit) l) (as_map row)) (eqb-true _ _ low))
+  where
+    both : (x : Float) → le x limit ≡ true → le (neg limit) x ≡ true → T (within x limit)
+    both x h k = subst T (sym (sym (within_low x limit h) ∙ k)) tt
 
 -- ---- a row in range has no fault
 skipped : (n : ℕ) (xs : List Float) (k : ℕ) → n ≤ length xs → AllWithin (take n xs) → out_of_range_from k xs ≡ out_of_range_from (k + n) (drop n xs)

@@ -19,9 +19,9 @@ use Rattle.run_call_model.proofs.FlatLists.{behind, length_overwritten}
 use Rattle.reply_samples.specs.declared.Sample.{Sample}
 use Rattle.reply_samples.specs.RingModel.{added_at, next_slot, added_from, added_reply}
 use Rattle.reply_samples.proofs.AtSlot.{next_on, added_here}
-use Rattle.single_add.specs.Stretch.{laid, numbers_of, added_to, first_reached, passed_over, with_reply}
+use Rattle.single_add.specs.Stretch.{scaled_noise, numbers_of, added_to, first_reached, passed_over, with_reply}
 use Rattle.single_add.specs.StretchModel.{memory_with, windowed, added_window, stretch_of}
-use Rattle.single_add.proofs.Loops.{laid_length}
+use Rattle.single_add.proofs.Loops.{scaled_length}
 
 -- ---- numbers added to others
 added_none : (xs : List Float) → added_to xs [] ≡ xs
@@ -205,17 +205,17 @@ module _ (sps : ℕ) (S : 0 < ring_slots sps) (start : ℤ) (zs : List Sample) (
     ]
   ]
 
--- ---- noise laid, and the reply added
+-- ---- noise, and the reply added
 module _ (sps : ℕ) (S : 0 < ring_slots sps) (start : ℤ) (zs : List Sample) (noise output : List Float) (same : length noise ≡ length output) (even : (k : ℕ) × (length output ≡ 2 * k)) where
-  laid_then : stretch_of sps start zs noise output ≡ added_window sps start zs (laid noise)
+  scaled_then : stretch_of sps start zs noise output ≡ added_window sps start zs (scaled_noise noise)
   unfolding stretch_of
-  laid_then = ap (λ (b : Bool). cond b (added_window sps start zs (laid noise)) output) (eq-eqb (length noise) (length output) same)
+  scaled_then = ap (λ (b : Bool). cond b (added_window sps start zs (scaled_noise noise)) output) (eq-eqb (length noise) (length output) same)
 
-  evened : (k : ℕ) × (length (laid noise) ≡ 2 * k)
-  evened = (even.0, laid_length noise ∙ same ∙ even.1)
+  evened : (k : ℕ) × (length (scaled_noise noise) ≡ 2 * k)
+  evened = (even.0, scaled_length noise ∙ same ∙ even.1)
 
-  pub stretch_is : length zs ≤ ring_slots sps → stretch_of sps start zs noise output ≡ with_reply start zs (laid noise)
-  stretch_is few = laid_then ∙ window_is sps S start zs (laid noise) evened few
+  pub stretch_is : length zs ≤ ring_slots sps → stretch_of sps start zs noise output ≡ with_reply start zs (scaled_noise noise)
+  stretch_is few = scaled_then ∙ window_is sps S start zs (scaled_noise noise) evened few
 
-  pub stretch_past : length output ≤ 2 * first_reached start → stretch_of sps start zs noise output ≡ with_reply start zs (laid noise)
-  stretch_past h = laid_then ∙ window_past sps S start zs (laid noise) evened (omega (arith, laid_length noise, same))
+  pub stretch_past : length output ≤ 2 * first_reached start → stretch_of sps start zs noise output ≡ with_reply start zs (scaled_noise noise)
+  stretch_past h = scaled_then ∙ window_past sps S start zs (scaled_noise noise) evened (omega (arith, scaled_length noise, same))

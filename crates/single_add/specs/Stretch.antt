@@ -1,14 +1,14 @@
--- The samples of one reply alone (SPECIFICATION 14.3), as numbers, two for each sample, real part before imaginary: noise is laid first, and the reply added after, trimmed at both ends.
+-- The samples of one reply alone (SPECIFICATION 14.3), as numbers, two for each sample, real part before imaginary: the noise first, and the reply added to it, trimmed at both ends.
 use Rattle.std.specs.Prelude.{ℕ, suc, ◌*◌, List, [], ◌∷◌, ◌++◌, ℤ, pos, negsuc, take, drop, Float}
 use Rattle.std.specs.Float.{binary32}
 use Rattle.std.specs.Float.Ieee.{add, mul}
 use Rattle.run_theory.specs.FloatGenerator.{noise_scale}
 use Rattle.reply_samples.specs.declared.Sample.{Sample}
 
--- noise as it is laid: each value times 2^-10
-unfoldable pub laid : List Float → List Float
-laid [] = []
-laid (v ∷ vs) = mul binary32 v noise_scale ∷ laid vs
+-- noise as it is written: each value times 2^-10
+unfoldable pub scaled_noise : List Float → List Float
+scaled_noise [] = []
+scaled_noise (v ∷ vs) = mul binary32 v noise_scale ∷ scaled_noise vs
 
 -- a reply's samples as numbers
 unfoldable pub numbers_of : List Sample → List Float

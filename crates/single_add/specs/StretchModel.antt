@@ -5,7 +5,7 @@ use Rattle.run_theory.specs.Zeros.{zeros}
 use Rattle.le_read.specs.LeBytes.{overwritten}
 use Rattle.reply_samples.specs.declared.Sample.{Sample}
 use Rattle.reply_samples.specs.RingModel.{added_reply}
-use Rattle.single_add.specs.Stretch.{laid, first_reached, passed_over}
+use Rattle.single_add.specs.Stretch.{scaled_noise, first_reached, passed_over}
 
 -- the numbers that both the output, from an offset on, and working memory, past others, hold
 abbrev pub reached : ℕ → ℕ → ℕ → List Float → ℕ
@@ -24,6 +24,6 @@ unfoldable pub added_window : ℕ → ℤ → List Sample → List Float → Lis
 added_window sps start zs xs =
     cond (ltb (first_reached start) (length xs / 2) && leb (passed_over start) (ring_slots sps)) (windowed sps (2 * first_reached start) (2 * passed_over start) zs xs) xs
 
--- noise laid and the reply added; noise of another length leaves the output
+-- noise and the reply added; noise of another length leaves the output
 unfoldable pub stretch_of : ℕ → ℤ → List Sample → List Float → List Float → List Float
-stretch_of sps start zs noise output = cond (eqb (length noise) (length output)) (added_window sps start zs (laid noise)) output
+stretch_of sps start zs noise output = cond (eqb (length noise) (length output)) (added_window sps start zs (scaled_noise noise)) output

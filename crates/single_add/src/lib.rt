@@ -1,4 +1,4 @@
-// The samples of one reply alone: noise laid, and the reply added to it, trimmed at both ends.
+// The samples of one reply alone: noise, and the reply added to it, trimmed at both ends.
 #![tactic(auto)]
 
 ghost use Rattle.std.specs.Prelude.{◌≡◌, ◌≤◌, ◌<◌, ◌^◌, length};
@@ -7,17 +7,17 @@ ghost use Rattle.constants.specs.Setting.{per_pulse};
 ghost use Rattle.message_config.specs.Config.{config_start};
 ghost use Rattle.reply_add.specs.Signal.{samples_of};
 ghost use Rattle.run_theory.specs.Zeros.{zeros};
-ghost use Rattle.single_add.specs.Stretch.{laid, first_reached, passed_over};
+ghost use Rattle.single_add.specs.Stretch.{scaled_noise, first_reached, passed_over};
 ghost use Rattle.single_add.specs.StretchModel.{windowed, added_window, stretch_of};
 
 use constants::{MAX_MEMORY_LEN, NOISE_SCALE};
 use reply_add::ReplySignal;
 
 // Writes noise over the output, scaled.
-#[tactic(auto, unfolding(crate::specs::Stretch::laid))]
-fn lay(noise: &[f32], output: &mut [f32])
+#[tactic(auto, unfolding(crate::specs::Stretch::scaled_noise))]
+fn write_noise(noise: &[f32], output: &mut [f32])
     requires { length noise.now ≡ length output.old }
-    ensures { output.new ≡ laid noise.now }
+    ensures { output.new ≡ scaled_noise noise.now }
 {
     for i in 0..output.len() {
         output[i] = noise[i] * NOISE_SCALE;
@@ -67,13 +67,13 @@ fn add(r: ReplySignal, output: &mut [f32])
     }
 }
 
-// Lays noise over the output and adds a reply's samples from its start on. Noise of another length than the output leaves it.
+// Writes noise over the output and adds a reply's samples from its start on. Noise of another length than the output leaves it.
 #[tactic(auto, unfolding(crate::specs::StretchModel::stretch_of))]
 pub fn stretch(r: ReplySignal, noise: &[f32], output: &mut [f32])
     ensures { output.new ≡ stretch_of (per_pulse r.entry.setting) (config_start r.entry.delays r.entry.config) (samples_of r.entry) noise.now output.old }
 {
     if noise.len() == output.len() {
-        lay(noise, output);
+        write_noise(noise, output);
         add(r, output);
     }
 }

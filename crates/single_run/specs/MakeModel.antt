@@ -9,7 +9,7 @@ use Rattle.run_theory.specs.FloatGenerator.{nought}
 use Rattle.run_call.specs.declared.State.{State}
 use Rattle.single_add.specs.StretchModel.{stretch_of}
 
--- the reply of the draw at the start of the bytes, laid and added by the prototypes of a run that is opened
+-- the reply of the draw at the start of the bytes, written and added by the prototypes of a run that is opened
 abbrev pub made_by : State → List Float → List Float → List ℕ → List Float → List Float → List Float
 made_by state mode_s mode_ac draw noise output =
     let d = draw_at draw in

@@ -26,7 +26,7 @@ use Rattle.run_theory.specs.FloatGenerator.{nought, noise_scale}
 use Rattle.run_theory.proofs.StepFacts.{reply_start}
 use Rattle.run_call_model.proofs.FlatLists.{length_pairs, flatten_pairs}
 use Rattle.run_generator.specs.Instance.{pair_of, Filters, pulse_samples, instance_of}
-use Rattle.single_add.specs.Stretch.{laid, numbers_of, added_to, first_reached, passed_over, with_reply}
+use Rattle.single_add.specs.Stretch.{scaled_noise, numbers_of, added_to, first_reached, passed_over, with_reply}
 use Rattle.single_theory.specs.Single.{single_samples}
 use Rattle.single_theorem.specs.Agreement.{minus_zero, Agreement}
 use Rattle.single_theorem.proofs.Zeros.{zero_plus, either_way}
@@ -83,15 +83,15 @@ module _ (f : Filters) (total : ℕ) where
 
   module _ (r : Reply G) (zs : List Sample) (is : r.values ≡ map pair_of zs) (H : Each Held zs) where
     abbrev Quiet : List (Pair Float) → Type 0
-    Quiet vs = Each (λ (x : Float). x ≢ minus_zero) (laid (flatten vs))
+    Quiet vs = Each (λ (x : Float). x ≢ minus_zero) (scaled_noise (flatten vs))
 
     -- from the start on
-    after : (vs : List (Pair Float)) (j : ℕ) → Quiet vs → flatten (samples_from G (r ∷ []) (r.first + j) vs) ≡ added_to (laid (flatten vs)) (drop (2 * j) (numbers_of zs))
-    unfolding laid added_to
+    after : (vs : List (Pair Float)) (j : ℕ) → Quiet vs → flatten (samples_from G (r ∷ []) (r.first + j) vs) ≡ added_to (scaled_noise (flatten vs)) (drop (2 * j) (numbers_of zs))
+    unfolding scaled_noise added_to
     after [] j q = refl
     after (v ∷ vs) j q =
         (λ i. add binary32 (at i).re (scaled v.re) ∷ add binary32 (at i).im (scaled v.im) ∷ (ap (λ (m : ℕ). flatten (samples_from G (r ∷ []) m vs)) (next r.first j) ∙ after vs (suc j) q.1.1) i)
-        ∙ one_added zs j v (laid (flatten vs)) H q.0 q.1.0
+        ∙ one_added zs j v (scaled_noise (flatten vs)) H q.0 q.1.0
       where
         next : (s j : ℕ) → suc (s + j) ≡ s + suc j
         next s j = omega arith
@@ -109,8 +109,8 @@ module _ (f : Filters) (total : ℕ) where
 
     -- before it
     before : (k : ℕ) (vs : List (Pair Float)) (m : ℕ) → m + k ≡ r.first → Quiet vs
-        → flatten (samples_from G (r ∷ []) m vs) ≡ take (2 * k) (laid (flatten vs)) ++ added_to (drop (2 * k) (laid (flatten vs))) (numbers_of zs)
-    unfolding laid added_to
+        → flatten (samples_from G (r ∷ []) m vs) ≡ take (2 * k) (scaled_noise (flatten vs)) ++ added_to (drop (2 * k) (scaled_noise (flatten vs))) (numbers_of zs)
+    unfolding scaled_noise added_to
     before zero vs m e q = ap (λ (n : ℕ). flatten (samples_from G (r ∷ []) n vs)) (here m r.first e) ∙ after vs 0 q
       where
         here : (m s : ℕ) → m + 0 ≡ s → m ≡ s + 0
@@ -120,7 +120,7 @@ module _ (f : Filters) (total : ℕ) where
         (λ i. (ap (λ (a : Pair Float). add binary32 a.re (scaled v.re)) still ∙ zero_plus (scaled v.re) (mul-fits binary32 v.re noise_scale) q.0) i
         ∷ (ap (λ (a : Pair Float). add binary32 a.im (scaled v.im)) still ∙ zero_plus (scaled v.im) (mul-fits binary32 v.im noise_scale) q.1.0) i
         ∷ before k vs (suc m) (next m k r.first e) q.1.1 i)
-        ∙ sym (ap (λ (n : ℕ). take n (scaled v.re ∷ scaled v.im ∷ laid (flatten vs)) ++ added_to (drop n (scaled v.re ∷ scaled v.im ∷ laid (flatten vs))) (numbers_of zs)) (two_more k))
+        ∙ sym (ap (λ (n : ℕ). take n (scaled v.re ∷ scaled v.im ∷ scaled_noise (flatten vs)) ++ added_to (drop n (scaled v.re ∷ scaled v.im ∷ scaled_noise (flatten vs))) (numbers_of zs)) (two_more k))
       where
         next : (m k s : ℕ) → m + suc k ≡ s → suc m + k ≡ s
         next m k s e = omega arith
@@ -148,9 +148,9 @@ agreement f total d rest s n noise k ends l h q =
     let one : replies (instance_of f total) nought (d ∷ rest) ≡ r ∷ [] = ap (λ (x : Kind). push (instance_of f total) x t d (replies (instance_of f total) t rest)) k ∙ ap (λ (x : List (Reply (instance_of f total))). r ∷ x) ends in
     let whole : take total (pairs noise) ≡ pairs noise = take_all total (pairs noise) (few (length (pairs noise)) total n (length_pairs noise) l h) in
     let even : flatten (pairs noise) ≡ noise = flatten_pairs n noise l in
-    ap (λ (z : ℤ). with_reply z zs (laid noise)) start
-    ∙ ap (λ (x : List Float). take (2 * s) (laid x) ++ added_to (drop (2 * s) (laid x)) (numbers_of zs)) (sym even)
-    ∙ sym (before f total r zs refl (samples_held (pulse_samples f) f.mode_s f.mode_ac f d.draw.amplitude c) s (pairs noise) 0 (first s) (subst (λ (x : List Float). Each (λ (y : Float). y ≢ minus_zero) (laid x)) (sym even) q))
+    ap (λ (z : ℤ). with_reply z zs (scaled_noise noise)) start
+    ∙ ap (λ (x : List Float). take (2 * s) (scaled_noise x) ++ added_to (drop (2 * s) (scaled_noise x)) (numbers_of zs)) (sym even)
+    ∙ sym (before f total r zs refl (samples_held (pulse_samples f) f.mode_s f.mode_ac f d.draw.amplitude c) s (pairs noise) 0 (first s) (subst (λ (x : List Float). Each (λ (y : Float). y ≢ minus_zero) (scaled_noise x)) (sym even) q))
     ∙ sym (λ i. flatten (samples_from (instance_of f total) (one i) 0 (whole i)))
   where
     first : (s : ℕ) → 0 + s ≡ s

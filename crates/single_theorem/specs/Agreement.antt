@@ -7,7 +7,7 @@ use Rattle.run_theory.specs.PlainBench.{pairs}
 use Rattle.run_theory.specs.Demand3.{plain_output}
 use Rattle.run_theory.specs.FloatGenerator.{nought}
 use Rattle.run_generator.specs.Instance.{Filters, RepresentableDraw, instance_of}
-use Rattle.single_add.specs.Stretch.{laid}
+use Rattle.single_add.specs.Stretch.{scaled_noise}
 use Rattle.draw.specs.Config.{time_after}
 use Rattle.single_theory.specs.Single.{single_samples}
 
@@ -22,5 +22,5 @@ Agreement =
     → replies (instance_of f total) (time_after nought d.draw) rest ≡ []
     → length noise ≡ 2 * n
     → n ≤ total
-    → Each (λ (v : Float). v ≢ minus_zero) (laid noise)
+    → Each (λ (v : Float). v ≢ minus_zero) (scaled_noise noise)
     → single_samples f d.draw noise ≡ plain_output (instance_of f total) (d ∷ rest) (pairs noise)

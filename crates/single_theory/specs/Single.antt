@@ -24,14 +24,14 @@ use Rattle.run_call.specs.declared.State.{State}
 use Rattle.run_call.specs.StateGenerator.{filters_of}
 use Rattle.run_call.specs.Given.{refusal_given}
 use Rattle.run_open_checks.specs.Opening.{opened_at}
-use Rattle.single_add.specs.Stretch.{laid, with_reply}
+use Rattle.single_add.specs.Stretch.{scaled_noise, with_reply}
 
 -- ---- the samples
--- noise laid and the reply of a draw added, the draw's gap being the reply's time
+-- noise and the reply of a draw added, the draw's gap being the reply's time
 unfoldable pub single_samples : Filters → Draw → List Float → List Float
 single_samples f d noise =
     let c = config_of f.distributions (time_after nought d) d in
-    with_reply (config_start f.delays c) (reply_samples (pulse_samples f) f.mode_s f.mode_ac f.delays d.amplitude c) (laid noise)
+    with_reply (config_start f.delays c) (reply_samples (pulse_samples f) f.mode_s f.mode_ac f.delays d.amplitude c) (scaled_noise noise)
 
 -- ---- the checks
 -- the samples of the settings' duration by the formula alone, whatever its seconds and nanoseconds

@@ -1,27 +1,31 @@
--- `reduce_all` meets its contract: what is not yet reduced is capped.
-use Rattle.std.proofs.Common.{rules, get_or, ◌∙◌, ap}
-use Rattle.std.proofs.lemmas.List.{get_or-map}
-use lib.Ieee.{nan}
-use Rattle.float_narrow.proofs.Written.{not_yet, written_next, written_all}
-use Rattle.math.specs.declared.Reduced.{Reduced}
-use Rattle.math.specs.Carrier.{reduced}
-use Rattle.block_rotate.specs.BlockModel.{at_most_pi}
+-- `reduce_all` meets its contract: it writes row by row.
+use Rattle.std.proofs.Common.{Fits, w32, ◌+◌, ◌*◌, ◌≤◌, map, arith, ap, ◌∙◌}
+use Rattle.std.proofs.lemmas.List.{map-id}
+use Rattle.std.proofs.lemmas.Simd.{Each1-weaker, map-map}
+use Rattle.math.specs.Carrier.{reduced, sine_sum, cosine_sum}
+use Rattle.block_rotate.specs.BlockModel.{limits_above}
+use Rattle.float_narrow.proofs.Rows.{mapped_next, mapped_end}
+use Rattle.block_rotate.proofs.Quarters.{turns_few}
 use Rattle.block_rotate.proofs.reduce_all.Goals as goal
 
-pub reduce-a-requires : goal.reduce-a-requires
-reduce-a-requires c =
-    not_yet (λ p. (reduced p).r) c.args.phases.now _ c.loop-i.r c.loop-i.i nan c.loop-i.invariant.0 (search rules)
-    ∙ ap (λ l. get_or l c.loop-i.i nan) c.requires
-    ∙ get_or-map at_most_pi c.args.phases.now c.loop-i.i nan nan (search rules)
+pub overflow_cast-turns : goal.overflow_cast-turns
+overflow_cast-turns c = Each1-weaker (λ n. n ≤ 4) (Fits w32) (λ n h. record { fits = omega arith }) c.limits_above-n.result (turns_few _ c.limits_above-n.result c.limits_above-n.ensures)
 
-pub loop-i-preserved : goal.loop-i-preserved
-loop-i-preserved c = (
-  written_next (λ p. (reduced p).r) c.args.phases.now _ c.loop-i.r c.loop-i.i nan nan _ c.loop-i.invariant.0 (ap (λ (a : Reduced). a.r) c.reduce-a.ensures) (search rules) (search rules),
-  written_next (λ p. (reduced p).q) c.args.phases.now _ c.loop-i.q c.loop-i.i nan 0 _ c.loop-i.invariant.1 (c.from.ensures ∙ ap (λ (a : Reduced). a.q) c.reduce-a.ensures) (search rules) (search rules),
-)
+pub loop-k-preserved : goal.loop-k-preserved
+loop-k-preserved c =
+    let l = c.loop-k in
+    let p = c.args.phases.now in
+    let fits : l.k * 8 + 8 ≤ 32 = omega arith in (
+      mapped_next limits_above 8 32 p c.told-phases l.k l.turns _ l.invariant.0 fits (map-id c.limits_above-n.result ∙ c.limits_above-n.ensures),
+      mapped_next (λ p. sine_sum (reduced p).r) 8 32 p c.told-phases l.k l.s _ l.invariant.1 fits (c.sines.ensures ∙ ap (map sine_sum) c.reduce-r.ensures ∙ map-map sine_sum (λ p. (reduced p).r) _),
+      mapped_next (λ p. cosine_sum (reduced p).r) 8 32 p c.told-phases l.k l.c _ l.invariant.2 fits (c.cosines.ensures ∙ ap (map cosine_sum) c.reduce-r.ensures ∙ map-map cosine_sum (λ p. (reduced p).r) _),
+    )
 
 pub returns : goal.returns
-returns c = (
-  written_all (λ p. (reduced p).r) c.args.phases.now _ c.loop-i.r c.loop-i.i c.loop-i.invariant.0 (search rules) (search rules),
-  written_all (λ p. (reduced p).q) c.args.phases.now _ c.loop-i.q c.loop-i.i c.loop-i.invariant.1 (search rules) (search rules),
-)
+returns c =
+    let l = c.loop-k in
+    let p = c.args.phases.now in (
+      mapped_end limits_above 8 32 p c.told-phases l.k l.turns l.invariant.0 (omega arith),
+      mapped_end (λ p. sine_sum (reduced p).r) 8 32 p c.told-phases l.k l.s l.invariant.1 (omega arith),
+      mapped_end (λ p. cosine_sum (reduced p).r) 8 32 p c.told-phases l.k l.c l.invariant.2 (omega arith),
+    )

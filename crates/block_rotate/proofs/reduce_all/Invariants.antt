@@ -1,7 +1,8 @@
--- The first i phases are reduced.
-use Rattle.float_narrow.proofs.Written.{Written}
-use Rattle.math.specs.Carrier.{reduced}
+-- The first k rows are written.
+use Rattle.math.specs.Carrier.{reduced, sine_sum, cosine_sum}
+use Rattle.block_rotate.specs.BlockModel.{limits_above}
+use Rattle.float_narrow.proofs.Rows.{Mapped}
 use Rattle.block_rotate.proofs.reduce_all.Given as goal
 
-abbrev pub invariant-loop-i : goal.invariant-loop-i
-invariant-loop-i l = Written (λ p. (reduced p).r) l.phases l.initial.r l.r l.i × Written (λ p. (reduced p).q) l.phases l.initial.q l.q l.i
+abbrev pub invariant-loop-k : goal.invariant-loop-k
+invariant-loop-k l = Mapped limits_above 8 32 l.phases l.k l.turns × Mapped (λ p. sine_sum (reduced p).r) 8 32 l.phases l.k l.s × Mapped (λ p. cosine_sum (reduced p).r) 8 32 l.phases l.k l.c

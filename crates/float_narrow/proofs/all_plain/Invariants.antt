@@ -1,8 +1,8 @@
--- `all_plain` meets its contract. The loop's invariant: while no test failed, each value before is zero or in the normal range.
-use Rattle.std.proofs.Common.{ℕ, ◌<◌, slice_index_or}
-use lib.Ieee.{nan, binary64, to_bits}
-use Rattle.float_narrow.specs.BlockModel.{IsPlain}
+-- `all_plain` meets its contract. The loop's invariant: each value of the rows before is zero or in the normal range.
+use Rattle.std.proofs.Common.{ℕ, ◌*◌, ◌<◌, slice_index_or}
+use lib.Ieee.{nan}
+use Rattle.float_narrow.specs.BlockModel.{Plain}
 use Rattle.float_narrow.proofs.all_plain.Given as goal
 
-abbrev pub invariant-loop-i : goal.invariant-loop-i
-invariant-loop-i l = (l.bad < 18446744073709551616) × (l.bad < 9223372036854775808 → (k : ℕ) → k < l.i → IsPlain (to_bits binary64 (slice_index_or l.x k nan)))
+abbrev pub invariant-loop-row : goal.invariant-loop-row
+invariant-loop-row l = (i : ℕ) → i < 8 * l.row-index → Plain (slice_index_or l.x i nan)

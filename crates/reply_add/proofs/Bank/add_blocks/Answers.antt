@@ -1,6 +1,6 @@
 -- `add_blocks` meets its contract.
 use mathlib.Core.Logic.{inl, inr}
-use Rattle.std.proofs.Common.{ℕ, ◌+◌, ◌-◌, ◌*◌, arith, rules, refl, ap, ◌∙◌, length}
+use Rattle.std.proofs.Common.{ℕ, ◌+◌, ◌*◌, arith, rules, refl, ap, ◌∙◌, length}
 use Rattle.constants.specs.Setting.{per_pulse}
 use Rattle.reply_samples.specs.RingModel.{added_from}
 use Rattle.reply_samples.proofs.Ring.{reply_length_kept}
@@ -30,7 +30,7 @@ loop-count-preserved c =
       most = search rules;
       within = omega arith;
       counted = block_counted a.self.setting a.self.prototype.now a.self.padded.now a.w _ l.count _ l.at.tick _ _ _ _ c.fill-at.ensures.block refl l.invariant.counted;
-      rest = block_added a.self.setting a.self.prototype.now a.self.padded.now a.w _ l.count _ l.at.tick _ _ _ l.slot _ l.memory _ _ _ _ c.fill-at.ensures.block refl l.invariant.long l.invariant.held c.ring_slots.ensures.0 (search rules) c.fill.ensures c.add.ensures l.invariant.rest;
+      rest = block_added a.self.setting a.self.prototype.now a.self.padded.now a.w _ l.count _ l.at.tick _ _ _ l.slot _ l.memory _ _ _ _ _ c.fill-at.ensures.block refl l.invariant.long l.invariant.held c.ring_slots.ensures.0 (search rules) c.fill.ensures c.add.ensures l.invariant.rest;
     }
 
 pub returns-else-at-w-clause-memory : goal.returns-else-at-w-clause-memory
