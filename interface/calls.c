@@ -11,7 +11,8 @@
  * processor is chosen. The answers are the same bits: both do the same operations in the same order, and none is contracted.
  *
  * tools/library renames the proved functions to more1090_proved_NAME and more1090_proved_v3_NAME; ONLY_V2 leaves the second out. What
- * stands here is assumed and tried, not proved (docs/TRUST.md; hosts/c/environment.c and hosts/tries/processor.sh try it). */
+ * stands here is assumed and tried, not proved (docs/TRUST.md; hosts/c/environment.c, hosts/c/processor.c and
+ * hosts/tries/processor.sh try it). */
 #include "more1090_generator.h"
 #include <cpuid.h>
 #include <xmmintrin.h>

@@ -22,3 +22,13 @@ for per_pulse in 4 8; do
     same random --samples-per-pulse $per_pulse --trigger-level 0.3 0.02 1000000 3 samples records
     same rack --samples-per-pulse $per_pulse 0.05 40000 0:1:a 3:0.7:b 4095:0.25:c
 done
+# The one that is chosen is the one for the processor at hand, by the features that the system lists.
+wanted=x86-64-v3
+for feature in avx avx2 bmi1 bmi2 f16c fma movbe abm; do
+    if ! grep -m 1 '^flags' /proc/cpuinfo | grep -qw $feature; then wanted=x86-64-v2; fi
+done
+tried=$((tried + 1))
+if [ "$(target/hosts/c_processor)" != $wanted ]; then
+    failed=$((failed + 1))
+    echo "the library's calls reach the code for $(target/hosts/c_processor), and the processor's is $wanted"
+fi
