@@ -4,7 +4,7 @@ use Rattle.std.proofs.lemmas.List.{take_min, take-take, drop-take, length-take}
 use native.Mathlib.Nat.{sub-zero}
 use lib.Ieee.{Float, binary32, mul}
 use Rattle.constants.specs.Rate.{working_memory, ring_slots}
-use Rattle.float_narrow.specs.Narrow.{narrow}
+use Rattle.floats.specs.Narrow.{narrow}
 use Rattle.math.specs.Carrier.{reduced, sine_sum, cosine_sum, sin_cos, quadrant}
 use Rattle.reply_samples.specs.declared.Sample.{Sample}
 use Rattle.reply_samples.specs.Samples.{sample_at}

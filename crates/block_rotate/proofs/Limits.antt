@@ -7,7 +7,7 @@ use lib.Lanes.{Each1, zip2, sel_l}
 use lib.Ieee.{Float, binary64, of_bits, of_int, nan_bits, sub, neg, lt}
 use Rattle.math.proofs.Literals.{outer_limit_is, inner_limit_is}
 use Rattle.block_rotate.specs.BlockModel.{bit, limits_above}
-use Rattle.float_narrow.proofs.Rows.{as_map, compared, tests, select_of_maps}
+use Rattle.floats.proofs.Rows.{as_map, compared, tests, select_of_maps}
 
 -- ---- the limits, as the code writes them
 abbrev outer : Float

@@ -4,11 +4,11 @@ use Rattle.std.proofs.lemmas.Simd.{zip2_splat, zip2_of_maps, splat_is_map}
 use mir.Syntax.{w32}
 use lib.Lanes.{Each1, zip2, sel_l}
 use lib.Ieee.{Float, neg}
-use Rattle.float_narrow.specs.Narrow.{narrow}
-use Rattle.float_narrow.proofs.NarrowOrder.{narrow_neg}
+use Rattle.floats.specs.Narrow.{narrow}
+use Rattle.floats.proofs.NarrowOrder.{narrow_neg}
 use Rattle.math.specs.Carrier.{quadrant}
 use Rattle.block_rotate.specs.BlockModel.{quarter, zip3, turned_sine, turned_cosine}
-use Rattle.float_narrow.proofs.Rows.{compared, tests, compared_of_maps, tests_of_mask}
+use Rattle.floats.proofs.Rows.{compared, tests, compared_of_maps, tests_of_mask}
 
 -- one of two by a first test, negative by a second
 abbrev chosen : Bool → Bool → Float → Float → Float

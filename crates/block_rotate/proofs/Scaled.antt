@@ -5,7 +5,7 @@ use borrow.Rule.Slice.PartMut.{mid_of}
 use lib.Lanes.{zip2, chunk}
 use lib.Ieee.{Float, binary32, mul}
 use Rattle.block_rotate.specs.BlockModel.{zip3, scaled_by}
-use Rattle.float_narrow.proofs.Rows.{row, read_row, length_row, row_of_zip2}
+use Rattle.floats.proofs.Rows.{row, read_row, length_row, row_of_zip2}
 
 -- values times the amplitude, and then times a factor each
 in_order : (a : Float) (vs xs : List Float) → zip2 (mul binary32) (map (mul binary32 a) vs) xs ≡ scaled_by a vs xs

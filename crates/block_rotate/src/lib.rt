@@ -13,7 +13,7 @@ ghost use Rattle.block_rotate.specs.BlockSamples.{samples_at};
 ghost use Rattle.block_rotate.specs.BlockModel.{bit, limits_above, turned_sine, turned_cosine, zipped, scaled_by, added_line};
 
 use constants::SamplesPerPulse;
-use float_narrow::BLOCK;
+use floats::BLOCK;
 use math::OUTER_LIMIT;
 use std::f64::consts::{FRAC_PI_2, FRAC_PI_4};
 use std::simd::prelude::*;
@@ -164,8 +164,8 @@ fn rotate(values: &[f32; BLOCK], amplitude: f32, carriers: &[f64; BLOCK], out: &
     let mut sine = [0.0; BLOCK];
     let mut cosine = [0.0; BLOCK];
     reduce_all(carriers, &mut turns, &mut s, &mut c);
-    float_narrow::narrow_block(&s, &mut sine);
-    float_narrow::narrow_block(&c, &mut cosine);
+    floats::narrow_block(&s, &mut sine);
+    floats::narrow_block(&c, &mut cosine);
     turn_all(values, amplitude, &turns, &sine, &cosine, out);
 }
 

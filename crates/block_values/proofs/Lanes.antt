@@ -9,7 +9,7 @@ use Rattle.filterbank.specs.Taps.{one, branch_of, tau_of, branch, next_branch, b
 use Rattle.filterbank.specs.PaddedPulsesModel.{padded_sum}
 use Rattle.filterbank.proofs.Literals.{seven_taps, rolled_taps, sum_seven, sum_past}
 use Rattle.block_values.specs.BlockValuesModel.{tap_at, last_tap_at, plus_where, lane, Found, EachPlaced, value_in}
-use Rattle.float_narrow.specs.Narrow.{narrow}
+use Rattle.floats.specs.Narrow.{narrow}
 use Rattle.std.proofs.lemmas.List.{get_or-map}
 
 -- ---- a branch's number is that of a branch

@@ -1,3 +1,4 @@
+pub mod Filled
 pub mod Guess
 pub mod Lanes
 pub mod Written

@@ -1,2 +1,4 @@
+pub mod Ticks
+pub mod TicksModel
 pub mod BlockValues
 pub mod BlockValuesModel

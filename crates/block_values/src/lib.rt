@@ -1,7 +1,10 @@
-// The filterbank's values at a block of clocks. The public function is equal to definitions of specs/ on every input.
+// The filterbank's clock and the carrier's phase before each sample of a block, and the filterbank's values there. Each public function is equal to definitions of specs/ on every input.
 #![tactic(auto)]
 
-ghost use Rattle.std.specs.Prelude.{◌≡◌, ◌+◌, ◌*◌, ◌<◌, ◌≤◌, true, length, T, not, is_nan, pos, from_bits, to_bits, slice_index_or, slice_set};
+ghost use Rattle.std.specs.Prelude.{◌≡◌, ◌≤◌, ◌<◌, ◌-◌, false, min, length, ◌+◌, ◌*◌, true, T, not, is_nan, pos, from_bits, to_bits, slice_index_or, slice_set};
+ghost use Rattle.math.specs.Phase.{phase_wrap_once};
+ghost use Rattle.block_values.specs.Ticks.{ticks, tick_after, written};
+ghost use Rattle.block_values.specs.TicksModel.{filled, wrapped};
 ghost use Rattle.std.specs.Float.{nan, binary32, binary64};
 ghost use Rattle.std.specs.Float.Ieee.{of_int, add, sub};
 ghost use Rattle.constants.specs.Setting.{per_pulse};
@@ -10,11 +13,110 @@ ghost use Rattle.filterbank.specs.Taps.{one};
 ghost use Rattle.block_values.specs.BlockValues.{values_at, values_left};
 ghost use Rattle.block_values.specs.BlockValuesModel.{in_unit, InUnit, EachInUnit, Placed, EachPlaced, Found, OneIndex, tap_at, last_tap_at, plus_where, lane, value_in};
 
-use block_clocks::Block;
 use constants::SamplesPerPulse;
-use filterbank_apply::PADDED_LEN;
-use float_narrow::BLOCK;
+use filterbank::{Clock, PADDED_LEN};
+use floats::BLOCK;
+use std::f64::consts::PI;
 use std::simd::prelude::*;
+
+// The clock and the carrier's phase before a sample.
+#[derive(Clone, Copy)]
+pub struct Tick {
+    pub clock: Clock,
+    pub carrier: f64,
+}
+
+// What a sample adds to the clock's phase and to the carrier's, and the limit of the clock's indices.
+#[derive(Clone, Copy)]
+pub struct Pace {
+    pub step: f64,
+    pub rate: f64,
+    pub limit: usize,
+}
+
+// Where a block ends: the clock and the phase after it, and how many samples it has.
+#[derive(Clone, Copy)]
+pub struct Ended {
+    pub tick: Tick,
+    pub n: usize,
+}
+
+// The clock's phase and index and the carrier's phase before each sample of a block.
+#[derive(Clone, Copy)]
+pub struct Block {
+    pub phases: [f64; BLOCK],
+    pub indices: [usize; BLOCK],
+    pub carriers: [f64; BLOCK],
+}
+
+// A carrier that is to be wrapped.
+#[tactic(auto, using(crate::proofs::Filled::idle))]
+fn is_beyond(carrier: f64) -> bool
+    ensures { result ≡ false → phase_wrap_once carrier ≡ carrier }
+{
+    carrier >= PI || carrier < -PI
+}
+
+// Goes on until the carrier is to be wrapped, the index is the limit or there are `most` samples. A pass of the loop waits for two additions alone: the wrap, if it were computed here, would be waited for in each.
+fn go_on(from: Ended, most: usize, pace: Pace, block: &mut Block) -> Ended
+    requires { (from.n < most) × (most ≤ 32) × (from.tick.clock.index < pace.limit) }
+    ensures rest { filled (most - result.n) pace (wrapped result) block.new ≡ filled (most - from.n) pace from block.old }
+    ensures more { from.n < result.n }
+    ensures within { result.n ≤ most }
+{
+    let mut phase = from.tick.clock.phase;
+    let mut index = from.tick.clock.index;
+    let mut carrier = from.tick.carrier;
+    let mut i = from.n;
+    while i < most {
+        block.phases[i] = phase;
+        block.indices[i] = index;
+        block.carriers[i] = carrier;
+        i += 1;
+        phase = phase + pace.step;
+        carrier = carrier + pace.rate;
+        if phase >= 1.0 {
+            phase = phase - 1.0;
+            index = index.wrapping_add(1);
+            if index >= pace.limit {
+                break;
+            }
+        }
+        if is_beyond(carrier) {
+            break;
+        }
+    }
+    Ended {
+        tick: Tick {
+            clock: Clock { phase, index },
+            carrier,
+        },
+        n: i,
+    }
+}
+
+// Writes at most `most` samples of a block, until the index is the limit.
+pub fn fill_clocks(first: Tick, most: usize, pace: Pace, block: &mut Block) -> Ended
+    ensures within { result.n ≤ min most 32 }
+    ensures some { 0 < most → first.clock.index < pace.limit → 0 < result.n }
+    ensures block { let ts = ticks (min most 32) pace first in
+        (result ≡ record { tick = tick_after (length ts) pace first; n = length ts })
+        × (block.new ≡ record { phases = written (λ t. t.clock.phase) ts block.old.phases; indices = written (λ t. t.clock.index) ts block.old.indices; carriers = written (λ t. t.carrier) ts block.old.carriers }) }
+{
+    let most = most.min(BLOCK);
+    let mut at = Ended { tick: first, n: 0 };
+    while at.n < most && at.tick.clock.index < pace.limit {
+        let next = go_on(at, most, pace, block);
+        at = Ended {
+            tick: Tick {
+                clock: next.tick.clock,
+                carrier: math::phase_wrap_once_f64(next.tick.carrier),
+            },
+            n: next.n,
+        };
+    }
+    at
+}
 
 // Indices at which a sum reaches a position.
 const INDICES: usize = PADDED_LEN - 6;
@@ -372,7 +474,7 @@ fn by_ones(
 {
     for i in 0..values.len().min(BLOCK) {
         let taps = filterbank::filter_taps(setting, p, block.phases[i]);
-        values[i] = filterbank_apply::pulse_sum(taps, padded, block.indices[i]);
+        values[i] = filterbank::pulse_sum(taps, padded, block.indices[i]);
     }
 }
 
@@ -393,7 +495,7 @@ pub fn fill(
         && all_in_unit(&block.phases)
         && find_places(setting, &block.phases, &mut at, &mut rest)
     {
-        float_narrow::narrow_block(&rest, &mut tau);
+        floats::narrow_block(&rest, &mut tau);
         let bank = Bank {
             setting,
             prototype: p,

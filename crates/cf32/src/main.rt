@@ -7,8 +7,8 @@ use std::env::{Env, FillError};
 use std::fs::{File, Files};
 use std::io::{Error, Stdout, Write};
 use std::os::fd::{AsFd, AsRawFd};
+use tape_feed::Outcome;
 use tape_sections::{MAX_RECORDS_LEN, STDERR_FILENO};
-use tape_verdict::Outcome;
 
 // The system's errors: of a number that is not open, of an argument that is not there or a file that cannot do what is asked, of a name that is too long, and of bytes that are not text.
 const EBADF: i32 = 9;

@@ -5,7 +5,7 @@ use Rattle.std.specs.Float.{binary64}
 use Rattle.std.specs.Float.Ieee.{of_bits, of_int, le}
 use Rattle.std.specs.Float.Ieee.Scale.{finite}
 use Rattle.constants.specs.Rate.{largest_offset}
-use Rattle.float_narrow.specs.Range.{within}
+use Rattle.floats.specs.Range.{within}
 use Rattle.math.specs.Phase.{phase_wrap}
 use Rattle.refusals.specs.declared.Refusal.TheVariants.{Distribution}
 use Rattle.distributions.specs.declared.RawDistribution.{RawDistribution}

@@ -3,7 +3,7 @@ use Rattle.std.specs.Prelude.{Bool, true, ◌&&◌, cond, Float}
 use Rattle.std.specs.Float.{binary64}
 use Rattle.std.specs.Float.Ieee.{mul, neg, lt, le}
 use Rattle.std.specs.Float.Ieee.Scale.{finite}
-use Rattle.float_narrow.specs.Range.{within}
+use Rattle.floats.specs.Range.{within}
 use Rattle.math.specs.Phase.{pi}
 use Rattle.distributions.specs.declared.CarrierOffset as Offset
 use Rattle.distributions.specs.declared.CarrierPhase as Phase

@@ -1,9 +1,11 @@
-// Distributions of a message's parameters, after distributions.rs: carrier offset, carrier phase and symbol clock error, and what each asks of its numbers.
+// Distributions of a message's parameters, after distributions.rs: carrier offset, carrier phase and symbol clock error; what each asks of its numbers, whether a draw is in its range, and what a draw becomes.
+// Each function is equal to a definition of specs/ on every input.
 #![tactic(auto)]
 
 ghost use Rattle.std.specs.Prelude.{◌≡◌};
 ghost use Rattle.constants.specs.Setting.{per_pulse};
 ghost use Rattle.distributions.specs.Accepted.{up_to, finite_not_negative, offset_limit, carrier_offset, clamped_normal, carrier_phase, clock_error};
+ghost use Rattle.distributions.specs.Drawn.{offset_draw_fits, phase_draw_fits, clock_draw_fits, clamped, offset_of, phase_of, error_of};
 
 use constants::SamplesPerPulse;
 use refusals::Refusal;
@@ -48,7 +50,7 @@ fn up_to(x: f64, limit: f64) -> bool
 pub fn finite_not_negative(x: f64) -> bool
     ensures { result ≡ finite_not_negative x }
 {
-    0.0 <= x && float_range::finite(x)
+    0.0 <= x && floats::finite(x)
 }
 
 // The largest size of a carrier offset.
@@ -81,9 +83,7 @@ pub fn carrier_offset(
     ensures { result ≡ carrier_offset (per_pulse setting) d }
 {
     match d.kind {
-        0 if float_range::within(d.first, offset_limit(setting)) => Ok(CarrierOffset::Constant(
-            d.first,
-        )),
+        0 if floats::within(d.first, offset_limit(setting)) => Ok(CarrierOffset::Constant(d.first)),
         1 => clamped_normal(setting, d.first, d.second),
         _ => Err(Refusal::Distribution(0)),
     }
@@ -95,7 +95,7 @@ pub fn carrier_phase(d: RawDistribution) -> Result<CarrierPhase, Refusal>
     ensures { result ≡ carrier_phase d }
 {
     match d.kind {
-        0 if float_range::finite(d.first) => {
+        0 if floats::finite(d.first) => {
             let wrapped = math::phase_wrap_f64(d.first);
             Ok(CarrierPhase::Constant(wrapped))
         }
@@ -110,8 +110,97 @@ pub fn clock_error(d: RawDistribution) -> Result<ClockError, Refusal>
     ensures { result ≡ clock_error d }
 {
     match d.kind {
-        0 if float_range::within(d.first, 0.1) => Ok(ClockError::Constant(d.first)),
+        0 if floats::within(d.first, 0.1) => Ok(ClockError::Constant(d.first)),
         1 if up_to(d.first, 0.1) => Ok(ClockError::Uniform(d.first)),
         _ => Err(Refusal::Distribution(2)),
+    }
+}
+
+// Three functions for each question, here and below, and no trait: each distribution has a rule of its own, and no caller is generic over them.
+
+// Whether a carrier draw is in range.
+#[tactic(auto, unfolding(crate::specs::Drawn::offset_draw_fits))]
+pub fn offset_draw_fits(d: CarrierOffset, draw: f64) -> bool
+    ensures { result ≡ offset_draw_fits d draw }
+{
+    match d {
+        CarrierOffset::Constant(_) => true,
+        CarrierOffset::ClampedNormal(_, _) => floats::finite(draw),
+    }
+}
+
+#[tactic(auto, unfolding(crate::specs::Drawn::from_minus_pi_below_pi), using(math::proofs::Literals::pi_is))]
+fn from_minus_pi_below_pi(x: f64) -> bool
+    ensures { result ≡ Rattle.distributions.specs.Drawn.from_minus_pi_below_pi x }
+{
+    x >= -3.141592653589793 && x < 3.141592653589793
+}
+
+// Whether a phase draw is in range.
+#[tactic(auto, unfolding(crate::specs::Drawn::phase_draw_fits))]
+pub fn phase_draw_fits(d: CarrierPhase, draw: f64) -> bool
+    ensures { result ≡ phase_draw_fits d draw }
+{
+    match d {
+        CarrierPhase::Constant(_) => true,
+        CarrierPhase::Uniform => from_minus_pi_below_pi(draw),
+    }
+}
+
+// Whether a clock draw is in range.
+#[tactic(auto, unfolding(crate::specs::Drawn::clock_draw_fits))]
+pub fn clock_draw_fits(d: ClockError, draw: f64) -> bool
+    ensures { result ≡ clock_draw_fits d draw }
+{
+    match d {
+        ClockError::Constant(_) => true,
+        ClockError::Uniform(max) => floats::within(draw, max),
+    }
+}
+
+// Rust's `x.clamp(-max, max)` for any max: std's own asks that the lower limit is not above the upper one.
+#[tactic(auto, unfolding(crate::specs::Drawn::clamped))]
+fn clamp(x: f64, max: f64) -> f64
+    ensures { result ≡ clamped x max }
+{
+    if x < -max {
+        return -max;
+    }
+    if x > max {
+        return max;
+    }
+    x
+}
+
+// The carrier offset that a draw gives.
+#[tactic(auto, unfolding(crate::specs::Drawn::offset_of))]
+pub fn offset_of(d: CarrierOffset, draw: f64) -> f64
+    ensures { result ≡ offset_of d draw }
+{
+    match d {
+        CarrierOffset::Constant(x) => x,
+        CarrierOffset::ClampedNormal(sigma, max) => clamp(draw * sigma, max),
+    }
+}
+
+// The carrier phase that a draw gives.
+#[tactic(auto, unfolding(crate::specs::Drawn::phase_of))]
+pub fn phase_of(d: CarrierPhase, draw: f64) -> f64
+    ensures { result ≡ phase_of d draw }
+{
+    match d {
+        CarrierPhase::Constant(x) => x,
+        CarrierPhase::Uniform => draw,
+    }
+}
+
+// The clock error that a draw gives.
+#[tactic(auto, unfolding(crate::specs::Drawn::error_of))]
+pub fn error_of(d: ClockError, draw: f64) -> f64
+    ensures { result ≡ error_of d draw }
+{
+    match d {
+        ClockError::Constant(x) => x,
+        ClockError::Uniform(_) => draw,
     }
 }

@@ -11,7 +11,7 @@ use lib.Ieee.Bits.{of_bits-fits}
 use lib.Ieee.Scale.{finite}
 use Rattle.float_rounding.proofs.Order.{Le}
 use Rattle.float_rounding.proofs.Val.{val_of, le_val, val_le}
-use Rattle.float_narrow.specs.Range.{abs, within}
+use Rattle.floats.specs.Range.{abs, within}
 use Rattle.distributions.specs.Accepted.{up_to, tenth}
 use Rattle.distributions.specs.declared.ClockError as Clock
 use Rattle.distributions.specs.Drawn.{error_of, clock_draw_fits}

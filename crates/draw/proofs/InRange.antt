@@ -9,7 +9,7 @@ use borrow.Author.Tests.{eq-eqb}
 use lib.Ieee.{Float, binary32, binary64, of_bits, le, lt}
 use lib.Ieee.Fits.{and_i, and_l, and_r}
 use lib.Ieee.Scale.{finite}
-use Rattle.float_narrow.specs.Range.{within}
+use Rattle.floats.specs.Range.{within}
 use Rattle.distributions.specs.Accepted.{finite_not_negative, tenth}
 use Rattle.distributions.specs.Drawn.{error_of, offset_draw_fits, phase_draw_fits, clock_draw_fits}
 use Rattle.message.specs.declared.MessageType.{MessageType}

@@ -5,3 +5,6 @@ pub mod Bytes
 pub mod Message
 pub mod ClockLimit
 pub mod TapeOrder
+mod Scan
+mod Fields
+pub mod MessageOfDraw

@@ -3,7 +3,7 @@ use Rattle.std.specs.Prelude.{ℕ, zero, suc, ◌+◌, List, [], ◌∷◌, T, g
 use Rattle.std.specs.Float.{binary32, binary64}
 use Rattle.std.specs.Float.Ieee.{fits, of_bits}
 use Rattle.le_read.specs.LeBytes.{number_at}
-use Rattle.le_read_floats.specs.FloatReads.{f64_at}
+use Rattle.le_read.specs.FloatReads.{f64_at}
 use Rattle.message.specs.declared.Picks.{Picks}
 use Rattle.draw.specs.declared.Draw.{Draw}
 

@@ -4,7 +4,7 @@ use Rattle.message.specs.declared.MessageType.{MessageType}
 use Rattle.std.specs.Float.{binary32, binary64}
 use Rattle.std.specs.Float.Ieee.{of_bits, le, lt}
 use Rattle.std.specs.Float.Ieee.Scale.{finite}
-use Rattle.float_narrow.specs.Range.{within}
+use Rattle.floats.specs.Range.{within}
 use Rattle.distributions.specs.Accepted.{finite_not_negative, tenth}
 use Rattle.distributions.specs.Drawn.{error_of, offset_draw_fits, phase_draw_fits, clock_draw_fits}
 use Rattle.message.specs.declared.ReplyKind.TheVariants.{ModeAc}

@@ -1,3 +1,4 @@
 pub mod Draw
 pub mod Fault
 pub mod Config
+pub mod Pending

@@ -8,7 +8,7 @@ use lib.Ieee.Order.{round_mono}
 use lib.Ieee.Digits.{back}
 use Rattle.float_rounding.proofs.Units.{G, G-exact, Units, units_of, lt_units, lt_finite, cross}
 use Rattle.float_rounding.proofs.More.{Rep, G-rep, rep_of, mul_all, sub_all, of_int_lem, to_unsigned_lem}
-use Rattle.float_narrow.specs.Narrow.{narrow}
+use Rattle.floats.specs.Narrow.{narrow}
 use Rattle.constants.specs.declared.SamplesPerPulse.{SamplesPerPulse}
 use Rattle.constants.specs.Setting.{per_pulse}
 use Rattle.constants.specs.Rate.{branches}

@@ -2,7 +2,7 @@
 use Rattle.std.specs.Prelude.{ℕ, ◌+◌, ◌-◌, ◌*◌, cond, List, [], ◌∷◌, length, drop, replicate, pos, ◌==◌, from_bits, nat_lt, slice_index_or, Float}
 use Rattle.std.specs.Float.{nan, binary32, binary64}
 use Rattle.std.specs.Float.Ieee.{of_int, to_unsigned, add, sub, mul}
-use Rattle.float_narrow.specs.Narrow.{narrow}
+use Rattle.floats.specs.Narrow.{narrow}
 use Rattle.constants.specs.Rate.{branches, taps_per_branch, prototype_length}
 use Rattle.pulse_shape.specs.Values.{values}
 

@@ -1,15 +1,17 @@
-// The filterbank, after pulse_shape.rs: the taps at a clock phase. The clock and the sums of taps are in crates above.
+// The filterbank, after pulse_shape.rs: the taps at a clock phase, the clock with its step, start and next sample, and the sum of the taps at pulses.
 // Each function is equal to a definition of specs/ on every input.
 #![tactic(auto)]
 
-ghost use Rattle.std.specs.Prelude.{◌≡◌, ◌+◌, ◌-◌, ◌<◌, length, drop, slice_index_or};
+ghost use Rattle.std.specs.Prelude.{◌≡◌, ◌+◌, ◌-◌, ◌<◌, length, drop, slice_index_or, cond, take};
 ghost use Rattle.std.specs.Float.{binary32, nan};
 ghost use Rattle.std.specs.Float.Ieee.{add, mul, sub};
 ghost use Rattle.constants.specs.Setting.{per_pulse};
 ghost use Rattle.constants.specs.Rate.{branches, prototype_length};
 ghost use Rattle.filterbank.specs.Taps.{one, scaled, branch_of, tau_of, branch, between, filter_taps};
+ghost use Rattle.filterbank.specs.Clocked.{step_of, start_clock, advance as advanced, in64};
+ghost use Rattle.filterbank.specs.PaddedPulsesModel.{pad_pulses, padded_sum};
 
-use constants::SamplesPerPulse;
+use constants::{MAX_POSITIONS, SamplesPerPulse};
 
 // The phase times the branches.
 #[tactic(auto, unfolding(crate::specs::Taps::scaled))]
@@ -24,7 +26,7 @@ fn scaled_phase(setting: SamplesPerPulse, phase: f64) -> f64
 fn branch_of(setting: SamplesPerPulse, phase: f64) -> usize
     ensures { (result ≡ branch_of (per_pulse setting) phase) × (result < branches (per_pulse setting)) }
 {
-    let a = float_to_int::to_usize(scaled_phase(setting, phase));
+    let a = floats::to_usize(scaled_phase(setting, phase));
     if a < setting.branches() { a } else { 0 }
 }
 
@@ -34,7 +36,7 @@ fn tau_of(setting: SamplesPerPulse, phase: f64, a: usize) -> f32
     requires { a ≡ branch_of (per_pulse setting) phase }
     ensures { result ≡ tau_of (per_pulse setting) phase }
 {
-    float_narrow::narrow(scaled_phase(setting, phase) - std::num::nearest_usize_to_f64(a))
+    floats::narrow(scaled_phase(setting, phase) - std::num::nearest_usize_to_f64(a))
 }
 
 // (1 - tau) * p[i] + tau * p[j].
@@ -104,4 +106,82 @@ pub fn filter_taps(setting: SamplesPerPulse, prototype: &[f32], phase: f64) -> [
 pub struct Clock {
     pub phase: f64,
     pub index: usize,
+}
+
+// What a sample adds to the phase.
+#[tactic(auto, using(crate::proofs::Literals::is1), unfolding(crate::specs::Clocked::step_of))]
+pub fn clock_step(setting: SamplesPerPulse, e: f64) -> f64
+    ensures { result ≡ step_of (per_pulse setting) e }
+{
+    1.0 / std::num::nearest_u64_to_f64(setting.number()) * (1.0 + e)
+}
+
+// The clock before the first sample, from a phase in samples.
+#[tactic(auto, unfolding(crate::specs::Clocked::start_clock))]
+pub fn start_clock(setting: SamplesPerPulse, phase: f64) -> Clock
+    ensures { result ≡ start_clock (per_pulse setting) phase }
+{
+    Clock {
+        phase: phase / std::num::nearest_u64_to_f64(setting.number()),
+        index: 0,
+    }
+}
+
+// The clock after one sample more.
+#[tactic(auto, using(crate::proofs::Literals::is1), unfolding(crate::specs::Clocked::advance, crate::specs::Clocked::settle))]
+pub fn advance(clock: Clock, step: f64) -> Clock
+    ensures { result ≡ in64 (advanced step clock) }
+{
+    let next = clock.phase + step;
+    if next >= 1.0 {
+        Clock {
+            phase: next - 1.0,
+            index: clock.index.wrapping_add(1),
+        }
+    } else {
+        Clock {
+            phase: next,
+            ..clock
+        }
+    }
+}
+
+// Positions with six in front of them and six behind.
+pub const PADDED_LEN: usize = MAX_POSITIONS + 12;
+
+// Indices at which a sum reaches a position.
+const INDICES: usize = MAX_POSITIONS + 6;
+
+// The first pulses, at most as many as a reply has positions, padded by six positions, so that a sum over them needs no tests of their positions.
+#[tactic(auto, using(crate::proofs::Padded::padded))]
+pub fn pad_pulses(on: &[bool]) -> [bool; PADDED_LEN]
+    ensures { result ≡ pad_pulses (take 240 on.now) }
+{
+    let n = on.len().min(MAX_POSITIONS);
+    let mut out = [false; PADDED_LEN];
+    out[6..6 + n].copy_from_slice(&on[..n]);
+    out
+}
+
+fn added(sum: f32, tap: f32, on: bool) -> f32
+    ensures { result ≡ cond on (add binary32 sum tap) sum }
+{
+    if on { sum + tap } else { sum }
+}
+
+// The sum of the taps at whose position there is a pulse.
+#[tactic(auto, using(crate::proofs::Literals::sum_past, crate::proofs::Literals::sum_seven))]
+pub fn pulse_sum(taps: [f32; 7], padded: &[bool; PADDED_LEN], index: usize) -> f32
+    ensures { result ≡ padded_sum taps padded.now index }
+{
+    if index >= INDICES {
+        return 0.0;
+    }
+    let s0 = added(0.0, taps[0], padded[index + 6]);
+    let s1 = added(s0, taps[1], padded[index + 5]);
+    let s2 = added(s1, taps[2], padded[index + 4]);
+    let s3 = added(s2, taps[3], padded[index + 3]);
+    let s4 = added(s3, taps[4], padded[index + 2]);
+    let s5 = added(s4, taps[5], padded[index + 1]);
+    added(s5, taps[6], padded[index])
 }

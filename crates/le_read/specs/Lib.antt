@@ -1,3 +1,4 @@
 pub mod LeBytes
 pub mod Reads
 pub mod Widths
+pub mod FloatReads

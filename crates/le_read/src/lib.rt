@@ -1,11 +1,13 @@
-// Little-endian numbers at an offset in a byte slice, and whether they lie within it.
+// Little-endian numbers and floats at an offset in a byte slice: whether they lie within it, and their values, or 0 past its end. Each function is equal to a definition of specs/ on every input.
 #![tactic(auto)]
 
-ghost use Rattle.std.specs.Prelude.{◌≡◌, ℕ, ◌+◌, ◌≤◌, ◌<◌, ◌^◌, ◌%◌, leb, length, Some, None, IfSome};
-ghost use Rattle.std.specs.Float.{binary32, binary64};
-ghost use Rattle.std.specs.Float.Ieee.{of_bits};
-ghost use Rattle.le_read.specs.LeBytes.{le_at, read_at};
+ghost use Rattle.std.specs.Prelude.{◌≡◌, ℕ, ◌+◌, ◌≤◌, ◌<◌, ◌^◌, ◌%◌, leb, length, Some, None, IfSome, get_or, Err};
+ghost use Rattle.std.specs.Float.{binary32, binary64, Format};
+ghost use Rattle.std.specs.Float.Ieee.{of_bits, nan_bits};
+ghost use Rattle.le_read.specs.LeBytes.{le_at, read_at, number_at};
 ghost use Rattle.le_read.specs.Widths.{IsWidth, two_wide, four_wide, eight_wide};
+ghost use Rattle.le_read.specs.FloatReads.{found};
+ghost use Rattle.le_read.specs.declared.FloatFault.TheVariants.{OutOfBounds};
 
 // Whether n bytes from an offset lie within a length; no sum, so that no offset can overflow.
 #[tactic(auto, using(crate::proofs::Decided::no_sum, crate::proofs::Decided::too_long))]
@@ -159,4 +161,65 @@ pub fn le<T: LeRead>(s: &[u8], at: usize) -> Option<T>
     ensures { result ≡ read_at T.WIDTH (λ n. Some (T.value n)) None s.now at }
 {
     Some(T::of(pattern::<T>(s, at)?))
+}
+
+// The byte at an offset, 0 past the end.
+pub fn byte_at(s: &[u8], at: usize) -> u8
+    ensures { result ≡ get_or s.now at 0 }
+{
+    s.get(at).copied().unwrap_or(0)
+}
+
+// The number at an offset, 0 where its bytes run past the end.
+#[tactic(auto, unfolding(crate::specs::LeBytes::read_at))]
+pub fn number<T: LeRead>(s: &[u8], at: usize) -> T
+    ensures { result ≡ T.value (number_at T.WIDTH s.now at) }
+{
+    le(s, at).unwrap_or(T::of(0))
+}
+
+// Why the read of a float finds no value: its bytes are a NaN's, or they run past the end. An error enum with these two causes; std has none.
+#[derive(Clone, Copy, PartialEq, Eq)]
+pub enum FloatFault {
+    Nan,
+    OutOfBounds,
+}
+
+// A float that is read by its IEEE 754 pattern.
+pub trait LeFloat: LeRead {
+    ghost format: { Format };
+
+    // Whether a pattern is a NaN's: without the bit of the sign it is above the infinity's.
+    fn is_nan(pattern: u64) -> bool
+        ensures { result ≡ nan_bits format pattern };
+}
+
+impl LeFloat for f32 {
+    ghost format = { binary32 };
+
+    #[tactic(auto, using(crate::proofs::Patterns::nan32))]
+    fn is_nan(pattern: u64) -> bool {
+        0x7f80_0000 < pattern % 0x8000_0000
+    }
+}
+
+impl LeFloat for f64 {
+    ghost format = { binary64 };
+
+    #[tactic(auto, using(crate::proofs::Patterns::nan64))]
+    fn is_nan(pattern: u64) -> bool {
+        0x7ff0_0000_0000_0000 < pattern % 0x8000_0000_0000_0000
+    }
+}
+
+// The float at an offset, or that it is a NaN or past the end.
+#[tactic(auto, unfolding(crate::specs::LeBytes::read_at, crate::specs::FloatReads::found))]
+pub fn float<T: LeFloat>(s: &[u8], at: usize) -> Result<T, FloatFault>
+    ensures { result ≡ read_at T.WIDTH (found T.format T.value) (Err OutOfBounds) s.now at }
+{
+    let pattern = pattern::<T>(s, at).ok_or(FloatFault::OutOfBounds)?;
+    if T::is_nan(pattern) {
+        return Err(FloatFault::Nan);
+    }
+    Ok(T::of(pattern))
 }

@@ -12,10 +12,10 @@ use Rattle.refusals.specs.declared.Refusal.TheVariants.{Length, Log}
 use Rattle.record_check.specs.FirstFault.{first_fault, record_refusal}
 use Rattle.log_theory.specs.Report.{report_of}
 use Rattle.log_theory.proofs.PairingLaws.{pairing_laws}
-use Rattle.log_entry.specs.Entries.{logs}
-use Rattle.log_entry.proofs.Bytes.{logs_orderly}
-use Rattle.log_check.specs.LogChecks.{log_accepted, lengths_fit, contents_refusal, compare_refusal}
-use Rattle.log_check.proofs.Rising.{rises}
+use Rattle.log_compare.specs.Entries.{logs}
+use Rattle.log_compare.proofs.Bytes.{logs_orderly}
+use Rattle.log_compare.specs.LogChecks.{log_accepted, lengths_fit, contents_refusal, compare_refusal}
+use Rattle.log_compare.proofs.Rising.{rises}
 use Rattle.log_compare.specs.Comparison.{counts_of, reported, decided, compared_of}
 use Rattle.log_compare.specs.CompareLaws.{Reported, CompareLaws}
 

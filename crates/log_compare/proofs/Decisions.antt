@@ -12,12 +12,12 @@ use Rattle.refusals.specs.declared.Refusal.{Refusal}
 use Rattle.log_theory.specs.Pairing.{Logs}
 use Rattle.log_theory.specs.Report.{Lists, report_of}
 use Rattle.log_theory.proofs.PairingLaws.{pairing_laws}
-use Rattle.log_entry.specs.Entries.{logs}
-use Rattle.log_check.proofs.Rising.{both_true}
-use Rattle.log_check.specs.LogChecks.{lengths_fit, contents_refusal, compare_refusal}
+use Rattle.log_compare.specs.Entries.{logs}
+use Rattle.log_compare.proofs.Rising.{both_true}
+use Rattle.log_compare.specs.LogChecks.{lengths_fit, contents_refusal, compare_refusal}
 use Rattle.std.specs.Result.{result_err}
-use Rattle.log_pairs.specs.Paired.{paired_of}
-use Rattle.log_pairs.proofs.Marks.{both_fits}
+use Rattle.log_compare.specs.Paired.{paired_of}
+use Rattle.log_compare.proofs.Marks.{both_fits}
 use Rattle.log_compare.specs.Comparison.{reported, decided, compared_of}
 
 module _ (log records : List ℕ) (p o : ℕ) where

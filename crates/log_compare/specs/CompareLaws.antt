@@ -4,8 +4,8 @@ use Rattle.refusals.specs.declared.Refusal.{Refusal}
 use Rattle.log_theory.specs.Pairing.{Logs, Pair, Pairing, every, shown}
 use Rattle.log_theory.specs.Report.{nobody, indices, entry_of, entries_from, unnamed, In, left}
 use Rattle.log_theory.specs.PairingLaws.{Earliest, pairs}
-use Rattle.log_entry.specs.Entries.{logs}
-use Rattle.log_check.specs.LogChecks.{compare_refusal}
+use Rattle.log_compare.specs.Entries.{logs}
+use Rattle.log_compare.specs.LogChecks.{compare_refusal}
 use Rattle.log_compare.specs.Comparison.{Comparison, compared_of}
 use Rattle.log_compare.specs.declared.Counts.{Counts}
 

@@ -3,8 +3,8 @@ use Rattle.std.specs.Prelude.{Option, Some, None, Result, Ok, Err, List, â„•, â—
 use Rattle.refusals.specs.declared.Refusal.{Refusal}
 use Rattle.log_theory.specs.Pairing.{Logs}
 use Rattle.log_theory.specs.Report.{Lists, report_of}
-use Rattle.log_entry.specs.Entries.{logs}
-use Rattle.log_check.specs.LogChecks.{compare_refusal}
+use Rattle.log_compare.specs.Entries.{logs}
+use Rattle.log_compare.specs.LogChecks.{compare_refusal}
 use Rattle.log_compare.specs.declared.Counts.{Counts}
 
 pub record Comparison : Type 0 where

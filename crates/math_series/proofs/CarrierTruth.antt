@@ -11,7 +11,7 @@ use lib.Ieee.Scale.{finite}
 use Rattle.float_rounding.proofs.Val.{Val}
 use Rattle.float_rounding.proofs.Size.{within_finite}
 use Rattle.float_rounding.proofs.AtMost.{AtMost, at_most_neg, at_most_within}
-use Rattle.float_narrow.specs.Narrow.{narrow}
+use Rattle.floats.specs.Narrow.{narrow}
 use Rattle.math.specs.Phase.{pi}
 use Rattle.math.specs.Carrier.{factorial, reduced, sine_sum, cosine_sum, quadrant, sin_cos}
 use Rattle.math.proofs.Constants.{quarter_units, pi_units, pi_val}

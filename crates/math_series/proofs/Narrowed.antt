@@ -16,7 +16,7 @@ use lib.Ieee.Order.{drop, kept}
 use lib.Ieee.Scale.{grid, overflow, finite, round_under}
 use Rattle.float_rounding.proofs.Half.{closest_off}
 use Rattle.float_rounding.proofs.AtMost.{AtMost, rounds_whole, round_at_most}
-use Rattle.float_narrow.specs.Narrow.{narrow}
+use Rattle.floats.specs.Narrow.{narrow}
 use Rattle.math_series.specs.Fraction.{◌⊑◌, Within, signed, value}
 use Rattle.math_series.specs.CarrierTruth.{narrow_distance}
 use Rattle.math_series.proofs.Ratio.{Ratio, Near}

@@ -5,7 +5,7 @@ use Rattle.std.proofs.Common.{zero-lt-suc, pow_pos}
 use Rattle.std.specs.Float.{binary64}
 use Rattle.std.specs.Float.Ieee.{neg, le, fits}
 use Rattle.std.specs.Float.Ieee.Scale.{finite}
-use Rattle.float_narrow.specs.Narrow.{narrow}
+use Rattle.floats.specs.Narrow.{narrow}
 use Rattle.math.specs.Phase.{pi}
 use Rattle.math.specs.Carrier.{reduced, sine_sum, cosine_sum, sin_cos}
 use Rattle.math_series.specs.Fraction.{Fraction, over, nought, opposite, ◌⊕◌, Within, value}

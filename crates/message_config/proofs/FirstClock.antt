@@ -11,7 +11,7 @@ use Rattle.constants.proofs.Settings.{rate_three, rate_few}
 use Rattle.float_rounding.proofs.Units.{G, G-le, Units, add_units}
 use Rattle.float_rounding.proofs.More.{sub_all, mul_all, of_int_lem, nonneg, sub_is}
 use Rattle.float_rounding.proofs.Val.{val_units, neg_val}
-use Rattle.float_narrow.specs.Ceil.{ceil_signed, upward}
+use Rattle.floats.specs.Ceil.{ceil_signed, upward}
 use Rattle.float_rounding.proofs.Size.{Within, units_within, le_or_lt}
 use Rattle.math.proofs.InRange.{tests_of_within}
 use Rattle.message.specs.declared.ReplyKind.{ReplyKind}

@@ -13,8 +13,8 @@ use Rattle.constants.proofs.Settings.{rate_three, rate_few}
 use Rattle.float_rounding.proofs.Units.{G, G-ge, Units, lt_units}
 use Rattle.float_rounding.proofs.More.{Rep}
 use Rattle.float_rounding.proofs.Val.{Val}
-use Rattle.float_narrow.specs.Ceil.{ceil_signed, upward}
-use Rattle.float_narrow.specs.Range.{within}
+use Rattle.floats.specs.Ceil.{ceil_signed, upward}
+use Rattle.floats.specs.Range.{within}
 use Rattle.float_rounding.proofs.Size.{units_within, le_or_lt}
 use Rattle.math.proofs.InRange.{tests_of_within}
 use Rattle.distributions.specs.Accepted.{tenth}

@@ -8,9 +8,9 @@ use Rattle.constants.specs.Rate.{taps_per_branch, largest_offset}
 use Rattle.float_rounding.proofs.Order.{Signed, fin_le}
 use Rattle.float_rounding.proofs.Units.{Units}
 use Rattle.float_rounding.proofs.Val.{Val}
-use Rattle.float_narrow.specs.Range.{within}
-use Rattle.float_narrow.proofs.Exact.{whole_value}
-use Rattle.float_narrow.proofs.Ranges.{within_finite, within_val}
+use Rattle.floats.specs.Range.{within}
+use Rattle.floats.proofs.Exact.{whole_value}
+use Rattle.floats.proofs.Ranges.{within_finite, within_val}
 use Rattle.float_rounding.proofs.Size.{Within, number}
 use Rattle.math.proofs.Constants.{pi_units}
 use Rattle.distributions.specs.Accepted.{tenth, offset_limit}

@@ -11,7 +11,7 @@ use Rattle.constants.proofs.Settings.{rate_pos, rate_three, rate_few}
 use Rattle.float_rounding.proofs.Units.{G, G-mono, G-le, Units}
 use Rattle.float_rounding.proofs.More.{of_int_lem, sub_is}
 use Rattle.float_rounding.proofs.Val.{Val, mul_val, div_val}
-use Rattle.float_narrow.specs.Ceil.{ceil_signed, upward}
+use Rattle.floats.specs.Ceil.{ceil_signed, upward}
 use Rattle.math.specs.Phase.{pi, two_pi}
 use Rattle.float_rounding.proofs.Size as Size
 use Rattle.float_rounding.proofs.Size.{Within, units_within, within_neg, sum_within, le_or_lt}

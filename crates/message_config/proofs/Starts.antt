@@ -10,7 +10,7 @@ use Rattle.constants.specs.Rate.{hold_back}
 use Rattle.float_rounding.proofs.Units.{G, G-ge, G-le, Units, units_of}
 use Rattle.float_rounding.proofs.More.{Rep, rep_of, sub_all, sub_negative}
 use Rattle.float_rounding.proofs.Val.{Val, val_units, add_same, add_opposite}
-use Rattle.float_narrow.specs.Ceil.{ceil_signed, upward}
+use Rattle.floats.specs.Ceil.{ceil_signed, upward}
 use Rattle.float_rounding.proofs.Size.{Within, number}
 use Rattle.pulse_shape.proofs.DelayWithin.{div_units}
 use Rattle.message_config.specs.Timing.{one}

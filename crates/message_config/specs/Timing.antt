@@ -2,7 +2,7 @@
 use Rattle.std.specs.Prelude.{ℤ, pos, Float}
 use Rattle.std.specs.Float.{binary64}
 use Rattle.std.specs.Float.Ieee.{of_int, add, sub, mul, div}
-use Rattle.float_narrow.specs.Ceil.{ceil_signed}
+use Rattle.floats.specs.Ceil.{ceil_signed}
 use Rattle.pulse_shape.specs.GroupDelay.{mode_ac_ratio}
 use Rattle.message.specs.declared.ReplyKind.{ReplyKind}
 use Rattle.message.specs.declared.ReplyKind.TheVariants.{Short, Long, ModeAc}

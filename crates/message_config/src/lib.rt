@@ -76,7 +76,7 @@ impl MessageConfig {
         ensures { result ≡ config_start delays self }
     {
         let delay = group_delay(delays, self.reply.kind);
-        float_to_int::ceil_to_i64(unrounded_start(self.time, delay, self.error))
+        floats::ceil_to_i64(unrounded_start(self.time, delay, self.error))
     }
 
     // How the samples begin.
@@ -86,7 +86,7 @@ impl MessageConfig {
     {
         let kind = self.reply.kind;
         let unrounded = unrounded_start(self.time, group_delay(delays, kind), self.error);
-        let first = std::num::nearest_i64_to_f64(float_to_int::ceil_to_i64(unrounded));
+        let first = std::num::nearest_i64_to_f64(floats::ceil_to_i64(unrounded));
         let error = filter_clock_error(kind, self.error);
         let second = std::num::nearest_u64_to_f64(2_000_000 * setting.number());
         let turn = TAU * self.offset / second;

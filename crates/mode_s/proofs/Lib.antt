@@ -5,3 +5,7 @@ pub mod Laws
 pub mod ByTable
 pub mod Product
 pub mod RemainderOfDivision
+pub mod Powers
+pub mod Table
+pub mod Places
+pub mod ParityLaws

@@ -5,8 +5,8 @@ use Rattle.std.specs.Prelude.{Float}
 use Rattle.std.specs.Float.{binary64}
 use Rattle.std.specs.Float.Ieee.{of_bits}
 use Rattle.refusals.specs.Number.{number_of}
-use Rattle.refusal_values.specs.Flat.{values_flat}
-use Rattle.run_booking_walk.specs.Walk.{End, at_draw, ran_out}
+use Rattle.refusals.specs.Flat.{values_flat}
+use Rattle.run_booking.specs.Walk.{End, at_draw, ran_out}
 use Rattle.run_booking.specs.Booking.{Figures}
 use Rattle.more1090_booking.specs.declared.FlatBooking.{FlatBooking}
 

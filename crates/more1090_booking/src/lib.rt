@@ -8,8 +8,7 @@ ghost use Rattle.more1090_booking.specs.Flat.{zero64, booking_flat, ended_flat};
 
 use pulse_shape::Filters;
 use refusals::Refusal;
-use run_booking::Figures;
-use run_booking_walk::End;
+use run_booking::{End, Figures};
 
 // Refusal 0 is none. Where a draw ends the run, ended is 1 and draw its index; where draws ran out, ended is 0 and time that of the last one. Each field has 8 bytes, so that there is no padding.
 #[repr(C)]
@@ -40,7 +39,7 @@ const ZEROS: FlatBooking = FlatBooking {
     field: 0,
 };
 
-#[tactic(auto, unfolding(crate::specs::Flat::ended_flat, run_booking::specs::Booked::figures_read, run_booking_walk::specs::Answered::end_read))]
+#[tactic(auto, unfolding(crate::specs::Flat::ended_flat, run_booking::specs::Booked::figures_read, run_booking::specs::Answered::end_read))]
 fn figures_out(f: Figures) -> FlatBooking
     ensures { result ≡ ended_flat (figures_read f) (figures_read f).end }
 {
@@ -65,7 +64,7 @@ fn figures_out(f: Figures) -> FlatBooking
 fn refusal_out(q: Refusal) -> FlatBooking
     ensures { result ≡ booking_flat (Err q) }
 {
-    let v = refusal_values::values_of(q);
+    let v = refusals::values_of(q);
     FlatBooking {
         refusal: q.number(),
         value: v.value,

@@ -2,7 +2,7 @@
 #![tactic(auto)]
 
 ghost use Rattle.std.specs.Prelude.{◌≡◌, length};
-ghost use Rattle.run_open_checks.specs.Opening.{opened_of, left_by};
+ghost use Rattle.run_open.specs.Opening.{opened_of, left_by};
 ghost use Rattle.more1090_generator.specs.Answers.{opened_flat, flat_run_left};
 ghost use Rattle.run_booking.specs.Booking.{booking_of};
 ghost use Rattle.more1090_booking.specs.Flat.{zero64, booking_flat};
@@ -10,27 +10,26 @@ ghost use Rattle.single_theory.specs.Single.{single_run, single_output};
 ghost use Rattle.single_run.specs.Answer.{answer_of};
 ghost use Rattle.more1090_single.specs.Flat.{single_flat};
 ghost use Rattle.mode_s.specs.Parity.{parity_of};
-ghost use Rattle.mode_s_parity_change.specs.Change.{change_at, place_of};
-ghost use Rattle.message_classify.specs.Classing.{class_of_bytes, class_number};
-ghost use Rattle.message_interrogator.specs.Interrogators.{interrogator_of, kind_number, code_number};
-ghost use Rattle.more1090_parity.specs.Places.{place_number};
+ghost use Rattle.mode_s.specs.Change.{change_at, place_of};
+ghost use Rattle.message.specs.Classing.{class_of_bytes, class_number};
+ghost use Rattle.message.specs.Interrogators.{interrogator_of, kind_number, code_number};
+ghost use Rattle.more1090_reply.specs.Places.{place_number};
 ghost use Rattle.draw_level.specs.Levels.{level_of};
-ghost use Rattle.more1090_level.specs.LevelInC.{refusal_of, amplitude_left};
-ghost use Rattle.page_fill.specs.Pages.{pages_answer, pages_left};
-ghost use Rattle.page_read.specs.Fields.{fields_of};
-ghost use Rattle.more1090_pages.specs.Flat.{flat_answer, flat_line, line_message};
+ghost use Rattle.more1090_reply.specs.LevelInC.{refusal_of, amplitude_left};
+ghost use Rattle.page.specs.Pages.{pages_answer, pages_left};
+ghost use Rattle.page.specs.Fields.{fields_of};
+ghost use Rattle.more1090_records.specs.Flat.{flat_answer, flat_line, line_message};
 ghost use Rattle.le_read.specs.LeBytes.{overwritten};
 ghost use Rattle.more1090_tape.specs.Flat.{head_wanted, open_left, flat_fed, flat_ending, flat_text};
-ghost use Rattle.more1090_log.specs.LogInC.{flat_comparison};
+ghost use Rattle.more1090_records.specs.LogInC.{flat_comparison};
 ghost use Rattle.more1090_rack.specs.Flat.{open_flat, run_flat};
 ghost use Rattle.more1090_bytes.specs.Flat.{save_flat, restore_flat};
 
 use more1090_booking::FlatBooking;
 use more1090_bytes::FlatRestored;
 use more1090_generator::{FlatOpened, FlatRan, FlatState};
-use more1090_log::FlatCompared;
-use more1090_pages::{FlatLine, FlatPages};
 use more1090_rack::Answered;
+use more1090_records::{FlatCompared, FlatLine, FlatPages};
 use more1090_single::FlatSingle;
 use more1090_tape::{FlatBeginning, FlatEnding, FlatTape};
 use rack::Rack;
@@ -117,7 +116,7 @@ pub extern "C" fn more1090_single(
 pub extern "C" fn more1090_parity(bytes: &[u8]) -> u32
     ensures { result ≡ parity_of bytes.now }
 {
-    more1090_parity::more1090_parity(bytes)
+    more1090_reply::more1090_parity(bytes)
 }
 
 // The change in parity of a message whose bit at a place is flipped, places counted back from 0 at the last bit; 0 above 111.
@@ -125,7 +124,7 @@ pub extern "C" fn more1090_parity(bytes: &[u8]) -> u32
 pub extern "C" fn more1090_parity_change(place: u64) -> u32
     ensures { result ≡ change_at place }
 {
-    more1090_parity::more1090_parity_change(place)
+    more1090_reply::more1090_parity_change(place)
 }
 
 // The place whose flipped bit changes the parity so, or 2^64 - 1 for none.
@@ -133,7 +132,7 @@ pub extern "C" fn more1090_parity_change(place: u64) -> u32
 pub extern "C" fn more1090_flipped_bit(change: u32) -> u64
     ensures { result ≡ place_number (place_of change) }
 {
-    more1090_parity::more1090_flipped_bit(change)
+    more1090_reply::more1090_flipped_bit(change)
 }
 
 // The class of message bytes, however many: its type's number, 7 for TIS-B, 255 for none.
@@ -141,7 +140,7 @@ pub extern "C" fn more1090_flipped_bit(change: u32) -> u64
 pub extern "C" fn more1090_class(message: &[u8]) -> u8
     ensures { result ≡ class_number (class_of_bytes message.now) }
 {
-    more1090_parity::more1090_class(message)
+    more1090_reply::more1090_class(message)
 }
 
 // Which interrogator message bytes, however many, answer: the kind, 0 for none, 1 for an II code, 2 for an SI code, 3 for unassigned; and the code, 0 where there is none.
@@ -149,7 +148,7 @@ pub extern "C" fn more1090_class(message: &[u8]) -> u8
 pub extern "C" fn more1090_interrogator(message: &[u8], code: &mut u32) -> u32
     ensures { (result ≡ kind_number (interrogator_of message.now)) × (code.new ≡ code_number (interrogator_of message.now)) }
 {
-    more1090_parity::more1090_interrogator(message, code)
+    more1090_reply::more1090_interrogator(message, code)
 }
 
 // The amplitude of a level in tenths of a decibel. Answers 0, or 13 above 200.0 dB, and then leaves the amplitude as it was.
@@ -157,7 +156,7 @@ pub extern "C" fn more1090_interrogator(message: &[u8], code: &mut u32) -> u32
 pub extern "C" fn more1090_level(tenths: u64, amplitude: &mut f32) -> u64
     ensures { (result ≡ refusal_of (level_of tenths)) × (amplitude.new ≡ amplitude_left (level_of tenths) amplitude.old) }
 {
-    more1090_level::more1090_level(tenths, amplitude)
+    more1090_reply::more1090_level(tenths, amplitude)
 }
 
 // Records of 66 bytes as pages of 4,380 bytes, from the start of out on.
@@ -165,7 +164,7 @@ pub extern "C" fn more1090_level(tenths: u64, amplitude: &mut f32) -> u64
 pub extern "C" fn more1090_pages(records: &[u8], out: &mut [u8]) -> FlatPages
     ensures { (result ≡ flat_answer (pages_answer records.now (length out.old))) × (out.new ≡ pages_left records.now out.old) }
 {
-    more1090_pages::more1090_pages(records, out)
+    more1090_records::more1090_pages(records, out)
 }
 
 // The fields of a line of 72 bytes; its message goes to message, zeros behind it.
@@ -173,7 +172,7 @@ pub extern "C" fn more1090_pages(records: &[u8], out: &mut [u8]) -> FlatPages
 pub extern "C" fn more1090_page_line(line: &[u8], message: &mut [u8; 14]) -> FlatLine
     ensures { (result ≡ flat_line (fields_of line.now)) × (message.new ≡ line_message (fields_of line.now)) }
 {
-    more1090_pages::more1090_page_line(line, message)
+    more1090_records::more1090_page_line(line, message)
 }
 
 // How many bytes of a tape stand before its noise, as far as the first ones say.
@@ -245,7 +244,7 @@ pub extern "C" fn more1090_compare_log(
 ) -> FlatCompared
     ensures { record { compared = result; partners = partners.new; owners = owners.new } ≡ flat_comparison log.now records.now tolerance partners.old owners.old }
 {
-    more1090_log::more1090_compare_log(log, records, tolerance, partners, owners)
+    more1090_records::more1090_compare_log(log, records, tolerance, partners, owners)
 }
 
 // Opens a rack: a memory of 8,190 f32, and a delay and a gain for each feed. Refusal 0 is none.

@@ -14,7 +14,7 @@ use Rattle.run_theory.specs.Each.{Each}
 use Rattle.run_theory.specs.PlainBench as Bench
 use Rattle.refusals.specs.declared.Refusal as Refusal
 use Rattle.refusals.specs.Number.{number_of}
-use Rattle.run_open_checks.specs.Opening as Opening
+use Rattle.run_open.specs.Opening as Opening
 use Rattle.run_call.specs.declared.State.{State}
 use Rattle.run_call.specs.declared.Counts.{Counts}
 use Rattle.run_call.specs.Buffers.{Left, CallBuffers}
@@ -25,7 +25,7 @@ use Rattle.run_theorem.specs.OpenedRuns.{Run, Opens, calls, gen, results, sample
 use Rattle.run_theorem.proofs.Demand3.{opened_runs}
 use Rattle.more1090_generator.specs.declared.FlatAnswer.{FlatAnswer}
 use Rattle.more1090_generator.specs.States.{flat_of}
-use Rattle.refusal_values.specs.Flat.{values_flat}
+use Rattle.refusals.specs.Flat.{values_flat}
 use Rattle.more1090_generator.specs.Answers.{opened_flat, flat_answer, answered, ran_flat, FlatLeft, left_flat, flat_run_left, flat_runs_left}
 use Rattle.more1090_generator.specs.Seen.{FlatSeen, flat_seen, bench_answer, bench_seen}
 use Rattle.more1090_generator.specs.OpenedCalls.{last_flat, flat_added, flat_total, FlatCountsAdded, Demand3InC, OpenedCalls}

@@ -6,7 +6,7 @@ use mathlib.Core.List.{List}
 use Prim.Native.Nat.{ℕ}
 use lib.Ieee.{Float}
 use Rattle.run_theory.specs.PlainBench as Bench
-use Rattle.run_open_checks.specs.Opening as Opening
+use Rattle.run_open.specs.Opening as Opening
 use Rattle.run_call.specs.declared.State.{State}
 use Rattle.run_call.specs.CallModel.{left_by, call_left, refused_by, run_by, call_refusal, run_left}
 use Rattle.more1090_generator.specs.States.{flat_of}

@@ -14,7 +14,7 @@ use Rattle.more1090_generator.specs.declared.FlatState.{FlatState}
 use Rattle.more1090_generator.specs.declared.FlatOpened.{FlatOpened}
 use Rattle.more1090_generator.specs.declared.FlatAnswer.{FlatAnswer}
 use Rattle.more1090_generator.specs.declared.FlatRan.{FlatRan}
-use Rattle.refusal_values.specs.Flat.{values_flat}
+use Rattle.refusals.specs.Flat.{values_flat}
 use Rattle.more1090_generator.specs.States.{flat_of, state_from, no_state}
 
 -- refusal 0 is none

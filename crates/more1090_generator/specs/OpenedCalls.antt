@@ -7,7 +7,7 @@ use Rattle.run_theory.specs.Added.{sum_of, whole_of}
 use Rattle.run_theory.specs.Each.{Each}
 use Rattle.run_theory.specs.PlainRun.{plain_added}
 use Rattle.run_call.specs.Buffers.{CallBuffers}
-use Rattle.run_open_checks.specs.Opening as Opening
+use Rattle.run_open.specs.Opening as Opening
 use Rattle.run_theorem.specs.OpenedRuns.{Run, Opens, calls, gen, results, bench, draws_taken, record_counts, state_after, Demand3}
 use Rattle.more1090_generator.specs.declared.FlatState.{FlatState}
 use Rattle.more1090_generator.specs.States.{flat_of}

@@ -2,7 +2,7 @@
 #![tactic(auto)]
 
 ghost use Rattle.std.specs.Prelude.{◌≡◌};
-ghost use Rattle.run_open_checks.specs.Opening.{opened_of, left_by};
+ghost use Rattle.run_open.specs.Opening.{opened_of, left_by};
 ghost use Rattle.more1090_generator.specs.States.{carrier_flat, phase_flat, clock_flat, carrier_from, phase_from, clock_from, flat_of, state_from, no_state};
 ghost use Rattle.run_call.specs.Given.{stop_number};
 ghost use Rattle.more1090_generator.specs.Answers.{opened_flat, answered, ran_flat, flat_run_left};
@@ -280,7 +280,7 @@ fn opened_out(o: Result<State, Refusal>) -> FlatOpened
             value: 0,
         },
         Err(q) => {
-            let v = refusal_values::values_of(q);
+            let v = refusals::values_of(q);
             FlatOpened {
                 state: no_state(),
                 refusal: q.number(),
@@ -323,7 +323,7 @@ fn answer_out(n: Counts, answer: Result<Stop, Refusal>) -> FlatAnswer
     match answer {
         Ok(w) => flat_answer(n, stop_number(w), 0, 0, 0),
         Err(q) => {
-            let v = refusal_values::values_of(q);
+            let v = refusals::values_of(q);
             flat_answer(n, 5, q.number(), v.value, v.field)
         }
     }

@@ -10,7 +10,7 @@ use Rattle.refusals.specs.declared.Refusal.{Refusal}
 use Rattle.refusals.specs.Number.{number_of}
 use Rattle.rack.specs.declared.Rack.{Rack}
 use Rattle.rack.specs.Opening.{rack_of, open_left}
-use Rattle.rack_run.specs.Calls.{Call, run_left}
+use Rattle.rack.specs.Calls.{Call, run_left}
 use Rattle.more1090_rack.specs.Flat.{answer_flat, open_flat, run_flat}
 use Rattle.more1090_rack.specs.FlatIsLeft.{OpenIsLeft, RunIsLeft, FlatIsLeft}
 

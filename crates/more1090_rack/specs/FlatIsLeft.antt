@@ -5,7 +5,7 @@ use Rattle.std.specs.Result.{result_unwrap_or, result_err}
 use Rattle.refusals.specs.Number.{number_of}
 use Rattle.rack.specs.declared.Rack.{Rack}
 use Rattle.rack.specs.Opening.{rack_of, open_left}
-use Rattle.rack_run.specs.Calls.{Call, run_left}
+use Rattle.rack.specs.Calls.{Call, run_left}
 use Rattle.more1090_rack.specs.Flat.{open_flat, run_flat}
 
 pub record OpenIsLeft (memory : List Float) (delays : List ℕ) (gains : List Float) : Type 0 where

@@ -55,5 +55,5 @@ pub extern "C" fn more1090_rack_run(
 ) -> Answered
     ensures { record { answered = result; memory = memory.new; room = room.new } ≡ run_flat rack memory.old (record { samples = samples.entry.now; room = room.old }) }
 {
-    answer_flat(rack, rack_run::run(rack, memory, samples, room))
+    answer_flat(rack, rack::run(rack, memory, samples, room))
 }

@@ -2,7 +2,7 @@
 use Rattle.std.specs.Prelude.{Result, Ok, Err}
 use Rattle.refusals.specs.declared.Refusal.{Refusal}
 use Rattle.refusals.specs.Number.{number_of}
-use Rattle.refusal_values.specs.Flat.{values_flat}
+use Rattle.refusals.specs.Flat.{values_flat}
 use Rattle.more1090_single.specs.declared.FlatSingle.{FlatSingle}
 
 unfoldable pub refusal_flat : Refusal → FlatSingle

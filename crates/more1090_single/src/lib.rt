@@ -29,7 +29,7 @@ fn single_out(answer: Result<(), Refusal>) -> FlatSingle
             field: 0,
         },
         Err(q) => {
-            let v = refusal_values::values_of(q);
+            let v = refusals::values_of(q);
             FlatSingle {
                 refusal: q.number(),
                 value: v.value,

@@ -5,7 +5,7 @@ use mathlib.Core.Path.{◌≡◌, sym, ap, ◌∙◌}
 use mathlib.Core.Bool.{cond}
 use lib.Dec.{eqb}
 use lib.Ieee.{Float}
-use Rattle.tape_verdict.specs.declared.Feed.{Feed}
+use Rattle.tape_feed.specs.declared.Feed.{Feed}
 use Rattle.tape_feed.specs.FeedModel.{Fed, fed_of, fed_then, called_of}
 use Rattle.more1090_tape.specs.declared.FlatTape.{FlatTape}
 use Rattle.more1090_tape.specs.Flat.{tape_flat, feed_from, fed_out, flat_fed}

@@ -20,12 +20,12 @@ use Rattle.run_call.specs.StateGenerator.{gen_of}
 use Rattle.refusals.specs.Number.{number_of}
 use Rattle.refusals.specs.declared.Refusal.{Refusal}
 use Rattle.refusals.specs.declared.Refusal.TheVariants.{Tape}
-use Rattle.refusal_values.specs.Flat.{values_flat}
+use Rattle.refusals.specs.Flat.{values_flat}
 use Rattle.run_steps.specs.declared.Stop as Stop
 use Rattle.run_steps.specs.PlanModel.{stop_read}
 use Rattle.run_call.specs.Given.{stop_number}
 use Rattle.run_call.specs.declared.State.{State}
-use Rattle.run_open_checks.specs.Opening.{OpenBuffers, left_by}
+use Rattle.run_open.specs.Opening.{OpenBuffers, left_by}
 use Rattle.more1090_generator.specs.States.{flat_of}
 use Rattle.more1090_generator.proofs.StateBack.{state_back}
 use Rattle.more1090_generator.proofs.Demand3.{refusal_above}
@@ -36,8 +36,8 @@ use Rattle.tape_head.specs.declared.Beginning.{Beginning}
 use Rattle.tape_head.specs.Head.{Begun, taps_s, taps_ac, left_then, head_of}
 use Rattle.tape_head.proofs.Prefix.{head_of_prefix, length_of_prefix}
 use Rattle.tape_head.proofs.Within.{setting_begun}
-use Rattle.tape_verdict.specs.declared.Feed.{Feed}
-use Rattle.tape_verdict.specs.Verdict.{start_of, verdict_of, answer_then, stop_then, verdict_number}
+use Rattle.tape_feed.specs.declared.Feed.{Feed}
+use Rattle.tape_feed.specs.Verdict.{start_of, verdict_of, answer_then, stop_then, verdict_number}
 use Rattle.tape_feed.specs.FeedModel.{feed_after, fed_after, called_of, fed_then, fed_of}
 use Rattle.tape_theory.specs.Fed.{Held, begun, Chunk, lend, keep, fed_all, samples_fed}
 use Rattle.tape_theory.specs.PlainTape.{ending_by, ending_text, fed_ending, fed_text, Cut, noise_in, PlainTape}

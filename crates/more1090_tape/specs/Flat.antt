@@ -4,17 +4,17 @@ use Rattle.constants.specs.Setting.{per_pulse}
 use Rattle.refusals.specs.Number.{number_of}
 use Rattle.refusals.specs.declared.Refusal.{Refusal}
 use Rattle.refusals.specs.declared.Refusal.TheVariants.{Tape}
-use Rattle.refusal_values.specs.Flat.{values_flat}
+use Rattle.refusals.specs.Flat.{values_flat}
 use Rattle.run_call.specs.Given.{stop_number}
 use Rattle.run_steps.specs.declared.Stop as Stop
-use Rattle.run_open_checks.specs.Opening.{OpenBuffers}
+use Rattle.run_open.specs.Opening.{OpenBuffers}
 use Rattle.more1090_generator.specs.States.{flat_of, state_from, no_state}
 use Rattle.tape_sections.specs.Sections.{taps_offset, draws_offset, tape_sps, head_length}
 use Rattle.tape_text.specs.Text.{run_text, refused_text}
 use Rattle.tape_head.specs.declared.Beginning.{Beginning}
 use Rattle.tape_head.specs.Head.{head_of}
-use Rattle.tape_verdict.specs.declared.Feed.{Feed}
-use Rattle.tape_verdict.specs.Verdict.{start_of}
+use Rattle.tape_feed.specs.declared.Feed.{Feed}
+use Rattle.tape_feed.specs.Verdict.{start_of}
 use Rattle.tape_feed.specs.FeedModel.{Fed, called_of}
 use Rattle.more1090_tape.specs.declared.FlatTape.{FlatTape}
 use Rattle.more1090_tape.specs.declared.FlatBeginning.{FlatBeginning}

@@ -5,7 +5,7 @@ use Rattle.run_theory.specs.PlainBench.{join, pairs, draws_of}
 use Rattle.run_theory.specs.Demand3.{Prefix, plain_output}
 use Rattle.run_call.specs.declared.State.{State}
 use Rattle.run_call.specs.StateGenerator.{gen_of}
-use Rattle.run_open_checks.specs.Opening.{OpenBuffers}
+use Rattle.run_open.specs.Opening.{OpenBuffers}
 use Rattle.tape_sections.specs.Sections.{tape_setting}
 use Rattle.tape_head.specs.Head.{run_of}
 use Rattle.tape_theory.specs.Fed.{Chunk}

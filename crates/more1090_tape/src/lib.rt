@@ -9,10 +9,10 @@ use more1090_generator::FlatState;
 use pulse_shape::Filters;
 use refusals::Refusal;
 use run_steps::Stop;
+use tape_feed::Feed;
 use tape_head::Beginning;
 use tape_sections::TAPS_COUNT_OFFSET;
 use tape_text::TEXT_LEN;
-use tape_verdict::Feed;
 
 // A tape's run between two chunks of noise: its state, the draws taken, the records written, and what the last call answered. Refusal 0 is none, stop 5 is none. Each field has 8 bytes, so that there is no padding.
 #[repr(C)]
@@ -68,7 +68,7 @@ fn tape_out(f: Feed) -> FlatTape
             ..given
         },
         Err(q) => {
-            let v = refusal_values::values_of(q);
+            let v = refusals::values_of(q);
             FlatTape {
                 refusal: q.number(),
                 value: v.value,
@@ -97,7 +97,7 @@ fn feed_in(t: FlatTape) -> Feed
 fn refused_tape(q: Refusal) -> FlatTape
     ensures { result ≡ refused_tape q }
 {
-    let v = refusal_values::values_of(q);
+    let v = refusals::values_of(q);
     FlatTape {
         state: more1090_generator::no_state(),
         taken: 0,
@@ -115,7 +115,7 @@ fn beginning_out(b: Result<Beginning, Refusal>) -> FlatBeginning
 {
     match b {
         Ok(b) => FlatBeginning {
-            tape: tape_out(tape_verdict::start(b.state)),
+            tape: tape_out(tape_feed::start(b.state)),
             draws_at: tape_sections::draws_count_offset(b.state.setting) as u64 + 4,
             draws: b.draws,
             noise: b.noise,

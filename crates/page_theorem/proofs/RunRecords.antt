@@ -33,8 +33,8 @@ use Rattle.reply_record.specs.Record.{message_length, record_bytes}
 use Rattle.reply_record.proofs.RecordLength.{record_length_lem}
 use Rattle.run_call.specs.StateGenerator.{filters_of}
 use Rattle.run_call.specs.Buffers.{CallBuffers}
-use Rattle.run_open_checks.specs.Opening as Opening
-use Rattle.run_open_checks.proofs.WhatIsOpened.{opened_run_in_range}
+use Rattle.run_open.specs.Opening as Opening
+use Rattle.run_open.proofs.WhatIsOpened.{opened_run_in_range}
 use Rattle.run_theorem.specs.OpenedRuns.{Run, Opens, gen, bench, bench_calls, records_written}
 use Rattle.run_theorem.proofs.Demand3.{opened_runs}
 use Rattle.record_check.specs.Accepted.{accepted}

@@ -4,3 +4,4 @@ pub mod ModeACLoop
 pub mod ModeSPositions
 pub mod ModeACPositions
 pub mod BasePulses
+pub mod Required

@@ -2,3 +2,4 @@ pub mod Map
 pub mod ModeS
 pub mod ModeAC
 pub mod BasePulses
+pub mod Length

@@ -4,3 +4,6 @@ pub mod Whole
 pub mod Delays
 pub mod Fill
 pub mod LoopSteps
+pub mod Sixteen
+pub mod FirstPair
+pub mod WidenedLevel

@@ -4,3 +4,4 @@ pub mod Convolve
 pub mod Prototype
 pub mod Accepted
 pub mod GroupDelay
+pub mod FirstPair

@@ -1,4 +1,4 @@
-// The shape of a pulse, after pulse_shape.rs: trapezoids and prototypes.
+// The shape of a pulse, after pulse_shape.rs: trapezoids, prototypes and their group delays, and the checks of the lowpass taps that prototypes are made of.
 // Each function is equal to a definition of specs/ on every input.
 #![tactic(auto)]
 
@@ -8,6 +8,8 @@ ghost use Rattle.pulse_shape.specs.Values.{values};
 ghost use Rattle.pulse_shape.specs.Trapezoid.{trapezoid_at, mode_s_trapezoid, mode_ac_trapezoid};
 ghost use Rattle.pulse_shape.specs.Convolve.{convolve_at};
 ghost use Rattle.pulse_shape.specs.Prototype.{first_values};
+ghost use Rattle.pulse_shape.specs.Accepted.{all_within16, mode_s_taps_accepted, mode_ac_taps_accepted};
+ghost use Rattle.pulse_shape.specs.GroupDelay.{crosses, delay_at, group_delay, mode_ac_group_delay};
 
 use constants::{Mode, SamplesPerPulse};
 
@@ -85,5 +87,65 @@ pub fn prototype(setting: SamplesPerPulse, mode: Mode, lowpass: &[f32], out: &mu
         (SamplesPerPulse::Four, Mode::Ac) => convolution(&trapezoid::<278>(40, 40), lowpass, out),
         (SamplesPerPulse::Eight, Mode::S) => convolution(&trapezoid::<614>(76, 128), lowpass, out),
         (SamplesPerPulse::Eight, Mode::Ac) => convolution(&trapezoid::<556>(80, 80), lowpass, out),
+    }
+}
+
+// Whether each value of a prototype is finite and at most 16 in size.
+pub fn all_within_16(values: &[f32]) -> bool
+    ensures { result ≡ all_within16 values.now }
+{
+    values.iter().all(|x| floats::within_f32(*x, 16.0))
+}
+
+// Whether a lowpass has the taps of its mode, each finite and at most 16 in size.
+#[tactic(auto, unfolding(constants::specs::Setting::by_mode, crate::specs::Accepted::mode_s_taps_accepted, crate::specs::Accepted::mode_ac_taps_accepted))]
+pub fn taps_accepted(setting: SamplesPerPulse, mode: Mode, taps: &[f32]) -> bool
+    ensures { result ≡ by_mode mode (mode_s_taps_accepted (per_pulse setting) taps.now) (mode_ac_taps_accepted (per_pulse setting) taps.now) }
+{
+    taps.len() == setting.taps_len(mode) && all_within_16(taps)
+}
+
+#[tactic(auto, unfolding(crate::specs::GroupDelay::crosses))]
+fn crosses_level(level: f32, a: f32, b: f32) -> bool
+    ensures { result ≡ crosses level a b }
+{
+    a <= level && level < b
+}
+
+#[tactic(auto, using(crate::proofs::Delays::sixty_four), unfolding(crate::specs::GroupDelay::delay_at))]
+fn delay_at(level: f32, j: usize, a: f32, b: f32) -> f64
+    ensures { result ≡ delay_at level j a b }
+{
+    let from = std::num::f32_to_f64_with_nan(a);
+    let to = std::num::f32_to_f64_with_nan(b);
+    let at = std::num::f32_to_f64_with_nan(level);
+    let tau = (at - from) / (to - from);
+    (std::num::nearest_usize_to_f64(j) + tau) / 64.0
+}
+
+// Where the level is first crossed, in samples.
+#[tactic(auto, using(crate::proofs::LoopSteps::delay_stop, crate::proofs::LoopSteps::delay_on, crate::proofs::LoopSteps::delay_end), unfolding(crate::specs::GroupDelay::group_delay))]
+fn crossing(level: f32, prototype: &[f32]) -> Option<f64>
+    ensures { result ≡ group_delay level prototype.now }
+{
+    for j in 0..prototype.len().saturating_sub(1) {
+        let a = prototype[j];
+        let b = prototype[j + 1];
+        if crosses_level(level, a, b) {
+            return Some(delay_at(level, j, a, b));
+        }
+    }
+    None
+}
+
+// The delay of a prototype of a mode: the Mode A/C filterbank runs faster than the Mode S one.
+#[tactic(auto, using(crate::proofs::Delays::ratio_is), unfolding(constants::specs::Setting::by_mode, crate::specs::GroupDelay::mode_ac_group_delay))]
+pub fn group_delay(mode: Mode, level: f32, prototype: &[f32]) -> Option<f64>
+    ensures { result ≡ by_mode mode (group_delay level prototype.now) (mode_ac_group_delay level prototype.now) }
+{
+    let delay = crossing(level, prototype)?;
+    match mode {
+        Mode::S => Some(delay),
+        Mode::Ac => Some(delay / (1500.0 / 1450.0)),
     }
 }

@@ -1,3 +1,4 @@
 pub mod Feeds
 pub mod Memory
 pub mod Opening
+pub mod Calls

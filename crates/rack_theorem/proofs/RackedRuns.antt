@@ -16,7 +16,7 @@ use Rattle.run_call.specs.Buffers.{Left, CallBuffers}
 use Rattle.run_theorem.specs.OpenedRuns as Runs
 use Rattle.run_theorem.proofs.Demand3.{opened_runs}
 use Rattle.rack.specs.Feeds.{delayed}
-use Rattle.rack_run.specs.Calls as Rack
+use Rattle.rack.specs.Calls as Rack
 use Rattle.rack_theory.specs.PlainRack as Plain
 use Rattle.rack_theory.specs.OpenedRacks as Racks
 use Rattle.rack_theory.proofs.Delayed.{grows}

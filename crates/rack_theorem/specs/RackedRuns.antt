@@ -8,10 +8,10 @@ use Rattle.run_theory.specs.PlainBench as Bench
 use Rattle.run_theory.specs.Demand3.{Prefix, plain_output}
 use Rattle.run_generator.specs.Instance.{RepresentableDraw}
 use Rattle.run_call.specs.Buffers.{Left, CallBuffers}
-use Rattle.run_open_checks.specs.Opening as Opening
+use Rattle.run_open.specs.Opening as Opening
 use Rattle.run_theorem.specs.OpenedRuns as Runs
 use Rattle.rack.specs.Feeds.{delayed}
-use Rattle.rack_run.specs.Calls as Rack
+use Rattle.rack.specs.Calls as Rack
 use Rattle.rack_theory.specs.OpenedRacks as Racks
 
 -- The rack calls took what the run calls wrote, in whatever parts, refused rack calls among them.

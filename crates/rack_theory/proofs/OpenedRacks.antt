@@ -18,8 +18,8 @@ use Rattle.rack.specs.Opening.{gain_fits, each_fits, checked, delay_row, gain_ro
 use Rattle.rack.proofs.Lists.{length_silent}
 use Rattle.rack.proofs.Checks.{Fits, fits}
 use Rattle.rack.specs.Memory.{held_after}
-use Rattle.rack_run.specs.Calls.{feed_count, lengths_fit, feeds_up_to, rack_after, Call, Left, run_left, runs_left}
-use Rattle.rack_run.proofs.Lengths as Lengths
+use Rattle.rack.specs.Calls.{feed_count, lengths_fit, feeds_up_to, rack_after, Call, Left, run_left, runs_left}
+use Rattle.rack.proofs.Lengths as Lengths
 use Rattle.rack_theory.specs.PlainRack as Plain
 use Rattle.rack_theory.specs.OpenedRacks.{Opened, Opens, calls, is_accepted, all_taken, part_of, all_of_feed, samples_taken, feed_written, seen_of, OpenedRacks}
 use Rattle.rack_theory.proofs.Delayed.{length_delayed, length_new, joined, part}

@@ -10,7 +10,7 @@ use Rattle.rack.specs.Feeds.{silent, scaled, delayed}
 use Rattle.rack.specs.Opening.{delay_row, gain_row}
 use Rattle.rack.proofs.Lists.{drop_silent, drop_scaled}
 use Rattle.rack.specs.Memory.{feed_of, held_after}
-use Rattle.rack_run.specs.Calls.{feed_at, feeds_up_to}
+use Rattle.rack.specs.Calls.{feed_at, feeds_up_to}
 use Rattle.rack_theory.specs.PlainRack.{in_order}
 use Rattle.rack_theory.proofs.Delayed.{drop_take}
 

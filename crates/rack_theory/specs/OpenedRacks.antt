@@ -5,7 +5,7 @@ use Rattle.std.specs.Result.{result_err}
 use Rattle.rack.specs.declared.Rack.{Rack}
 use Rattle.rack.specs.Feeds.{delayed}
 use Rattle.rack.specs.Opening.{open_left}
-use Rattle.rack_run.specs.Calls.{Call, Left, runs_left}
+use Rattle.rack.specs.Calls.{Call, Left, runs_left}
 use Rattle.rack_theory.specs.PlainRack.{Seen, plain_calls}
 
 -- ---- the hypothesis

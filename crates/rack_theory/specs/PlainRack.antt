@@ -4,7 +4,7 @@ use Rattle.std.specs.Float.{nan}
 use Rattle.refusals.specs.declared.Refusal.{Refusal}
 use Rattle.refusals.specs.declared.Refusal.TheVariants.{Length}
 use Rattle.rack.specs.Feeds.{memory_length, delayed}
-use Rattle.rack_run.specs.Calls.{lengths_fit, Call}
+use Rattle.rack.specs.Calls.{lengths_fit, Call}
 
 -- lists in order: the first k of them, joined
 abbrev pub in_order : (ℕ → List Float) → ℕ → List Float

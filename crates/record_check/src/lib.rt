@@ -36,9 +36,9 @@ pub fn accepts(rec: &[u8]) -> bool
     ensures { result ≡ accepted rec.now }
 {
     rec.len() >= RECORD_LEN
-        && le_read_or_zero::number::<u64>(rec, 40) <= LARGEST_FIRST
+        && le_read::number::<u64>(rec, 40) <= LARGEST_FIRST
         && rec[48] < TYPES
-        && le_read_or_zero::number::<u16>(rec, 49) <= LARGEST_COUNT
+        && le_read::number::<u16>(rec, 49) <= LARGEST_COUNT
         && rec[51] == type_length(rec[48])
 }
 

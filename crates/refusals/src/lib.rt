@@ -1,8 +1,9 @@
-// The refusals of the library's calls. specs/ gives the number and values of SPECIFICATION 3.1 for each.
+// The refusals of the library's calls. specs/ gives the number and values of SPECIFICATION 3.1 for each, and the values as two numbers, for callers in C.
 #![tactic(auto)]
 
 ghost use Rattle.std.specs.Prelude.{◌≡◌};
 ghost use Rattle.refusals.specs.Number.{number_of};
+ghost use Rattle.refusals.specs.Flat.{values_flat};
 
 #[derive(Clone, Copy, PartialEq, Eq)]
 pub enum Refusal {
@@ -70,5 +71,26 @@ impl Refusal {
             Refusal::Feeds => 17,
             Refusal::Record(_) => 18,
         }
+    }
+}
+
+// 0 where a refusal has no such value.
+#[derive(Clone, Copy)]
+pub struct Values {
+    pub value: u64,
+    pub field: u64,
+}
+
+#[tactic(auto, unfolding(crate::specs::Flat::values_flat, crate::specs::Number::values_of))]
+pub fn values_of(q: Refusal) -> Values
+    ensures { result ≡ values_flat q }
+{
+    match q {
+        Refusal::Rate(value)
+        | Refusal::Distribution(value)
+        | Refusal::Noise(value)
+        | Refusal::Record(value) => Values { value, field: 0 },
+        Refusal::Draw(draw, field) => Values { value: draw, field },
+        _ => Values { value: 0, field: 0 },
     }
 }

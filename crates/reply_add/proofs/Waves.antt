@@ -19,11 +19,11 @@ use Rattle.reply_samples.specs.Samples.{sample_at, rotated}
 use Rattle.reply_samples.specs.RingModel.{added_at, added_from, added_reply}
 use Rattle.reply_samples.proofs.Ring.{next_ring}
 use Rattle.reply_samples.proofs.AtSlot.{added_here}
-use Rattle.block_clocks.specs.declared.Tick.{Tick}
-use Rattle.block_clocks.specs.declared.Pace.{Pace}
-use Rattle.block_clocks.specs.declared.Ended.{Ended}
-use Rattle.block_clocks.specs.declared.Block.{Block}
-use Rattle.block_clocks.specs.Ticks.{next_tick, ticks, tick_after, written}
+use Rattle.block_values.specs.declared.Tick.{Tick}
+use Rattle.block_values.specs.declared.Pace.{Pace}
+use Rattle.block_values.specs.declared.Ended.{Ended}
+use Rattle.block_values.specs.declared.Block.{Block}
+use Rattle.block_values.specs.Ticks.{next_tick, ticks, tick_after, written}
 use Rattle.block_values.specs.BlockValues.{values_at, values_left}
 use Rattle.block_rotate.specs.BlockSamples.{samples_at}
 use Rattle.reply_add.specs.declared.Wave.{Wave}

@@ -10,11 +10,10 @@ ghost use Rattle.reply_samples.specs.RingModel.{added_from, added_reply, added_c
 ghost use Rattle.reply_add.specs.Signal.{samples_of, count_of};
 ghost use Rattle.reply_add.specs.AddModel.{wave_of, wave_samples, Adds};
 
-use block_clocks::{Block, Ended, Pace, Tick};
+use block_values::{Block, Ended, Pace, Tick};
 use constants::SamplesPerPulse;
-use filterbank::Clock;
-use filterbank_apply::PADDED_LEN;
-use float_narrow::BLOCK;
+use filterbank::{Clock, PADDED_LEN};
+use floats::BLOCK;
 use message::ReplyKind;
 use message_config::{Delays, MessageConfig};
 use pulse_shape::Filters;
@@ -79,7 +78,7 @@ impl Bank<'_> {
         let mut slot = slot;
         let mut count: usize = 0;
         while count < most && at.tick.clock.index < w.limit {
-            at = block_clocks::fill(at.tick, most - count, pace, &mut block);
+            at = block_values::fill_clocks(at.tick, most - count, pace, &mut block);
             block_values::fill(
                 self.setting,
                 self.prototype,
@@ -133,8 +132,8 @@ impl<'a> ReplySignal<'a> {
     {
         let o = self.config.onset(self.setting, self.delays);
         Wave {
-            clock: filterbank_clock::start_clock(self.setting, o.clock_phase),
-            step: filterbank_clock::clock_step(self.setting, o.clock_error),
+            clock: filterbank::start_clock(self.setting, o.clock_phase),
+            step: filterbank::clock_step(self.setting, o.clock_error),
             limit: if len == 0 { 0 } else { len + 6 },
             carrier: Carrier {
                 amplitude: self.amplitude,
@@ -150,7 +149,7 @@ pub fn add_reply(r: ReplySignal, memory: &mut [f32], slot: usize) -> u16
     ensures { (memory.new ≡ added_reply (per_pulse r.entry.setting) memory.old slot (samples_of r.entry)) × (result ≡ added_count (per_pulse r.entry.setting) memory.old slot (count_of r.entry)) }
 {
     let p = reply_pulses::message_to_pulses(r.config.reply);
-    let padded = filterbank_apply::pad_pulses(&p.on[..p.len]);
+    let padded = filterbank::pad_pulses(&p.on[..p.len]);
     let bank = Bank {
         setting: r.setting,
         prototype: r.prototype(),

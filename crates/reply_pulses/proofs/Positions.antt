@@ -14,7 +14,7 @@ use Rattle.pulse_map.specs.Map.{map_of}
 use Rattle.pulse_map.proofs.Marked.{map_length}
 use Rattle.pulse_map.specs.ModeS.{mode_s_pulses, mode_s_length, mode_s_bits}
 use Rattle.pulse_map.specs.ModeAC.{mode_ac_pulses, mode_ac_length}
-use Rattle.pulse_length.specs.Length.{mode_s_num_samples, mode_ac_num_samples}
+use Rattle.pulse_map.specs.Length.{mode_s_num_samples, mode_ac_num_samples}
 use Rattle.reply_pulses.specs.ReplyPulses.{data_of, spi_of, pulses_of_kind, pulses_of, positions_of, num_samples_of_kind, num_samples_of}
 
 kind_on : (k : ReplyKind) (b : List ℕ) → length (pulses_of_kind k b).on ≡ 240

@@ -6,7 +6,7 @@ use Rattle.message.specs.declared.ReplyKind.TheVariants.{Short, Long, ModeAc}
 use Rattle.pulse_map.specs.declared.Pulses.{Pulses}
 use Rattle.pulse_map.specs.ModeS.{mode_s_pulses}
 use Rattle.pulse_map.specs.ModeAC.{mode_ac_pulses}
-use Rattle.pulse_length.specs.Length.{mode_s_num_samples, mode_ac_num_samples}
+use Rattle.pulse_map.specs.Length.{mode_s_num_samples, mode_ac_num_samples}
 
 -- Mode A/C is 2 bytes (SPECIFICATION 7.3): low first, SPI as bit 12
 unfoldable pub data_of : List ℕ → ℕ

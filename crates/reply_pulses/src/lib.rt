@@ -44,8 +44,8 @@ pub fn message_num_samples(setting: SamplesPerPulse, r: Reply) -> usize
     ensures { result ≡ num_samples_of (per_pulse setting) r }
 {
     match r.kind {
-        ReplyKind::Short => pulse_length::mode_s_num_samples(setting, false),
-        ReplyKind::Long => pulse_length::mode_s_num_samples(setting, true),
-        ReplyKind::ModeAc => pulse_length::mode_ac_num_samples(setting, mode_ac_spi(r.bytes)),
+        ReplyKind::Short => pulse_map::mode_s_num_samples(setting, false),
+        ReplyKind::Long => pulse_map::mode_s_num_samples(setting, true),
+        ReplyKind::ModeAc => pulse_map::mode_ac_num_samples(setting, mode_ac_spi(r.bytes)),
     }
 }

@@ -2,7 +2,7 @@
 use Rattle.std.specs.Prelude.{ℕ, List, [], ◌∷◌, length, Float}
 use Rattle.std.specs.Float.{binary32, binary64}
 use Rattle.std.specs.Float.Ieee.{add, mul}
-use Rattle.float_narrow.specs.Narrow.{narrow}
+use Rattle.floats.specs.Narrow.{narrow}
 use Rattle.math.specs.Phase.{phase_wrap_once}
 use Rattle.math.specs.Carrier.{sin_cos}
 use Rattle.message.specs.declared.ReplyKind.{ReplyKind}

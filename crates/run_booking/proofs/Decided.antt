@@ -12,18 +12,18 @@ use Rattle.refusals.specs.Answer.{unless}
 use Rattle.draw.specs.Fault.{first_fault}
 use Rattle.run_theory.specs.Generator.{Generator}
 use Rattle.run_theory.specs.PlainBench as Bench
-use Rattle.run_call_checks.specs.ChecksModel.{fault_read}
-use Rattle.run_call_checks.proofs.Draws.{fault_same}
+use Rattle.run_call.specs.ChecksModel.{fault_read}
+use Rattle.run_call.proofs.Draws.{fault_same}
 use Rattle.settings.specs.Accepted.{setting_at, at_setting}
 use Rattle.run_call.specs.declared.State.{State}
 use Rattle.run_call.specs.StateGenerator.{gen_of}
 use Rattle.run_call.specs.Given.{refusal_given}
-use Rattle.run_booking_walk.specs.declared.Walked.{Walked}
-use Rattle.run_booking_walk.specs.Walk as Walk
-use Rattle.run_booking_walk.specs.Answered.{walk_generator, walked_read}
-use Rattle.run_open_checks.specs.declared.Prepared.{Prepared}
-use Rattle.run_open_checks.specs.Opening.{opened_at, with_prototypes, prepared_read}
-use Rattle.run_open_checks.proofs.OpenedAs.{opened_as, refused_as}
+use Rattle.run_booking.specs.declared.Walked.{Walked}
+use Rattle.run_booking.specs.Walk as Walk
+use Rattle.run_booking.specs.Answered.{walk_generator, walked_read}
+use Rattle.run_open.specs.declared.Prepared.{Prepared}
+use Rattle.run_open.specs.Opening.{opened_at, with_prototypes, prepared_read}
+use Rattle.run_open.proofs.OpenedAs.{opened_as, refused_as}
 use Rattle.run_booking.specs.Booking.{figures_of, draws_then, opened_then, booking_at, booking_of}
 use Rattle.run_booking.specs.Booked.{figures_read, booked_read}
 

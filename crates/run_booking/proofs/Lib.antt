@@ -1,2 +1,4 @@
+mod Step4
+mod Turn
 mod InRange
 mod Decided

@@ -2,7 +2,7 @@
 use Rattle.std.specs.Prelude.{Result, Ok, Err}
 use Rattle.refusals.specs.declared.Refusal.{Refusal}
 use Rattle.std.specs.Prelude.{Float}
-use Rattle.run_booking_walk.specs.Answered.{end_read}
+use Rattle.run_booking.specs.Answered.{end_read}
 use Rattle.run_booking.specs.declared.Figures as Code
 use Rattle.run_booking.specs.Booking.{Figures}
 

@@ -12,9 +12,9 @@ use Rattle.run_theory.specs.PlainBench as Bench
 use Rattle.run_call.specs.declared.State.{State}
 use Rattle.run_call.specs.StateGenerator.{gen_of}
 use Rattle.run_call.specs.Given.{refusal_given}
-use Rattle.run_open_checks.specs.Opening.{opened_at}
+use Rattle.run_open.specs.Opening.{opened_at}
 use Rattle.settings.specs.Accepted.{setting_at, at_setting}
-use Rattle.run_booking_walk.specs.Walk.{End, walk_of}
+use Rattle.run_booking.specs.Walk.{End, walk_of}
 
 -- samples, noise values, records and draws taken, and which draw ends the run or that draws ran out
 pub record Figures (Time : Type 0) : Type 0 where

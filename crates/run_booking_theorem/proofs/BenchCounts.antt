@@ -12,7 +12,7 @@ use Rattle.run_theory.specs.PlainBench.{Refusal, Call, Result, Remaining, remain
 use Rattle.run_theory.proofs.PlainFacts.{length_snoc, replies_append}
 use Rattle.run_theory.proofs.StepFacts.{used_slots, Says, step_says}
 use Rattle.run_theory.proofs.ListClaim.{draws_taken, samples_written, noise_used, records_written}
-use Rattle.run_booking_walk.specs.Walk.{Walk, by_kind, at_draw, walk_from, walk_of}
+use Rattle.run_booking.specs.Walk.{Walk, by_kind, at_draw, walk_from, walk_of}
 use Rattle.run_booking_theorem.proofs.Walked.{walk_on}
 
 module _ (G : Generator) where

@@ -24,13 +24,13 @@ use Rattle.run_generator.proofs.InstanceDemand3.{instance_laws}
 use Rattle.run_call.specs.declared.State.{State}
 use Rattle.run_call.specs.StateGenerator.{filters_of}
 use Rattle.run_call.specs.Buffers.{Left, CallBuffers}
-use Rattle.run_open_checks.specs.Opening as Opening
-use Rattle.run_open_checks.proofs.OpenedSetting.{setting_opened, opened_at_setting}
-use Rattle.run_open_checks.proofs.WhatIsOpened.{opened_run_in_range}
+use Rattle.run_open.specs.Opening as Opening
+use Rattle.run_open.proofs.OpenedSetting.{setting_opened, opened_at_setting}
+use Rattle.run_open.proofs.WhatIsOpened.{opened_run_in_range}
 use Rattle.run_theorem.specs.Seen.{Seen, seen_left, counts_of, seen_result}
 use Rattle.run_theorem.specs.OpenedRuns.{Run, Opens, calls, gen, bench_calls, results, bench, draws_taken, ReachesDone, Demand3}
 use Rattle.run_theorem.proofs.Demand3.{opened_runs}
-use Rattle.run_booking_walk.specs.Walk.{Walk, at_draw, walk_of, walk_from}
+use Rattle.run_booking.specs.Walk.{Walk, at_draw, walk_of, walk_from}
 use Rattle.run_booking_theorem.specs.FinishedRuns.{Totals, added, in_all, Follows, Finished, FinishedRuns}
 use Rattle.run_booking_theorem.proofs.Walked.{walk_ends}
 use Rattle.run_booking_theorem.proofs.BenchCounts.{sum_taken, sum_samples, sum_noise, sum_records, Sums, sums}

@@ -18,7 +18,7 @@ use Rattle.settings.specs.Accepted.{setting_at, at_setting}
 use Rattle.run_call.specs.declared.State.{State}
 use Rattle.run_call.specs.Given.{refusal_given}
 use Rattle.run_call.specs.StateGenerator.{gen_of}
-use Rattle.run_open_checks.specs.Opening.{opened_at}
+use Rattle.run_open.specs.Opening.{opened_at}
 use Rattle.run_booking.specs.Booking.{figures_of, draws_then, opened_then, booking_at, booking_of}
 
 -- ---- draws in range

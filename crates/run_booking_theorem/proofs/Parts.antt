@@ -26,9 +26,9 @@ use Rattle.settings.specs.Accepted.{setting_at}
 use Rattle.run_call.specs.declared.State.{State}
 use Rattle.run_call.specs.Given.{refusal_given}
 use Rattle.run_call.specs.StateGenerator.{filters_of, gen_of}
-use Rattle.run_open_checks.specs.Opening.{opened_at}
-use Rattle.run_open_checks.proofs.OpenedSetting.{at_setting_ok}
-use Rattle.run_booking_walk.specs.Walk.{Walk, End, at_draw, by_kind, walk_from, walk_of}
+use Rattle.run_open.specs.Opening.{opened_at}
+use Rattle.run_open.proofs.OpenedSetting.{at_setting_ok}
+use Rattle.run_booking.specs.Walk.{Walk, End, at_draw, by_kind, walk_from, walk_of}
 use Rattle.run_booking.specs.Booking.{Figures, figures_of, draws_then, opened_then, booking_at, booking_of}
 use Rattle.run_booking_theorem.specs.Parts.{behind, added_to, go_on, and_then, in_parts, WholeDraws, Parts}
 use Rattle.run_booking_theorem.proofs.Walked.{walk_on, walk_out, walk_ends}

@@ -7,7 +7,7 @@ use native.Mathlib.Nat.{zero-add}
 use lib.ListN.{length, length-map}
 use Rattle.run_theory.specs.Generator.{Generator}
 use Rattle.run_theory.specs.PlainRun.{ended, replies, plain_records}
-use Rattle.run_booking_walk.specs.Walk.{Walk, walk_of, walk_from}
+use Rattle.run_booking.specs.Walk.{Walk, walk_of, walk_from}
 use Rattle.run_booking_theorem.specs.PlainWalk.{EndIs, PlainWalk}
 use Rattle.run_booking_theorem.proofs.Walked.{walk_out, walk_ends}
 

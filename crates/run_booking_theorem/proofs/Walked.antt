@@ -7,7 +7,7 @@ use native.Mathlib.Omega.{arith}
 use lib.ListN.{length}
 use Rattle.run_theory.specs.Generator.{Generator}
 use Rattle.run_theory.specs.PlainRun.{Kind, ignored, ends, reply, kind, time_of, ends_by, ended, push, replies}
-use Rattle.run_booking_walk.specs.Walk.{at_draw, ran_out, by_kind, walk_from}
+use Rattle.run_booking.specs.Walk.{at_draw, ran_out, by_kind, walk_from}
 
 module _ (G : Generator) where
   open G use {Draw, Time, after}

@@ -8,9 +8,9 @@ use Rattle.run_theory.specs.Laws.{AllInRange}
 use Rattle.run_generator.specs.Instance.{RepresentableDraw}
 use Rattle.run_call.specs.declared.Counts.{Counts}
 use Rattle.run_call.specs.Buffers.{Left, CallBuffers}
-use Rattle.run_open_checks.specs.Opening as Opening
+use Rattle.run_open.specs.Opening as Opening
 use Rattle.run_theorem.specs.OpenedRuns.{Run, Opens, calls, gen, draws_taken, ReachesDone}
-use Rattle.run_booking_walk.specs.Walk.{at_draw}
+use Rattle.run_booking.specs.Walk.{at_draw}
 use Rattle.run_booking.specs.Booking.{booking_of}
 
 -- draws taken, samples written, noise values used and records written by a list of calls in all

@@ -5,7 +5,7 @@ use Rattle.std.specs.Prelude.{ℕ, ◌+◌, ◌%◌, List, [], ◌∷◌, ◌≡
 use Rattle.draw.specs.Draw.{draw_length}
 use Rattle.run_theory.specs.Each.{Each}
 use Rattle.run_theory.specs.PlainBench.{join}
-use Rattle.run_booking_walk.specs.Walk.{End, at_draw, ran_out}
+use Rattle.run_booking.specs.Walk.{End, at_draw, ran_out}
 use Rattle.run_booking.specs.Booking.{Figures, booking_of}
 
 -- an index of a draw counted from n draws earlier

@@ -2,7 +2,7 @@
 use Rattle.std.specs.Prelude.{ℕ, suc, true, false, List, ◌≡◌, length}
 use Rattle.run_theory.specs.Generator.{Generator}
 use Rattle.run_theory.specs.PlainRun.{time_of, ended, plain_records}
-use Rattle.run_booking_walk.specs.Walk.{End, at_draw, ran_out, walk_of}
+use Rattle.run_booking.specs.Walk.{End, at_draw, ran_out, walk_of}
 
 module _ (G : Generator) where
   open G use {Draw, Time, t0}

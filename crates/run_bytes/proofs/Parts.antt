@@ -14,8 +14,8 @@ use Rattle.reply_record.proofs.Overwritten.{next}
 use Rattle.rack.specs.declared.Rack.{Rack}
 use Rattle.refusals.specs.declared.Refusal.TheVariants.{Length}
 use Rattle.run_call.specs.declared.State.{State}
-use Rattle.tape_floats.specs.Floats.{float_bytes}
-use Rattle.tape_floats.proofs.Rows.{length_float_bytes}
+use Rattle.tape_sections.specs.Floats.{float_bytes}
+use Rattle.tape_sections.proofs.Rows.{length_float_bytes}
 use Rattle.run_bytes.specs.Sums.{sums_of}
 use Rattle.run_bytes.specs.Layout.{head_words, word_bytes, rack_bytes, Held, held_fits, body_of, checked, stored_bytes, stored_length, Saved, save_left}
 use Rattle.run_bytes.proofs.Written.{length_words, words_of_both, whole_written}

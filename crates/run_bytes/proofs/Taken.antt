@@ -7,7 +7,7 @@ use mathlib.Core.List.{List}
 use lib.ListN.{length, get_or, drop}
 use lib.Ieee.{Float}
 use Rattle.constants.specs.Setting.{setting_from}
-use Rattle.tape_floats.specs.Floats.{floats_of}
+use Rattle.tape_sections.specs.Floats.{floats_of}
 use Rattle.run_bytes.specs.declared.Restored.{Restored}
 use Rattle.run_bytes.specs.declared.Unreadable.{Unreadable}
 use Rattle.run_bytes.specs.declared.Unreadable.TheVariants.{Buffers}

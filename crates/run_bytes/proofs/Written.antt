@@ -12,8 +12,8 @@ use borrow.Rule.Slice.PartMut.{put_mid, mid_of, Post-is}
 use Rattle.le_read.specs.LeBytes.{bytes_of, overwritten, put}
 use Rattle.le_read.proofs.Halves.{length_bytes}
 use Rattle.reply_record.proofs.Overwritten.{next_put}
-use Rattle.tape_floats.specs.Floats.{float_bytes}
-use Rattle.tape_floats.proofs.Rows.{length_float_bytes}
+use Rattle.tape_sections.specs.Floats.{float_bytes}
+use Rattle.tape_sections.proofs.Rows.{length_float_bytes}
 use Rattle.run_bytes.specs.Layout.{word_bytes}
 
 pub length_words : (ws : List ℕ) → length (word_bytes ws) ≡ 8 * length ws

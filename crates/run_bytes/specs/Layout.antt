@@ -9,7 +9,7 @@ use Rattle.distributions.specs.declared.CarrierOffset as Carrier
 use Rattle.distributions.specs.declared.CarrierPhase as Phase
 use Rattle.distributions.specs.declared.ClockError as Clock
 use Rattle.le_read.specs.LeBytes.{bytes_of}
-use Rattle.tape_floats.specs.Floats.{float_bytes}
+use Rattle.tape_sections.specs.Floats.{float_bytes}
 use Rattle.rack.specs.declared.Rack.{Rack}
 use Rattle.rack.specs.Feeds.{memory_length}
 use Rattle.refusals.specs.declared.Refusal.{Refusal}

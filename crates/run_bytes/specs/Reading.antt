@@ -11,7 +11,7 @@ use Rattle.distributions.specs.declared.CarrierOffset as Carrier
 use Rattle.distributions.specs.declared.CarrierPhase as Phase
 use Rattle.distributions.specs.declared.ClockError as Clock
 use Rattle.le_read.specs.LeBytes.{number_at}
-use Rattle.tape_floats.specs.Floats.{floats_of}
+use Rattle.tape_sections.specs.Floats.{floats_of}
 use Rattle.rack.specs.declared.Rack.{Rack}
 use Rattle.rack.specs.Feeds.{memory_length}
 use Rattle.run_call.specs.declared.State.{State}

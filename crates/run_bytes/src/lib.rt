@@ -5,14 +5,14 @@ ghost use Rattle.std.specs.Prelude.{◌≡◌, ◌≤◌, ◌<◌, ◌+◌, ◌-
 ghost use Rattle.constants.specs.Setting.{setting_from};
 ghost use Rattle.le_read.specs.LeBytes.{overwritten};
 ghost use Rattle.rack.specs.Feeds.{memory_length};
-ghost use Rattle.tape_floats.specs.Floats.{float_bytes, floats_of};
+ghost use Rattle.tape_sections.specs.Floats.{float_bytes, floats_of};
 ghost use Rattle.run_bytes.specs.Sums.{sums_of};
 ghost use Rattle.run_bytes.specs.Layout.{stored_length, carrier_words, phase_words, clock_words, head_words, word_bytes, rack_bytes, lists_fit, body_of, save_left};
 ghost use Rattle.run_bytes.specs.Reading.{number_of, words_at, carrier_from, phase_from, clock_from, state_of, is_racked, is_head, sums_match, sound, head_of, rack_at, restored_of, restore_left};
 
 use constants::SamplesPerPulse;
 use distributions::{CarrierOffset, CarrierPhase, ClockError};
-use float_encoding::{bits_of, f64_of};
+use floats::{bits_of, f64_of};
 use message_config::Delays;
 use pulse_shape::Filters;
 use rack::{MOST_FEEDS, Rack};
@@ -254,7 +254,7 @@ fn put_floats(floats: &[f32], out: &mut [u8], at: usize)
     requires { at + 4 * length floats.now ≤ length out.old }
     ensures { out.new ≡ overwritten out.old at (float_bytes floats.now) }
 {
-    tape_floats::float_bytes(floats, &mut out[at..at + 4 * floats.len()]);
+    tape_sections::float_bytes(floats, &mut out[at..at + 4 * floats.len()]);
 }
 
 // Both sums of bytes.
@@ -383,7 +383,7 @@ fn words_at(bytes: &[u8], at: usize, out: &mut [u64])
     ensures { out.new ≡ words_at (length out.old) bytes.now at }
 {
     for k in 0..out.len() {
-        out[k] = le_read_or_zero::number::<u64>(bytes, at + 8 * k);
+        out[k] = le_read::number::<u64>(bytes, at + 8 * k);
     }
 }
 
@@ -447,8 +447,8 @@ fn sums_match(bytes: &[u8]) -> bool
 {
     let end = bytes.len() - SUMS_LEN;
     let sums = sums_of(&bytes[..end]);
-    let sum = le_read_or_zero::number::<u64>(bytes, end);
-    let sum_of_sums = le_read_or_zero::number::<u64>(bytes, end + 8);
+    let sum = le_read::number::<u64>(bytes, end);
+    let sum_of_sums = le_read::number::<u64>(bytes, end + 8);
     sum == sums.sum && sum_of_sums == sums.sum_of_sums
 }
 
@@ -512,7 +512,7 @@ fn floats_at(bytes: &[u8], at: usize, out: &mut [f32])
     requires { 4 * length out.old ≤ length bytes.now - at }
     ensures { out.new ≡ floats_of (length out.old) (drop at bytes.now) }
 {
-    tape_floats::floats(bytes.get(at..).unwrap_or(&[]), out);
+    tape_sections::floats(bytes.get(at..).unwrap_or(&[]), out);
 }
 
 // The rack at an offset.
@@ -526,8 +526,8 @@ fn rack_at(bytes: &[u8], at: usize) -> Rack
     words_at(bytes, at + 16, &mut delays);
     floats_at(bytes, at + 144, &mut gains);
     Rack {
-        feeds: le_read_or_zero::number::<u64>(bytes, at),
-        seen: le_read_or_zero::number::<u64>(bytes, at + 8),
+        feeds: le_read::number::<u64>(bytes, at),
+        seen: le_read::number::<u64>(bytes, at + 8),
         delays,
         gains,
     }

@@ -15,7 +15,7 @@ use Rattle.le_read.specs.LeBytes.{le_of, bytes_of, le_at, read_at, number_at}
 use Rattle.le_read.proofs.Halves.{length_bytes}
 use Rattle.le_read.proofs.RoundTrip.{le_bytes}
 use Rattle.run_theory.specs.Each.{Each}
-use Rattle.tape_floats.specs.Floats.{floats_of, float_bytes}
+use Rattle.tape_sections.specs.Floats.{floats_of, float_bytes}
 use Rattle.run_bytes.specs.Layout.{word_bytes}
 use Rattle.run_bytes.specs.Reading.{words_at}
 

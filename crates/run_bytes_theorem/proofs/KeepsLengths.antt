@@ -9,7 +9,7 @@ use lib.Ieee.{Float, nan}
 use Rattle.refusals.specs.declared.Refusal.TheVariants.{Length}
 use Rattle.rack.specs.declared.Rack.{Rack}
 use Rattle.rack.specs.Memory.{held_after}
-use Rattle.rack_run.specs.Calls as Racks
+use Rattle.rack.specs.Calls as Racks
 use Rattle.run_theory.specs.PlainBench as Bench
 use Rattle.run_call_model.specs.Machine as Machine
 use Rattle.run_call.specs.StateGenerator.{gen_of}

@@ -23,7 +23,7 @@ use Rattle.run_call.specs.CallModel.{left_by, call_left, refused_by, run_by, cal
 use Rattle.refusals.specs.declared.Refusal.TheVariants.{Length}
 use Rattle.rack.specs.declared.Rack.{Rack}
 use Rattle.rack.specs.Memory.{held_after}
-use Rattle.rack_run.specs.Calls as Racks
+use Rattle.rack.specs.Calls as Racks
 use Rattle.run_bytes.specs.Layout.{Held}
 use Rattle.run_bytes_theorem.specs.Typed.{ValueOf, AllOf, TypedState, TypedRack, TypedAny, Typed}
 use Rattle.run_bytes_theorem.specs.StoredRuns.{call, feed, called, fed, after}

@@ -31,8 +31,8 @@ use Rattle.run_call.specs.Buffers.{Left, CallBuffers}
 use Rattle.run_call.specs.Calls.{runs_left, call_of}
 use Rattle.run_call.specs.MachineModel.{left_given, runs_given}
 use Rattle.run_call.proofs.RunsAreTheModels.{runs_are}
-use Rattle.run_open_checks.specs.Opening as Opening
-use Rattle.run_open_checks.proofs.WhatIsOpened.{what_is_opened, opened_run_in_range, opened_first}
+use Rattle.run_open.specs.Opening as Opening
+use Rattle.run_open.proofs.WhatIsOpened.{what_is_opened, opened_run_in_range, opened_first}
 use Rattle.run_theorem.specs.OpenedRuns as Runs
 use Rattle.run_theorem.proofs.FiniteSamples.{each_on, finite_53}
 use Rattle.run_bytes_theorem.specs.NoNan.{Finite, NoNan}

@@ -33,9 +33,9 @@ use Rattle.settings.specs.FirstCause as Cause
 use Rattle.settings.proofs.FirstCause.{answered}
 use Rattle.settings.proofs.InRange as Range
 use Rattle.run_call.specs.declared.State.{State}
-use Rattle.run_open_checks.specs.Opening as Opening
-use Rattle.run_open_checks.specs.Opening.{first_state, left_by}
-use Rattle.run_open_checks.proofs.WhatIsOpened.{what_is_opened, opened_run_in_range}
+use Rattle.run_open.specs.Opening as Opening
+use Rattle.run_open.specs.Opening.{first_state, left_by}
+use Rattle.run_open.proofs.WhatIsOpened.{what_is_opened, opened_run_in_range}
 use Rattle.run_theorem.specs.OpenedRuns as Runs
 use Rattle.run_bytes_theorem.specs.Typed.{ValueOf, AllOf, carrier_floats, phase_floats, clock_floats, TypedState, TypedAny, Typed}
 use Rattle.run_bytes_theorem.specs.StoredRuns.{held}

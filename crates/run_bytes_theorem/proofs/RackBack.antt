@@ -9,8 +9,8 @@ use lib.ListN.{length, get_or, drop, length-append}
 use lib.Seq.{drop_at}
 use lib.Ieee.{Float, binary32}
 use Rattle.rack.specs.declared.Rack.{Rack}
-use Rattle.tape_floats.specs.Floats.{floats_of, float_bytes}
-use Rattle.tape_floats.proofs.Rows.{length_float_bytes}
+use Rattle.tape_sections.specs.Floats.{floats_of, float_bytes}
+use Rattle.tape_sections.proofs.Rows.{length_float_bytes}
 use Rattle.run_bytes.specs.Layout.{word_bytes, rack_bytes}
 use Rattle.run_bytes.specs.Reading.{words_at, rack_at}
 use Rattle.run_bytes.proofs.Written.{length_words}

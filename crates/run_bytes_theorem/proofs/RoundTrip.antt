@@ -16,8 +16,8 @@ use borrow.Author.Tests.{eq-eqb, le-ltb}
 use Rattle.constants.specs.Setting.{setting_from}
 use Rattle.le_read.specs.LeBytes.{number_at}
 use Rattle.rack.specs.declared.Rack.{Rack}
-use Rattle.tape_floats.specs.Floats.{floats_of, float_bytes}
-use Rattle.tape_floats.proofs.Rows.{length_float_bytes}
+use Rattle.tape_sections.specs.Floats.{floats_of, float_bytes}
+use Rattle.tape_sections.proofs.Rows.{length_float_bytes}
 use Rattle.run_bytes.specs.declared.Unreadable.{Unreadable}
 use Rattle.run_bytes.specs.declared.Unreadable.TheVariants.{Short, Foreign, Version, Damaged}
 use Rattle.run_bytes.specs.Sums.{sums_of}

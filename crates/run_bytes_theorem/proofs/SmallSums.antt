@@ -10,7 +10,7 @@ use lib.Ieee.{Float, binary32, to_bits}
 use Rattle.le_read.specs.LeBytes.{bytes_of}
 use Rattle.rack.specs.declared.Rack.{Rack}
 use Rattle.run_theory.specs.Each.{Each}
-use Rattle.tape_floats.specs.Floats.{float_bytes}
+use Rattle.tape_sections.specs.Floats.{float_bytes}
 use Rattle.run_bytes_theorem.specs.Damage.{Byte}
 use Rattle.run_bytes_theorem.proofs.EachOf.{each_append}
 use Rattle.run_bytes.specs.Sums.{sums_from, sums_of}

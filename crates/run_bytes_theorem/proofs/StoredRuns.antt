@@ -8,7 +8,7 @@ use mathlib.Core.List.{List, [], ◌∷◌, ◌++◌}
 use lib.Dec.{eqb}
 use lib.ListN.{length}
 use Rattle.rack.specs.declared.Rack.{Rack}
-use Rattle.rack_run.specs.Calls as Racks
+use Rattle.rack.specs.Calls as Racks
 use Rattle.refusals.specs.declared.Refusal.TheVariants.{Length}
 use Rattle.run_call.specs.Buffers.{Left}
 use Rattle.run_call.specs.Calls.{runs_left}

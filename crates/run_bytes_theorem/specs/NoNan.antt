@@ -3,7 +3,7 @@ use Rattle.std.specs.Prelude.{List, ℕ, ◌≡◌, true, Float}
 use Rattle.pulse_shape.specs.Accepted.{all_within16}
 use Rattle.run_theory.specs.Each.{Each}
 use Rattle.run_call.specs.Buffers.{Left, CallBuffers}
-use Rattle.run_open_checks.specs.Opening as Opening
+use Rattle.run_open.specs.Opening as Opening
 use Rattle.run_theorem.specs.OpenedRuns as Runs
 
 pub record Finite (r : Runs.Run) : Type 0 where

@@ -4,13 +4,13 @@ use Rattle.std.specs.Prelude.{Option, Some, None, Result, Ok, Err, true, List, [
 use Rattle.std.specs.Float.{binary32}
 use Rattle.std.specs.Result.{result_unwrap_or}
 use Rattle.rack.specs.declared.Rack.{Rack}
-use Rattle.rack_run.specs.Calls as Racks
+use Rattle.rack.specs.Calls as Racks
 use Rattle.refusals.specs.declared.Refusal.{Refusal}
 use Rattle.run_theory.specs.Demand3.{plain_output, plain_lines}
 use Rattle.run_theory.specs.PlainBench as Bench
 use Rattle.run_call.specs.Buffers.{Left, CallBuffers}
 use Rattle.run_call.specs.CallModel.{run_left}
-use Rattle.run_open_checks.specs.Opening as Opening
+use Rattle.run_open.specs.Opening as Opening
 use Rattle.run_theorem.specs.OpenedRuns as Runs
 use Rattle.run_bytes.specs.declared.Restored.{Restored}
 use Rattle.run_bytes.specs.declared.Unreadable.{Unreadable}

@@ -19,15 +19,15 @@ use Rattle.message_config.specs.declared.MessageConfig.{MessageConfig}
 use Rattle.settings.specs.declared.Distributions.{Distributions}
 use Rattle.draw.specs.Draw.{draw_at}
 use Rattle.draw.specs.Config.{config_of}
-use Rattle.draw_config.specs.Pending.{pending_of, completed_by}
-use Rattle.draw_config.proofs.Message.{completed_is}
+use Rattle.draw.specs.Pending.{pending_of, completed_by}
+use Rattle.draw.proofs.MessageOfDraw.{completed_is}
 use Rattle.reply_record.specs.Record.{record_bytes, record_at}
 use Rattle.reply_samples.specs.declared.Sample.{Sample}
 use Rattle.reply_samples.specs.Samples.{reply_samples, reply_count}
 use Rattle.reply_samples.specs.RingModel.{added_at, added_from, is_slot, added_reply, added_count}
 use Rattle.reply_samples.proofs.Ring.{next_ring}
 use Rattle.reply_samples.proofs.Counts.{samples_counted}
-use Rattle.run_add_reply.specs.RecordedModel.{message_at, memory_with, count_with, records_with}
+use Rattle.run_call.specs.RecordedModel.{message_at, memory_with, count_with, records_with}
 use Rattle.run_generator.specs.Instance.{pair_of, Filters, pulse_samples, instance_of}
 
 module _ (f : Filters) (total : ℕ) where

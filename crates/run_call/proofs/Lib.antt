@@ -1,3 +1,11 @@
+pub mod NoiseInRange
+pub mod Lengths
+pub mod Draws
+mod Rows
+pub mod Stretches
+pub mod BuffersTest
+pub mod AnyDraws
+pub mod Joined
 pub mod Halves
 pub mod Adding
 pub mod Writing

@@ -12,13 +12,13 @@ use Rattle.run_theory.specs.PlainBench as Bench
 use Rattle.refusals.specs.declared.Refusal as Refusal
 use Rattle.run_generator.specs.Instance.{out_of_range}
 use Rattle.run_call.specs.declared.State.{State}
-use Rattle.run_call_checks.specs.NoiseModel.{out_of_range_from, noise_fault_read}
+use Rattle.run_call.specs.NoiseModel.{out_of_range_from, noise_fault_read}
 use Rattle.run_call.specs.declared.Ran.{Ran}
 use Rattle.run_call.specs.StateGenerator.{gen_of}
 use Rattle.run_call.specs.Buffers.{Left}
 use Rattle.run_call.specs.CallModel.{call_left, refused_by, run_by, call_refusal, run_left}
-use Rattle.run_call_checks.specs.Checks.{wrong_memory}
-use Rattle.run_call_checks.specs.ChecksModel.{wrong_buffers, fault_read}
+use Rattle.run_call.specs.Checks.{wrong_memory}
+use Rattle.run_call.specs.ChecksModel.{wrong_buffers, fault_read}
 use Rattle.run_call.specs.Given.{refusal_given}
 
 -- ---- refusal 9

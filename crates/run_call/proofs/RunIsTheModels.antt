@@ -14,7 +14,7 @@ use Rattle.run_call_model.proofs.Progress.{call_state, call_result}
 use Rattle.run_call.specs.declared.State.{State}
 use Rattle.run_call.specs.StateGenerator.{gen_of}
 use Rattle.run_call.specs.CallModel.{left_by, call_left, refused_by, run_by, call_refusal, run_left}
-use Rattle.run_call_checks.specs.Checks.{wrong_memory}
+use Rattle.run_call.specs.Checks.{wrong_memory}
 use Rattle.run_call.specs.MachineModel.{machine_of, ran_given, left_given}
 
 module _ (s : State) (mode_s mode_ac memory : List Float) (c : Bench.Call (gen_of s mode_s mode_ac)) where

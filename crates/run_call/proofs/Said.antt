@@ -21,15 +21,15 @@ use Rattle.run_call_model.specs.Plan.{Plan, stop_at, drain_many, due_many, ignor
 use Rattle.run_call_model.proofs.Progress.{progress_with_samples}
 use Rattle.run_call_model.proofs.Plan as Theory
 use Rattle.run_call_model.proofs.Batched.{next_progress, nearer}
-use Rattle.run_due_samples.specs.DueModel.{DueBuffers, due_of}
-use Rattle.run_due_samples.proofs.AnyDraws.{any_samples, any_memory}
+use Rattle.run_call.specs.DueModel.{DueBuffers, due_of}
+use Rattle.run_call.proofs.AnyDraws.{any_samples, any_memory}
 use Rattle.draw.specs.Draw.{draw_at}
 use Rattle.draw.specs.Config.{time_after, config_of}
-use Rattle.draw_config.specs.Pending.{pending_of}
-use Rattle.draw_config.proofs.Message.{pending_time, pending_start}
+use Rattle.draw.specs.Pending.{pending_of}
+use Rattle.draw.proofs.MessageOfDraw.{pending_time, pending_start}
 use Rattle.message_config.specs.declared.MessageConfig.{MessageConfig}
 use Rattle.reply_record.specs.Record.{record_bytes}
-use Rattle.run_add_reply.specs.RecordedModel.{memory_with, count_with, records_with}
+use Rattle.run_call.specs.RecordedModel.{memory_with, count_with, records_with}
 use Rattle.reply_samples.specs.Samples.{reply_samples}
 use Rattle.run_generator.specs.Instance.{draws}
 use Rattle.run_generator.proofs.InstanceDrawLaws.{line_length}

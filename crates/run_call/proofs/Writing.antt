@@ -9,8 +9,8 @@ use Rattle.constants.specs.Rate.{working_memory}
 use Rattle.constants.specs.Setting.{per_pulse}
 use Rattle.constants.specs.declared.SamplesPerPulse.{SamplesPerPulse}
 use Rattle.le_read.specs.LeBytes.{overwritten}
-use Rattle.run_due_samples.specs.DueModel.{samples_of, clear_of, DueBuffers, due_of}
-use Rattle.run_due_samples.proofs.BuffersTest.{fits_if}
+use Rattle.run_call.specs.DueModel.{samples_of, clear_of, DueBuffers, due_of}
+use Rattle.run_call.proofs.BuffersTest.{fits_if}
 
 made : List Float → List Float → DueBuffers
 made memory output = record { memory = memory; output = output }

@@ -15,7 +15,7 @@ use Rattle.run_call.specs.Buffers.{Left}
 use Rattle.run_theory.specs.PlainBench as Bench
 use Rattle.refusals.specs.declared.Refusal as Refusal
 use Rattle.constants.specs.Setting.{per_pulse}
-use Rattle.run_call_checks.specs.Checks.{wrong_memory}
+use Rattle.run_call.specs.Checks.{wrong_memory}
 
 -- a call before its first step
 unfoldable pub initial_by : State → Progress

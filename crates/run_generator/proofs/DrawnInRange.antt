@@ -12,8 +12,8 @@ use Rattle.float_rounding.proofs.Order.{Le, Signed, round_signed}
 use Rattle.float_rounding.proofs.Val.{Val, neg_val, le_val}
 use Rattle.float_rounding.proofs.Size.{Within, number}
 use Rattle.float_rounding.proofs.Compared.{lt_val}
-use Rattle.float_narrow.specs.Range.{within}
-use Rattle.float_narrow.proofs.Ranges.{val_within}
+use Rattle.floats.specs.Range.{within}
+use Rattle.floats.proofs.Ranges.{val_within}
 use Rattle.math.specs.Phase.{pi}
 use Rattle.math.proofs.Constants.{pi_units, pi_val}
 use Rattle.math.proofs.InRange.{lt→le, within_of_tests}

@@ -12,7 +12,7 @@ use Rattle.constants.specs.Setting.{per_pulse}
 use Rattle.constants.specs.Rate.{prototype_length}
 use Rattle.float_rounding.proofs.AtMost.{AtMost, Rounds, rounds_whole, at_most_within, round_at_most, mul_at_most}
 use Rattle.float_rounding.proofs.Size.{Within}
-use Rattle.float_narrow.specs.Narrow.{narrow}
+use Rattle.floats.specs.Narrow.{narrow}
 use Rattle.math.specs.Phase.{phase_wrap_once}
 use Rattle.math.specs.Carrier.{sin_cos}
 use Rattle.math.proofs.Constants.{pi_units}

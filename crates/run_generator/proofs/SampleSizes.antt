@@ -11,8 +11,8 @@ use lib.Ieee.{Float, nan, inf, fin, binary32, binary64, up, down, of_bits, round
 use lib.Ieee.Fits.{sub-fits, div-fits}
 use Rattle.float_rounding.proofs.AtMost.{AtMost, Rounds, rounds_whole, add_at_most, mul_at_most}
 use Rattle.float_rounding.proofs.Size.{Within}
-use Rattle.float_narrow.specs.Range.{within}
-use Rattle.float_narrow.proofs.Ranges.{within_size}
+use Rattle.floats.specs.Range.{within}
+use Rattle.floats.proofs.Ranges.{within_size}
 use Rattle.math.specs.Phase.{pi, phase_wrap}
 use Rattle.math.proofs.Constants.{pi_units, pi_val}
 use Rattle.math.proofs.InRange.{Between, within_of_tests}

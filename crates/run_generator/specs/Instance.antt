@@ -6,7 +6,7 @@ use Rattle.constants.specs.declared.SamplesPerPulse.{SamplesPerPulse}
 use Rattle.constants.specs.Setting.{per_pulse}
 use Rattle.run_theory.specs.Generator.{Generator, start_from, Pair}
 use Rattle.run_theory.specs.FloatGenerator.{Draws, generator}
-use Rattle.float_narrow.specs.Range.{within}
+use Rattle.floats.specs.Range.{within}
 use Rattle.message_config.specs.declared.Delays.{Delays}
 use Rattle.settings.specs.declared.Distributions.{Distributions}
 use Rattle.settings.specs.declared.MessagesPerSecond.{MessagesPerSecond}

@@ -12,10 +12,10 @@ use Rattle.pulse_shape.specs.Prototype.{mode_s_prototype, mode_ac_prototype}
 use Rattle.pulse_shape.proofs.Whole.{length_prototype}
 use Rattle.run_open.specs.FillModel.{over}
 use Rattle.run_open.proofs.Filling.{over_whole}
-use Rattle.run_open_checks.specs.declared.Prepared.{Prepared}
-use Rattle.run_open_checks.specs.Opening.{OpenBuffers, opened_of, left_by}
-use Rattle.run_open_checks.proofs.OpenedAs.{OpenedAs}
-use Rattle.run_open_checks.proofs.OpenedSetting.{lengths_opened}
+use Rattle.run_open.specs.declared.Prepared.{Prepared}
+use Rattle.run_open.specs.Opening.{OpenBuffers, opened_of, left_by}
+use Rattle.run_open.proofs.OpenedAs.{OpenedAs}
+use Rattle.run_open.proofs.OpenedSetting.{lengths_opened}
 
 -- what `fill` writes into the buffers of an opened run is what opening leaves
 pub filled : (taps_s taps_ac : List Float) (bytes : List ℕ) (l : OpenBuffers) (p : Prepared) {from_s from_ac mode_s mode_ac memory : List Float}

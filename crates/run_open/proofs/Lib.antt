@@ -1,2 +1,9 @@
+pub mod AtSetting
+pub mod Decided
+pub mod FirstCause
+pub mod InUse
+pub mod OpenedAs
+pub mod OpenedSetting
+pub mod WhatIsOpened
 pub mod Filling
 pub mod Filled

@@ -1,1 +1,3 @@
+pub mod Opening
+pub mod FirstCause
 pub mod FillModel

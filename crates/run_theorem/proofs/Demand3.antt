@@ -35,8 +35,8 @@ use Rattle.run_call.specs.CallModel.{run_left}
 use Rattle.run_call.specs.Calls.{call_of, runs_left}
 use Rattle.run_call.specs.MachineModel.{machine_of, state_of, ran_given, left_given, runs_given}
 use Rattle.run_call.proofs.RunsAreTheModels.{given_state, runs_are}
-use Rattle.run_open_checks.specs.Opening as Opening
-use Rattle.run_open_checks.proofs.WhatIsOpened.{opened_run_in_range, opened_first}
+use Rattle.run_open.specs.Opening as Opening
+use Rattle.run_open.proofs.WhatIsOpened.{opened_run_in_range, opened_first}
 use Rattle.run_theorem.specs.Seen.{stopped, refused, answer_seen, seen_left, counts_of, answer_of, seen_result}
 use Rattle.run_theorem.specs.OpenedRuns.{Run, Opens, calls, gen, bench_calls, bench, all_samples, all_records, all_used, all_taken, samples_written, records_written, noise_used, draws_taken, total_added, CountsAdded, ReachesDone, last_state, state_after, Finite53, Demand3, OpenedRuns}
 use Rattle.run_theorem.proofs.FiniteSamples.{opened_finite}

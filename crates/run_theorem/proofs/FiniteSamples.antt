@@ -11,7 +11,7 @@ use lib.Ieee.Bits.{is_true}
 use Rattle.constants.specs.Setting.{per_pulse}
 use Rattle.float_rounding.proofs.AtMost.{AtMost}
 use Rattle.float_rounding.proofs.Order.{fin_le}
-use Rattle.float_narrow.specs.Range.{abs, within}
+use Rattle.floats.specs.Range.{abs, within}
 use Rattle.run_theory.specs.Each.{Each}
 use Rattle.run_theory.specs.Generator.{Generator}
 use Rattle.run_theory.specs.PlainBench as Bench
@@ -21,8 +21,8 @@ use Rattle.pulse_shape.proofs.Whole.{length_prototype}
 use Rattle.run_generator.proofs.SampleSizes.{samples_sized}
 use Rattle.run_call.specs.declared.State.{State}
 use Rattle.run_call.specs.StateGenerator.{filters_of, gen_of}
-use Rattle.run_open_checks.specs.Opening as Opening
-use Rattle.run_open_checks.proofs.WhatIsOpened.{opened_run_in_range, what_is_opened}
+use Rattle.run_open.specs.Opening as Opening
+use Rattle.run_open.proofs.WhatIsOpened.{opened_run_in_range, what_is_opened}
 use Rattle.run_theorem.specs.OpenedRuns.{Finite53}
 
 pub each_on : {X : Type 0} (P Q : X → Type 0) → ((x : X) → P x → Q x) → (xs : List X) → Each P xs → Each Q xs

@@ -15,7 +15,7 @@ use Rattle.run_theory.specs.PlainBench as Bench
 use Rattle.run_theory.specs.Refusals.{Cause}
 use Rattle.run_theory.proofs.Refusals.{refused_for, refused_if}
 use Rattle.constants.specs.Setting.{per_pulse}
-use Rattle.run_call_checks.specs.Checks.{wrong_memory}
+use Rattle.run_call.specs.Checks.{wrong_memory}
 use Rattle.run_call.specs.declared.State.{State}
 use Rattle.run_call.specs.StateGenerator.{gen_of}
 use Rattle.run_call.specs.Buffers.{Left, CallBuffers}

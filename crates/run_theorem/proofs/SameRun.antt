@@ -7,8 +7,8 @@ use lib.Ieee.{Float}
 use Rattle.constants.specs.declared.SamplesPerPulse.{SamplesPerPulse}
 use Rattle.refusals.specs.declared.Refusal.{Refusal}
 use Rattle.run_call.specs.declared.State.{State}
-use Rattle.run_open_checks.specs.Opening.{OpenBuffers, opened_at, opened_of, left_by}
-use Rattle.run_open_checks.proofs.OpenedSetting.{setting_opened, opened_at_setting}
+use Rattle.run_open.specs.Opening.{OpenBuffers, opened_at, opened_of, left_by}
+use Rattle.run_open.proofs.OpenedSetting.{setting_opened, opened_at_setting}
 use Rattle.run_theorem.specs.OpenedRuns.{Run, Opens}
 
 module _ (taps_s taps_ac : List Float) (settings : List ℕ) (given given' : OpenBuffers) where

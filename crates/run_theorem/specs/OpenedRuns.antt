@@ -4,7 +4,7 @@ use Rattle.std.specs.Prelude.{None, Ok, ℕ, zero, suc, ◌+◌, ◌*◌, ◌≤
 use Rattle.std.specs.Float.{fin}
 use Rattle.constants.specs.Rate.{reply_limit}
 use Rattle.constants.specs.Setting.{per_pulse}
-use Rattle.float_narrow.specs.Range.{within}
+use Rattle.floats.specs.Range.{within}
 use Rattle.le_read.specs.LeBytes.{number_at}
 use Rattle.run_theory.specs.Added.{sum_of, whole_of}
 use Rattle.run_theory.specs.Each.{Each}
@@ -18,7 +18,7 @@ use Rattle.run_call.specs.declared.State.{State}
 use Rattle.run_call.specs.StateGenerator.{gen_of}
 use Rattle.run_call.specs.Buffers.{Left, CallBuffers}
 use Rattle.run_call.specs.Calls.{runs_left, call_of}
-use Rattle.run_open_checks.specs.Opening as Opening
+use Rattle.run_open.specs.Opening as Opening
 use Rattle.run_theorem.specs.Seen.{seen_left, seen_result}
 
 -- ---- the hypothesis

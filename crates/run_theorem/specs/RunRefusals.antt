@@ -4,7 +4,7 @@ use Rattle.refusals.specs.declared.Refusal.{Refusal}
 use Rattle.run_theory.specs.PlainBench as Bench
 use Rattle.run_theory.specs.Refusals.{Cause}
 use Rattle.constants.specs.Setting.{per_pulse}
-use Rattle.run_call_checks.specs.Checks.{wrong_memory}
+use Rattle.run_call.specs.Checks.{wrong_memory}
 use Rattle.run_steps.specs.declared.Stop.{Stop}
 use Rattle.run_call.specs.declared.State.{State}
 use Rattle.run_call.specs.StateGenerator.{gen_of}

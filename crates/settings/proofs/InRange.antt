@@ -14,7 +14,7 @@ use lib.Ieee.{Float, nan, inf, fin, binary32, binary64, of_bits, up, down, lt, l
 use lib.Ieee.Fits.{down_pos}
 use lib.Ieee.Bits.{of_bits-fits}
 use lib.Ieee.Scale.{finite}
-use Rattle.float_narrow.specs.Range.{within}
+use Rattle.floats.specs.Range.{within}
 use Rattle.math.specs.Phase.{phase_wrap}
 use Rattle.float_rounding.proofs.Order.{le_fin}
 use Rattle.float_rounding.proofs.Size.{Within}

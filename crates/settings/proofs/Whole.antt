@@ -6,7 +6,7 @@ use native.Mathlib.Omega.{arith}
 use lib.ListN.{length, get_or}
 use lib.Ieee.{Float, binary32, binary64, of_bits}
 use Rattle.le_read.specs.LeBytes.{le_at}
-use Rattle.le_read_floats.specs.FloatReads.{f64_at}
+use Rattle.le_read.specs.FloatReads.{f64_at}
 use Rattle.distributions.specs.declared.RawDistribution.{RawDistribution}
 use Rattle.settings.specs.declared.MessagesPerSecond.{MessagesPerSecond}
 use Rattle.settings.specs.declared.Settings.{Settings}

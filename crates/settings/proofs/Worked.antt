@@ -8,7 +8,7 @@ use mathlib.Core.List.{List, [], ◌∷◌, ◌++◌}
 use lib.Ieee.{binary64, of_bits, of_int, add, lt, le, eq}
 use Rattle.constants.specs.declared.SamplesPerPulse.TheVariants.{Four}
 use Rattle.constants.specs.Setting.{per_pulse}
-use Rattle.float_narrow.specs.Range.{abs, within}
+use Rattle.floats.specs.Range.{abs, within}
 use Rattle.math.specs.Phase.{phase_wrap}
 use Rattle.le_read.specs.LeBytes.{bytes_of, le_of, le_at, read_at}
 use Rattle.distributions.specs.Accepted.{finite_not_negative, up_to, offset_limit, tenth, by_kind, clamped_normal, carrier_offset, carrier_phase, clock_error}

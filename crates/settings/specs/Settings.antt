@@ -3,7 +3,7 @@ use Rattle.std.specs.Prelude.{ℕ, ◌+◌, List, [], ◌∷◌, get_or, Float}
 use Rattle.std.specs.Float.{binary32, binary64}
 use Rattle.std.specs.Float.Ieee.{of_bits}
 use Rattle.le_read.specs.LeBytes.{number_at}
-use Rattle.le_read_floats.specs.FloatReads.{f64_at}
+use Rattle.le_read.specs.FloatReads.{f64_at}
 use Rattle.distributions.specs.declared.RawDistribution.{RawDistribution}
 use Rattle.settings.specs.declared.MessagesPerSecond.{MessagesPerSecond}
 use Rattle.settings.specs.declared.Settings.{Settings}

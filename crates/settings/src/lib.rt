@@ -54,13 +54,13 @@ fn rates_at(s: &[u8], at: usize) -> MessagesPerSecond
     ensures { result ≡ rates_at s.now at }
 {
     MessagesPerSecond {
-        extended_squitter: le_read_or_zero::number::<f64>(s, at),
-        acquisition_squitter: le_read_or_zero::number::<f64>(s, at + 8),
-        short_ap: le_read_or_zero::number::<f64>(s, at + 16),
-        all_call_reply: le_read_or_zero::number::<f64>(s, at + 24),
-        long_ap: le_read_or_zero::number::<f64>(s, at + 32),
-        military_extended_squitter: le_read_or_zero::number::<f64>(s, at + 40),
-        mode_ac: le_read_or_zero::number::<f64>(s, at + 48),
+        extended_squitter: le_read::number::<f64>(s, at),
+        acquisition_squitter: le_read::number::<f64>(s, at + 8),
+        short_ap: le_read::number::<f64>(s, at + 16),
+        all_call_reply: le_read::number::<f64>(s, at + 24),
+        long_ap: le_read::number::<f64>(s, at + 32),
+        military_extended_squitter: le_read::number::<f64>(s, at + 40),
+        mode_ac: le_read::number::<f64>(s, at + 48),
     }
 }
 
@@ -70,9 +70,9 @@ fn raw_distribution_at(s: &[u8], at: usize) -> RawDistribution
     ensures { result ≡ raw_distribution_at s.now at }
 {
     RawDistribution {
-        kind: le_read_or_zero::byte_at(s, at),
-        first: le_read_or_zero::number::<f64>(s, at + 1),
-        second: le_read_or_zero::number::<f64>(s, at + 9),
+        kind: le_read::byte_at(s, at),
+        first: le_read::number::<f64>(s, at + 1),
+        second: le_read::number::<f64>(s, at + 9),
     }
 }
 
@@ -82,13 +82,13 @@ pub fn read(s: &[u8]) -> Settings
     ensures { result ≡ settings_of s.now }
 {
     Settings {
-        seconds: le_read_or_zero::number::<u64>(s, 0),
-        nanoseconds: le_read_or_zero::number::<u32>(s, 8),
+        seconds: le_read::number::<u64>(s, 0),
+        nanoseconds: le_read::number::<u32>(s, 8),
         rates: rates_at(s, 12),
         carrier: raw_distribution_at(s, 68),
         phase: raw_distribution_at(s, 85),
         clock: raw_distribution_at(s, 102),
-        trigger_level: le_read_or_zero::number::<f32>(s, 119),
+        trigger_level: le_read::number::<f32>(s, 119),
     }
 }
 
@@ -103,7 +103,7 @@ pub fn samples_per_pulse(s: &[u8]) -> Result<SamplesPerPulse, Refusal>
     if s.len() != SETTINGS_LEN {
         return Err(Refusal::Length);
     }
-    match le_read_or_zero::byte_at(s, SETTING_OFFSET) {
+    match le_read::byte_at(s, SETTING_OFFSET) {
         4 => Ok(SamplesPerPulse::Four),
         8 => Ok(SamplesPerPulse::Eight),
         _ => Err(Refusal::SamplesPerPulse),
@@ -156,7 +156,7 @@ fn total_of(r: MessagesPerSecond) -> f64
 fn total_fits(total: f64) -> bool
     ensures { result ≡ total_fits total }
 {
-    0.0 < total && float_range::finite(total)
+    0.0 < total && floats::finite(total)
 }
 
 // Refusal 4, or the run's samples and its distributions.

@@ -16,16 +16,16 @@ use Rattle.refusals.specs.declared.Refusal.{Refusal}
 use Rattle.settings.specs.Accepted.{setting_at, at_setting}
 use Rattle.draw.specs.Draw.{picks_at, draw_at}
 use Rattle.draw.specs.Config.{time_after, config_of}
-use Rattle.draw_config.specs.Pending.{pending_of, completed_by}
-use Rattle.draw_config.proofs.Message.{completed_is}
+use Rattle.draw.specs.Pending.{pending_of, completed_by}
+use Rattle.draw.proofs.MessageOfDraw.{completed_is}
 use Rattle.reply_samples.specs.Samples.{reply_samples}
 use Rattle.run_theory.specs.FloatGenerator.{nought}
 use Rattle.run_call_model.proofs.FloatLaws.{nought_bits}
 use Rattle.run_call.specs.declared.State.{State}
-use Rattle.run_open_checks.specs.declared.Prepared.{Prepared}
-use Rattle.run_open_checks.specs.Opening.{opened_at}
-use Rattle.run_open_checks.proofs.OpenedAs.{OpenedAs}
-use Rattle.run_open_checks.proofs.InUse.{used}
+use Rattle.run_open.specs.declared.Prepared.{Prepared}
+use Rattle.run_open.specs.Opening.{opened_at}
+use Rattle.run_open.proofs.OpenedAs.{OpenedAs}
+use Rattle.run_open.proofs.InUse.{used}
 use Rattle.single_add.specs.StretchModel.{stretch_of}
 use Rattle.single_theory.specs.Single.{lengths_checked, values_checked, opened_then, single_at, single_run, left_in, single_output}
 use Rattle.single_theory.proofs.Count.{accepted_is}

@@ -21,7 +21,7 @@ use Rattle.float_rounding.proofs.Units.{G, G-le, Units}
 use Rattle.float_rounding.proofs.More.{sub_all, nonneg, sub_is}
 use Rattle.float_rounding.proofs.Val.{Val, val_units, neg_val}
 use Rattle.float_rounding.proofs.Size.{Within, units_within, le_or_lt}
-use Rattle.float_narrow.specs.Ceil.{ceil_signed}
+use Rattle.floats.specs.Ceil.{ceil_signed}
 use Rattle.math.proofs.InRange.{tests_of_within}
 use Rattle.message_config.specs.declared.Delays.{Delays}
 use Rattle.message_config.specs.declared.MessageConfig.{MessageConfig}

@@ -45,8 +45,8 @@ use Rattle.run_generator.proofs.FiltersInRange.{FiltersInRange}
 use Rattle.run_generator.proofs.InstanceDrawLaws.{time_in_range}
 use Rattle.run_call.specs.declared.State.{State}
 use Rattle.run_call.specs.StateGenerator.{filters_of}
-use Rattle.run_open_checks.specs.Opening.{opened_at}
-use Rattle.run_open_checks.proofs.AtSetting.{opened_at_in_range}
+use Rattle.run_open.specs.Opening.{opened_at}
+use Rattle.run_open.proofs.AtSetting.{opened_at_in_range}
 use Rattle.single_add.specs.Stretch.{first_reached}
 use Rattle.single_add.specs.StretchModel.{stretch_of}
 use Rattle.single_add.proofs.Window.{stretch_is, stretch_past}

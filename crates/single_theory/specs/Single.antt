@@ -19,11 +19,11 @@ use Rattle.draw.specs.Config.{time_after, config_of}
 use Rattle.reply_samples.specs.Samples.{reply_samples}
 use Rattle.run_theory.specs.FloatGenerator.{nought}
 use Rattle.run_generator.specs.Instance.{Filters, pulse_samples}
-use Rattle.run_call_checks.specs.NoiseModel.{out_of_range_from}
+use Rattle.run_call.specs.NoiseModel.{out_of_range_from}
 use Rattle.run_call.specs.declared.State.{State}
 use Rattle.run_call.specs.StateGenerator.{filters_of}
 use Rattle.run_call.specs.Given.{refusal_given}
-use Rattle.run_open_checks.specs.Opening.{opened_at}
+use Rattle.run_open.specs.Opening.{opened_at}
 use Rattle.single_add.specs.Stretch.{scaled_noise, with_reply}
 
 -- ---- the samples

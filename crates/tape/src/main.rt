@@ -4,9 +4,9 @@
 
 use constants::RECORD_LEN;
 use refusals::Refusal;
+use tape_feed::Outcome;
 use tape_sections::MAX_RECORDS_LEN;
 use tape_text::TEXT_LEN;
-use tape_verdict::Outcome;
 
 const NOT_TAKEN: &str = "tape: standard output: write failed";
 

@@ -4,7 +4,7 @@ use lib.Seq.{drop-nil, drop-length}
 use lib.Ieee.{Float}
 use Rattle.run_call.specs.declared.Ran.{Ran}
 use Rattle.run_call.specs.CallModel.{run_left}
-use Rattle.tape_verdict.specs.declared.Feed.{Feed}
+use Rattle.tape_feed.specs.declared.Feed.{Feed}
 use Rattle.tape_feed.specs.FeedModel.{feed_after, fed_after, called_of}
 
 -- ---- offsets

@@ -6,7 +6,7 @@ use Rattle.std.specs.Prelude.{ℕ, ◌+◌, ◌*◌, ◌%◌, ◌^◌, List, ◌
 use Rattle.run_call.specs.declared.Ran.{Ran}
 use Rattle.run_call.specs.Buffers.{Left}
 use Rattle.run_call.specs.CallModel.{run_left}
-use Rattle.tape_verdict.specs.declared.Feed.{Feed}
+use Rattle.tape_feed.specs.declared.Feed.{Feed}
 
 -- a run so far, and its buffers for writing
 pub record Fed : Type 0 where

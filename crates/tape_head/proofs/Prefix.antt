@@ -22,8 +22,8 @@ use Rattle.settings.specs.Settings.{settings_length, settings_of}
 use Rattle.settings.specs.Accepted.{setting_at, at_setting, accepted_of}
 use Rattle.draw.specs.Fault.{first_fault}
 use Rattle.run_call.specs.declared.State.{State}
-use Rattle.run_open_checks.specs.Opening.{OpenBuffers, opened_of, left_by}
-use Rattle.tape_floats.specs.Floats.{floats_of}
+use Rattle.run_open.specs.Opening.{OpenBuffers, opened_of, left_by}
+use Rattle.tape_sections.specs.Floats.{floats_of}
 use Rattle.tape_sections.specs.Sections.{taps_offset, taps_count, draws_offset, noise_offset, count_then, section_at, tape_setting, tape_sps, length_then, head_length_at, head_length}
 use Rattle.tape_sections.proofs.Counts.{between, section_of, counted}
 use Rattle.tape_sections.proofs.FirstBytes.{setting_first}

@@ -20,12 +20,12 @@ use Rattle.draw.specs.Fault.{first_fault}
 use Rattle.run_call.specs.declared.State.{State}
 use Rattle.run_theory.specs.Zeros.{zeros}
 use Rattle.run_open.specs.FillModel.{over}
-use Rattle.run_open_checks.specs.Opening.{OpenBuffers, opened_for, opened_of, with_prototypes, prepared_read, left_by}
-use Rattle.run_open_checks.specs.declared.Prepared.{Prepared}
-use Rattle.run_open_checks.proofs.OpenedAs.{OpenedAs, opened_as, refused_as}
+use Rattle.run_open.specs.Opening.{OpenBuffers, opened_for, opened_of, with_prototypes, prepared_read, left_by}
+use Rattle.run_open.specs.declared.Prepared.{Prepared}
+use Rattle.run_open.proofs.OpenedAs.{OpenedAs, opened_as, refused_as}
 use Rattle.run_open.proofs.Filled.{filled}
-use Rattle.tape_floats.specs.Floats.{floats_of}
-use Rattle.tape_floats.proofs.Rows.{length_floats}
+use Rattle.tape_sections.specs.Floats.{floats_of}
+use Rattle.tape_sections.proofs.Rows.{length_floats}
 use Rattle.tape_sections.specs.Sections.{taps_offset, taps_count, draws_offset, section_at}
 use Rattle.tape_sections.proofs.Counts.{counted}
 use Rattle.tape_head.specs.declared.Beginning.{Beginning}

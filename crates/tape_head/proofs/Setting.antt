@@ -15,8 +15,8 @@ use Rattle.constants.specs.declared.SamplesPerPulse.TheVariants.{Four, Eight}
 use Rattle.settings.specs.Settings.{settings_length}
 use Rattle.settings.specs.Accepted.{setting_by, setting_at}
 use Rattle.run_call.specs.declared.State.{State}
-use Rattle.run_open_checks.specs.Opening.{OpenBuffers}
-use Rattle.run_open_checks.proofs.OpenedSetting.{at_setting_ok, setting_opened}
+use Rattle.run_open.specs.Opening.{OpenBuffers}
+use Rattle.run_open.proofs.OpenedSetting.{at_setting_ok, setting_opened}
 use Rattle.constants.specs.Setting.{setting_from}
 use Rattle.tape_sections.specs.Sections.{tape_setting, tape_sps, section_at}
 use Rattle.tape_head.specs.declared.Beginning.{Beginning}

@@ -11,7 +11,7 @@ use borrow.Author.Tests.{leb-true}
 use Rattle.le_read.specs.LeBytes.{le_at, read_at, inside}
 use Rattle.draw.specs.Fault.{first_fault}
 use Rattle.run_call.specs.declared.State.{State}
-use Rattle.run_open_checks.specs.Opening.{OpenBuffers}
+use Rattle.run_open.specs.Opening.{OpenBuffers}
 use Rattle.tape_sections.specs.Sections.{draws_offset, noise_offset, section_at, tape_setting, tape_sps}
 use Rattle.tape_sections.proofs.Counts.{counted}
 use Rattle.tape_head.specs.declared.Beginning.{Beginning}

@@ -3,7 +3,7 @@
 
 ghost use Rattle.std.specs.Prelude.{◌≡◌, ◌+◌, ◌*◌, ◌≤◌, Some, length, take};
 ghost use Rattle.constants.specs.Setting.{per_pulse};
-ghost use Rattle.run_open_checks.specs.Opening.{opened_for, with_prototypes, prepared_read};
+ghost use Rattle.run_open.specs.Opening.{opened_for, with_prototypes, prepared_read};
 ghost use Rattle.settings.specs.Settings.{settings_length};
 ghost use Rattle.tape_sections.specs.Sections.{most_draws, taps_count, draws_offset, section_at};
 ghost use Rattle.tape_head.specs.Head.{setting_then, noise_then, draws_then, taps, taps_s, taps_ac, settings_bytes, early_of, head_of};
@@ -12,7 +12,7 @@ use constants::{DRAW_LEN, Mode, SamplesPerPulse};
 use pulse_shape::Filters;
 use refusals::Refusal;
 use run_call::State;
-use run_open_checks::{Lengths, Prepared};
+use run_open::{Lengths, Prepared};
 pub use tape_sections::head_length;
 use tape_sections::{
     DRAW_SIZE, MAX_DRAWS, MAX_TAPS_LEN, SETTINGS_SIZE, TAP_SIZE, TAPS_COUNT_OFFSET, TAPS_OFFSET,
@@ -49,7 +49,7 @@ fn check_draws(state: State, n: u64, tape: &[u8]) -> Result<Beginning, Refusal>
 {
     let at = tape_sections::draws_count_offset(state.setting) + 4;
     let draws = &tape[at..at + DRAW_LEN * n as usize];
-    match draw_fields::first_fault(draws, state.rates, state.distributions) {
+    match draw::first_fault(draws, state.rates, state.distributions) {
         None => noise_count(state, n, tape),
         Some((k, field)) => Err(Refusal::Draw(k, field)),
     }
@@ -73,7 +73,7 @@ fn read_taps(setting: SamplesPerPulse, tape: &[u8]) -> [f32; MAX_TAPS_LEN]
 {
     let n = tape_sections::taps_len(setting);
     let mut values = [0.0f32; MAX_TAPS_LEN];
-    tape_floats::floats(&tape[TAPS_OFFSET..], &mut values[..n]);
+    tape_sections::floats(&tape[TAPS_OFFSET..], &mut values[..n]);
     values
 }
 
@@ -90,7 +90,7 @@ fn prepared(setting: SamplesPerPulse, tape: &[u8], lengths: Lengths) -> Result<P
         mode_s: &all[..of_mode_s],
         mode_ac: &all[of_mode_s..],
     };
-    run_open_checks::prepare(&tape[4..TAPS_COUNT_OFFSET], taps, lengths)
+    run_open::prepare(&tape[4..TAPS_COUNT_OFFSET], taps, lengths)
 }
 
 // Refusals 1 to 4 and 14 of the settings, then the taps' count and length.

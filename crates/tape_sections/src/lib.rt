@@ -1,12 +1,38 @@
-// The counts of a tape's sections: a section's count and length, and how many bytes stand before the noise. Each public function is equal to a definition of specs/ on every input.
+// The sections of a tape: a section's count and length, how many bytes stand before the noise, and rows of f32 values in bytes. Each public function is equal to a definition of specs/ on every input.
 #![tactic(auto)]
 
-ghost use Rattle.std.specs.Prelude.{◌≡◌, ◌+◌, ◌*◌, ◌≤◌, ◌<◌, ◌&&◌, leb};
+ghost use Rattle.std.specs.Prelude.{◌≡◌, ◌++◌, ◌/◌, min, length, take, drop, ◌+◌, ◌*◌, ◌≤◌, ◌<◌, ◌&&◌, leb};
+ghost use Rattle.le_read.specs.LeBytes.{overwritten};
+ghost use Rattle.tape_sections.specs.Floats.{floats_of, float_bytes};
 ghost use Rattle.constants.specs.Setting.{per_pulse};
 ghost use Rattle.tape_sections.specs.Sections.{taps_count, draws_offset, section_at, tape_setting, tape_sps, head_length};
 
 use constants::{DRAW_LEN, SamplesPerPulse};
 use settings::SETTINGS_LEN;
+
+// As many values as the bytes hold and there is room for; their number.
+#[tactic(auto, unfolding(crate::specs::Floats::floats_of), using(crate::proofs::Rows::read_next))]
+pub fn floats(bytes: &[u8], out: &mut [f32]) -> usize
+    ensures { (result ≡ min (length bytes.now / 4) (length out.old)) × (out.new ≡ floats_of result bytes.now ++ drop result out.old) }
+{
+    let n = (bytes.len() / 4).min(out.len());
+    for k in 0..n {
+        out[k] = le_read::number::<f32>(bytes, 4 * k);
+    }
+    n
+}
+
+// The bytes of as many values as there is room for; the number of values.
+#[tactic(auto, unfolding(crate::specs::Floats::float_bytes), using(crate::proofs::Rows::write_next, reply_record::proofs::Overwritten::none_overwritten))]
+pub fn float_bytes(values: &[f32], out: &mut [u8]) -> usize
+    ensures { (result ≡ min (length values.now) (length out.old / 4)) × (out.new ≡ overwritten out.old 0 (float_bytes (take result values.now))) }
+{
+    let n = values.len().min(out.len() / 4);
+    for k in 0..n {
+        le_write::put::<f32>(out, 4 * k, values[k]);
+    }
+    n
+}
 
 // The numbers that the system gives standard input and standard error.
 pub const STDIN_FILENO: i32 = 0;
@@ -89,7 +115,7 @@ pub fn draws_count_offset(setting: SamplesPerPulse) -> usize
 pub fn tape_setting(tape: &[u8]) -> SamplesPerPulse
     ensures { result ≡ tape_setting tape.now }
 {
-    SamplesPerPulse::from_number(u64::from(le_read_or_zero::byte_at(tape, TAPS_COUNT_OFFSET - 1)))
+    SamplesPerPulse::from_number(u64::from(le_read::byte_at(tape, TAPS_COUNT_OFFSET - 1)))
 }
 
 // How many bytes of a tape stand before its noise, as those up to its draws' count say.

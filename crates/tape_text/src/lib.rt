@@ -106,14 +106,9 @@ fn put_line(rec: &[u8], out: &mut [u8], at: usize) -> usize
     requires { (66 ≤ length rec.now) × (at + 92 ≤ length out.old) }
     ensures { Put (line_of rec.now) out.old at out.new result × (result ≤ at + 92) }
 {
-    let a = put_number(le_read_or_zero::number::<u64>(rec, 40), 32, out, at);
+    let a = put_number(le_read::number::<u64>(rec, 40), 32, out, at);
     let b = put_number(u64::from(rec[48]), 32, out, a);
-    let c = put_number(
-        u64::from(le_read_or_zero::number::<u16>(rec, 49)),
-        32,
-        out,
-        b,
-    );
+    let c = put_number(u64::from(le_read::number::<u16>(rec, 49)), 32, out, b);
     put_message(rec, out, c)
 }
 

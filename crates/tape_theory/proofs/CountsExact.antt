@@ -23,7 +23,7 @@ use Rattle.run_call.specs.declared.State.{State}
 use Rattle.run_call.specs.Buffers.{Left}
 use Rattle.run_call.specs.CallModel.{left_by, call_left, refused_by, run_by, call_refusal, run_left}
 use Rattle.run_call.specs.StateGenerator.{gen_of}
-use Rattle.tape_verdict.specs.Verdict.{start_of}
+use Rattle.tape_feed.specs.Verdict.{start_of}
 use Rattle.tape_feed.specs.FeedModel.{feed_after, fed_after, called_of, fed_then, fed_of}
 use Rattle.tape_theory.specs.Fed.{Held, begun, Chunk, lend, keep, fed_all, left_for}
 

@@ -9,11 +9,11 @@ use lib.Ieee.{Float}
 use Rattle.refusals.specs.declared.Refusal as Refusal
 use Rattle.run_call.specs.Buffers.{Left}
 use Rattle.run_call.specs.Calls.{runs_left}
-use Rattle.run_open_checks.specs.Opening as Opening
+use Rattle.run_open.specs.Opening as Opening
 use Rattle.run_theorem.specs.Seen.{seen_left, seen_result}
 use Rattle.run_theorem.specs.OpenedRuns.{Run, Opens, results}
 use Rattle.run_theorem.proofs.Demand3.{opened_runs}
-use Rattle.tape_verdict.specs.Verdict.{start_of}
+use Rattle.tape_feed.specs.Verdict.{start_of}
 use Rattle.tape_feed.specs.FeedModel.{Fed, feed_after, fed_after, called_of, fed_then, fed_of}
 use Rattle.tape_theory.specs.Fed.{Held, begun, Chunk, lend, keep, fed_all, lent_for, left_for, held_after, lents, lefts, feed_lefts}
 

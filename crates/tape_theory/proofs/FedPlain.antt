@@ -21,7 +21,7 @@ use Rattle.run_call_model.proofs.InStep.{Matches}
 use Rattle.run_call.specs.Given.{stop_given, refusal_given}
 use Rattle.refusals.specs.Number.{number_of}
 use Rattle.tape_feed.specs.FeedModel.{Fed}
-use Rattle.tape_verdict.specs.Verdict.{stop_then, answer_then, verdict_of, verdict_number}
+use Rattle.tape_feed.specs.Verdict.{stop_then, answer_then, verdict_of, verdict_number}
 use Rattle.tape_theory.specs.Fed.{Held, Chunk, lend, keep, fed_all}
 use Rattle.tape_theory.specs.PlainTape.{Ending, ending_by, ending_text, out_of_range_in, plain_done, plain_verdict, plain_ending, plain_text, fed_ending, fed_text, Roomy, Cut, noise_in}
 use Rattle.tape_theory.proofs.FedIsRun.{refused_stays}

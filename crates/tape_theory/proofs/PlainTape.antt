@@ -1,5 +1,5 @@
 -- `plain-tape`: what is claimed of a tape holds of each tape whose head begins a run: fed its noise in any cut, it ends, prints and gives what the plain run on all its draws and noise does (`PlainTape` of specs/).
--- `text-alike`, `samples-alike`: so two ways of cutting print and give the same. `section-ends`: so what `tape_stream::feed_section` leaves ends as the plain run does.
+-- `text-alike`, `samples-alike`: so two ways of cutting print and give the same. `section-ends`: so what `tape_run::feed_section` leaves ends as the plain run does.
 use Rattle.std.specs.Prelude.{None, Result, Ok}
 use Rattle.refusals.specs.declared.Refusal.{Refusal}
 use Prim.Native.Nat.{ℕ, ◌+◌, ◌-◌, ◌*◌, ◌/◌, ◌≤◌}
@@ -21,19 +21,19 @@ use Rattle.run_theory.specs.Laws.{Laws}
 use Rattle.run_theory.specs.Demand3.{Prefix, plain_output}
 use Rattle.run_call_model.specs.Machine as Machine
 use Rattle.run_generator.proofs.InstanceDemand3.{instance_laws}
-use Rattle.run_call_checks.specs.ChecksModel.{fault_read}
-use Rattle.run_call_checks.proofs.Draws.{fault_same}
+use Rattle.run_call.specs.ChecksModel.{fault_read}
+use Rattle.run_call.proofs.Draws.{fault_same}
 use Rattle.run_steps.specs.declared.Stop as Stop
 use Rattle.run_call.specs.declared.State.{State}
 use Rattle.run_call.specs.StateGenerator.{filters_of, gen_of}
 use Rattle.run_call.specs.Given.{stop_given}
-use Rattle.run_open_checks.specs.Opening as Opening
-use Rattle.run_open_checks.proofs.WhatIsOpened.{opened_run_in_range, opened_first}
+use Rattle.run_open.specs.Opening as Opening
+use Rattle.run_open.proofs.WhatIsOpened.{opened_run_in_range, opened_first}
 use Rattle.tape_sections.specs.Sections.{draws_offset, tape_sps}
 use Rattle.tape_head.specs.declared.Beginning.{Beginning}
 use Rattle.tape_head.specs.Head.{run_of, taps_s, taps_ac, settings_bytes, opened_from, left_then, head_of}
 use Rattle.tape_head.proofs.Within.{draw_bytes, Shown, head_shown, setting_begun}
-use Rattle.tape_verdict.specs.Verdict.{start_of}
+use Rattle.tape_feed.specs.Verdict.{start_of}
 use Rattle.tape_theory.specs.Fed.{Held, Chunk, begun, fed_all, samples_fed}
 use Rattle.tape_theory.specs.PlainTape.{plain_ending, plain_text, fed_ending, fed_text, Cut, noise_in, FedCut, PlainTape}
 use Rattle.tape_theory.proofs.FedCall.{Tape, standing}
@@ -154,7 +154,7 @@ module _ (s : State) (mode_s mode_ac memory : List Float) (draws : List ℕ) (pl
       ∙ ap (λ (noise : List Float). plain_output (gen_of s mode_s mode_ac) (Bench.draws_of (gen_of s mode_s mode_ac) draws) (Bench.pairs noise)) same
       ∙ sym (plain.all_samples_lem records' room' c' cs' cut' done')
 
--- ---- and a run that was fed a whole section, as the contract of `tape_stream::feed_section` has it, ends as the plain run on that many noise values does, and prints its text
+-- ---- and a run that was fed a whole section, as the contract of `tape_run::feed_section` has it, ends as the plain run on that many noise values does, and prints its text
 module _ (s : State) (mode_s mode_ac memory : List Float) (draws : List ℕ) (plain : PlainTape s mode_s mode_ac memory draws) (records : List ℕ) (room : 66 * (length draws / 65) ≤ length records) (count : ℕ) (f : Held) where
   abbrev G' : Generator
   G' = gen_of s mode_s mode_ac

@@ -8,8 +8,8 @@ use lib.Seq.{drop_at, take-append-le, drop-append-le, length-take-le}
 use lib.Ieee.{Float, binary32, of_bits}
 use Rattle.le_read.specs.LeBytes.{le_of, le_at}
 use Rattle.run_theory.specs.PlainBench.{join}
-use Rattle.tape_floats.specs.Floats.{floats_of}
-use Rattle.tape_floats.proofs.Rows.{floats_add}
+use Rattle.tape_sections.specs.Floats.{floats_of}
+use Rattle.tape_sections.proofs.Rows.{floats_add}
 use Rattle.tape_theory.specs.Fed.{Chunk}
 use Rattle.tape_theory.specs.PlainTape.{noise_in}
 use Rattle.tape_theory.specs.TapeText.{Parts}

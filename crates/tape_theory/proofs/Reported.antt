@@ -24,18 +24,18 @@ use Rattle.run_theory.specs.PlainBench.{draws_of}
 use Rattle.run_call_model.proofs.FlatLists.{length_draws}
 use Rattle.run_call.specs.declared.State.{State}
 use Rattle.run_call.specs.StateGenerator.{gen_of}
-use Rattle.run_open_checks.specs.Opening.{OpenBuffers, left_by}
-use Rattle.run_open_checks.specs.FirstCause.{BuffersFit}
+use Rattle.run_open.specs.Opening.{OpenBuffers, left_by}
+use Rattle.run_open.specs.FirstCause.{BuffersFit}
 use Rattle.settings.specs.Accepted.{setting_at}
 use Rattle.tape_head.specs.declared.Beginning.{Beginning}
 use Rattle.tape_sections.specs.Sections.{draws_offset, tape_setting, tape_sps}
 use Rattle.tape_head.specs.Head.{run_of, taps_s, taps_ac, settings_bytes, Begun, left_then, head_of}
 use Rattle.tape_head.proofs.Setting.{setting_is}
 use Rattle.tape_head.proofs.Within.{head_within, setting_begun}
-use Rattle.tape_verdict.specs.declared.Feed.{Feed}
-use Rattle.tape_verdict.specs.declared.SectionEnd as SectionEnd
-use Rattle.tape_verdict.specs.declared.Outcome as Outcome
-use Rattle.tape_verdict.specs.Verdict.{is_cut_short, start_of, verdict_of, verdict_number, judged_of, outcome_of, outcome_done}
+use Rattle.tape_feed.specs.declared.Feed.{Feed}
+use Rattle.tape_feed.specs.declared.SectionEnd as SectionEnd
+use Rattle.tape_feed.specs.declared.Outcome as Outcome
+use Rattle.tape_feed.specs.Verdict.{is_cut_short, start_of, verdict_of, verdict_number, judged_of, outcome_of, outcome_done}
 use Rattle.tape_theory.specs.Fed.{Held, begun}
 use Rattle.tape_theory.specs.PlainTape.{Ending, refused, ending_by, ending_text, plain_ending, fed_ending, fed_text, FedCut}
 use Rattle.tape_theory.specs.TapeText.{lent_by_program, draws_section}

@@ -10,7 +10,7 @@ use lib.ListN.{length, take, length-append}
 use lib.Seq.{length-take-le}
 use lib.Ieee.{Float}
 use borrow.Author.Tests.{ltb-false}
-use Rattle.tape_verdict.specs.declared.Feed.{Feed}
+use Rattle.tape_feed.specs.declared.Feed.{Feed}
 use Rattle.tape_feed.specs.FeedModel.{fed_of}
 use Rattle.tape_theory.specs.Fed.{Held, Chunk, lend, keep, fed_all}
 use Rattle.tape_theory.specs.PlainTape.{Roomy, Cut, noise_in, FedCut}

@@ -6,8 +6,8 @@ use Rattle.std.specs.Prelude.{ℕ, ◌-◌, ◌*◌, List, [], ◌∷◌, ◌++�
 use Rattle.run_call.specs.declared.State.{State}
 use Rattle.run_call.specs.Buffers.{Left, CallBuffers}
 use Rattle.run_call.specs.CallModel.{run_left}
-use Rattle.tape_verdict.specs.declared.Feed.{Feed}
-use Rattle.tape_verdict.specs.Verdict.{start_of}
+use Rattle.tape_feed.specs.declared.Feed.{Feed}
+use Rattle.tape_feed.specs.Verdict.{start_of}
 use Rattle.tape_feed.specs.FeedModel.{Fed, fed_after, fed_of}
 
 -- a run so far, between chunks

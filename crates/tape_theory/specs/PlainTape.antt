@@ -9,7 +9,7 @@ use Rattle.run_steps.specs.declared.Stop as Stop
 use Rattle.run_call.specs.declared.State.{State}
 use Rattle.run_call.specs.StateGenerator.{gen_of}
 use Rattle.tape_text.specs.Text.{run_text, refused_text}
-use Rattle.tape_verdict.specs.Verdict.{verdict_of, verdict_number}
+use Rattle.tape_feed.specs.Verdict.{verdict_of, verdict_number}
 use Rattle.tape_theory.specs.Fed.{Held, Chunk, begun, fed_all, samples_fed}
 
 -- how a tape ends: with its run done, record bytes, and its numbers of records and samples; or refused by a number

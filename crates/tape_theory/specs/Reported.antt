@@ -11,9 +11,9 @@ use Rattle.tape_text.specs.Text.{run_text, refused_text}
 use Rattle.tape_head.specs.declared.Beginning.{Beginning}
 use Rattle.tape_head.specs.Head.{run_of, taps_s, taps_ac, head_of}
 use Rattle.std.specs.declared.io.Error.{Error}
-use Rattle.tape_verdict.specs.declared.SectionEnd.{SectionEnd}
-use Rattle.tape_verdict.specs.declared.Outcome as Outcome
-use Rattle.tape_verdict.specs.Verdict.{is_cut_short, outcome_of, outcome_done}
+use Rattle.tape_feed.specs.declared.SectionEnd.{SectionEnd}
+use Rattle.tape_feed.specs.declared.Outcome as Outcome
+use Rattle.tape_feed.specs.Verdict.{is_cut_short, outcome_of, outcome_done}
 use Rattle.tape_theory.specs.Fed.{Held, begun}
 use Rattle.tape_theory.specs.PlainTape.{Ending, done, refused, plain_ending, plain_text, FedCut}
 use Rattle.tape_theory.specs.TapeText.{lent_by_program, draws_section}

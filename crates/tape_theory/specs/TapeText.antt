@@ -10,8 +10,8 @@ use Rattle.pulse_shape.specs.Prototype.{mode_s_prototype, mode_ac_prototype}
 use Rattle.run_theory.specs.PlainBench.{draws_of}
 use Rattle.run_call.specs.declared.State.{State}
 use Rattle.run_call.specs.StateGenerator.{gen_of}
-use Rattle.run_open_checks.specs.Opening.{OpenBuffers}
-use Rattle.tape_floats.specs.Floats.{floats_of}
+use Rattle.run_open.specs.Opening.{OpenBuffers}
+use Rattle.tape_sections.specs.Floats.{floats_of}
 use Rattle.tape_sections.specs.Sections.{draws_offset, noise_offset, tape_setting, tape_sps}
 use Rattle.tape_text.specs.Text.{refused_text}
 use Rattle.tape_head.specs.declared.Beginning.{Beginning}

@@ -17,11 +17,11 @@ use Rattle.mode_s.specs.Parity.{reduced, brought, remainder, bits, parity_of}
 use Rattle.message.specs.Making.{formats}
 use Rattle.message.specs.Types.{type_number}
 use Rattle.message.specs.declared.ReplyKind.TheVariants.{Short, Long}
-use Rattle.message_classify.specs.declared.Class.TheVariants.{TisB}
-use Rattle.message_classify.specs.Classing.{listed, short_class, long_class, kind_class, tis_b_controls, is_tis_b, is_long, relay_class, type_class, class_by}
+use Rattle.message.specs.declared.Class.TheVariants.{TisB}
+use Rattle.message.specs.Classing.{listed, short_class, long_class, kind_class, tis_b_controls, is_tis_b, is_long, relay_class, type_class, class_by}
 use Rattle.pulse_map.specs.ModeS.{mode_s_bits, mode_s_length}
 use Rattle.pulse_map.specs.ModeAC.{mode_ac_length, data_positions, mode_ac_positions}
-use Rattle.pulse_length.specs.Length.{mode_s_num_samples, mode_ac_num_samples}
+use Rattle.pulse_map.specs.Length.{mode_s_num_samples, mode_ac_num_samples}
 use Rattle.test_bench_checks.specs.Table.{Value, of_class, no_class, class, durations, parity, lengths, replies, table, gives, says}
 
 -- the format of a message does not depend on the low three bits

@@ -9,10 +9,10 @@ use Rattle.pulse_map.specs.ModeAC.{mode_ac_positions}
 use Rattle.mode_s.specs.Parity.{parity_of}
 use Rattle.message.specs.Types.{type_number}
 use Rattle.message.specs.declared.ReplyKind.TheVariants.{Short, Long}
-use Rattle.message_classify.specs.declared.Class.{Class}
-use Rattle.message_classify.specs.declared.Class.TheVariants.{OfType, TisB}
-use Rattle.message_classify.specs.Classing.{class_by}
-use Rattle.pulse_length.specs.Length.{mode_s_num_samples, mode_ac_num_samples}
+use Rattle.message.specs.declared.Class.{Class}
+use Rattle.message.specs.declared.Class.TheVariants.{OfType, TisB}
+use Rattle.message.specs.Classing.{class_by}
+use Rattle.pulse_map.specs.Length.{mode_s_num_samples, mode_ac_num_samples}
 
 -- what a line speaks of: a number, a refusal by its number, the positions of pulses, a class by its number, or none
 pub data Value : Type 0 where

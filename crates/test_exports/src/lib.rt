@@ -2,7 +2,7 @@
 #![tactic(auto)]
 
 // A function for each name of the C interface, also where two are alike but for a type or a mode.
-pub mod floats;
+pub mod phases;
 pub mod pulse_maps;
 pub mod replies;
 pub mod samples;

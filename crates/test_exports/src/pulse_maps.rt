@@ -3,7 +3,7 @@ ghost use Rattle.std.specs.Prelude.{◌≡◌};
 ghost use Rattle.constants.specs.Rate.{four, reply_limit};
 ghost use Rattle.pulse_map.specs.ModeS.{mode_s_pulses};
 ghost use Rattle.pulse_map.specs.ModeAC.{mode_ac_pulses};
-ghost use Rattle.pulse_length.specs.Length.{mode_s_num_samples, mode_ac_num_samples};
+ghost use Rattle.pulse_map.specs.Length.{mode_s_num_samples, mode_ac_num_samples};
 ghost use Rattle.settings_duration.specs.Duration.{duration_of};
 ghost use Rattle.test_exports.specs.Pulses.{samples_number};
 
@@ -24,7 +24,7 @@ pub extern "C" fn port_mode_s_pulses(
     let pulses = pulse_map::mode_s_pulses(*message, long);
     let positions = pulses.on;
     *on = positions;
-    *samples = pulse_length::mode_s_num_samples(SamplesPerPulse::Four, long);
+    *samples = pulse_map::mode_s_num_samples(SamplesPerPulse::Four, long);
     pulses.len
 }
 
@@ -40,7 +40,7 @@ pub extern "C" fn port_mode_ac_pulses(
     let pulses = pulse_map::mode_ac_pulses(data, spi);
     let positions = pulses.on;
     *on = positions;
-    *samples = pulse_length::mode_ac_num_samples(SamplesPerPulse::Four, spi);
+    *samples = pulse_map::mode_ac_num_samples(SamplesPerPulse::Four, spi);
     pulses.len
 }
 
@@ -48,7 +48,7 @@ pub extern "C" fn port_mode_ac_pulses(
 pub extern "C" fn port_reply_limit() -> u64
     ensures { result ≡ reply_limit four }
 {
-    pulse_length::reply_limit(SamplesPerPulse::Four)
+    pulse_map::reply_limit(SamplesPerPulse::Four)
 }
 
 #[tactic(auto, unfolding(crate::specs::Pulses::samples_number))]

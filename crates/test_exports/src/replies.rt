@@ -2,7 +2,7 @@
 ghost use Rattle.std.specs.Prelude.{◌≡◌};
 ghost use Rattle.mode_s.specs.Parity.{parity_of};
 ghost use Rattle.message.specs.Types.{type_numbered};
-ghost use Rattle.message_classify.specs.Classing.{class_of, class_number};
+ghost use Rattle.message.specs.Classing.{class_of, class_number};
 ghost use Rattle.test_exports.specs.Replies.{kind_number, kind_numbered, picks_of, made_for, MadeNumbers, reply_with};
 
 use message::{Picks, Reply, ReplyKind};
@@ -20,7 +20,7 @@ fn make(n: u8, p: Picks) -> Result<Reply, u64>
     ensures { result ≡ made_for (type_numbered n) p }
 {
     let t = message::message_type(n).ok_or(1u64)?;
-    message_make::make(t, p)
+    message::make(t, p)
 }
 
 // The numbers are this interface's own, in the order of the kinds.
@@ -94,7 +94,7 @@ pub fn kind_numbered(n: u8) -> ReplyKind
 pub extern "C" fn port_from_message(kind: u8, message: &[u8; 14]) -> u8
     ensures { result ≡ class_number (class_of (reply_with kind message.now)) }
 {
-    message_numbers::class_number(message_classify::from_message(Reply {
+    message::class_number(message::from_message(Reply {
         kind: kind_numbered(kind),
         bytes: *message,
     }))

@@ -38,7 +38,7 @@ pub extern "C" fn port_group_delays(level: f32, prototype: &[f32], out: &mut [f6
     ensures { out.new ≡ delay_number (group_delay level prototype.now) ∷ (delay_number (mode_ac_group_delay level prototype.now) ∷ []) }
 {
     *out = [
-        delay_number(pulse_group_delay::group_delay(Mode::S, level, prototype)),
-        delay_number(pulse_group_delay::group_delay(Mode::Ac, level, prototype)),
+        delay_number(pulse_shape::group_delay(Mode::S, level, prototype)),
+        delay_number(pulse_shape::group_delay(Mode::Ac, level, prototype)),
     ];
 }

@@ -84,15 +84,15 @@ pub extern "C" fn port_drawn(
     let none = 0.0 / 0.0;
     let offset = distributions::carrier_offset(SamplesPerPulse::Four, asked).map_or(
         none,
-        |d| draw_parameters::offset_of(d, carrier),
+        |d| distributions::offset_of(d, carrier),
     );
     let turn = distributions::carrier_phase(asked).map_or(
         none,
-        |d| draw_parameters::phase_of(d, phase),
+        |d| distributions::phase_of(d, phase),
     );
     let error = distributions::clock_error(asked).map_or(
         none,
-        |d| draw_parameters::error_of(d, clock),
+        |d| distributions::error_of(d, clock),
     );
     *out = [offset, turn, error];
 }

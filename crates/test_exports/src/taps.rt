@@ -25,8 +25,8 @@ pub extern "C" fn port_pulse_sum(
 ) -> f32
     ensures { result ≡ padded_sum taps.now (pad_pulses (take len on.now)) index }
 {
-    let padded = filterbank_apply::pad_pulses(&on[..len.min(MAX_POSITIONS)]);
-    filterbank_apply::pulse_sum(*taps, &padded, index)
+    let padded = filterbank::pad_pulses(&on[..len.min(MAX_POSITIONS)]);
+    filterbank::pulse_sum(*taps, &padded, index)
 }
 
 // The clock before the first sample: its phase, and in `index` its index.
@@ -34,7 +34,7 @@ pub extern "C" fn port_pulse_sum(
 pub extern "C" fn port_start_clock(phase: f64, index: &mut usize) -> f64
     ensures { (result ≡ (start_clock four phase).phase) × (index.new ≡ (start_clock four phase).index) }
 {
-    let clock = filterbank_clock::start_clock(SamplesPerPulse::Four, phase);
+    let clock = filterbank::start_clock(SamplesPerPulse::Four, phase);
     *index = clock.index;
     clock.phase
 }
@@ -44,12 +44,12 @@ pub extern "C" fn port_start_clock(phase: f64, index: &mut usize) -> f64
 pub extern "C" fn port_next_clock(phase: f64, error: f64, index: &mut usize) -> f64
     ensures { (result ≡ (in64 (advance (step_of four error) (record { phase = phase; index = index.old }))).phase) × (index.new ≡ (in64 (advance (step_of four error) (record { phase = phase; index = index.old }))).index) }
 {
-    let next = filterbank_clock::advance(
+    let next = filterbank::advance(
         Clock {
             phase,
             index: *index,
         },
-        filterbank_clock::clock_step(SamplesPerPulse::Four, error),
+        filterbank::clock_step(SamplesPerPulse::Four, error),
     );
     *index = next.index;
     next.phase

@@ -3,7 +3,7 @@ ghost use Rattle.std.specs.Prelude.{◌≡◌};
 ghost use Rattle.constants.specs.Rate.{four, reply_limit};
 ghost use Rattle.pulse_map.specs.ModeS.{mode_s_pulses};
 ghost use Rattle.pulse_map.specs.ModeAC.{mode_ac_pulses};
-ghost use Rattle.pulse_length.specs.Length.{mode_s_num_samples, mode_ac_num_samples};
+ghost use Rattle.pulse_map.specs.Length.{mode_s_num_samples, mode_ac_num_samples};
 ghost use Rattle.settings_duration.specs.Duration.{duration_of};
 ghost use Rattle.test_exports.specs.Pulses.{samples_number};
 

@@ -3,7 +3,7 @@
 ghost use Rattle.std.specs.Prelude.{◌≡◌};
 ghost use Rattle.mode_s.specs.Parity.{parity_of};
 ghost use Rattle.message.specs.Types.{type_numbered};
-ghost use Rattle.message_classify.specs.Classing.{class_of, class_number};
+ghost use Rattle.message.specs.Classing.{class_of, class_number};
 ghost use Rattle.test_exports.specs.Replies.{picks_of, made_for, MadeNumbers, reply_with};
 
 #[unsafe(no_mangle)]

@@ -31,12 +31,12 @@ fn hexadecimal(digits: &[u8]) -> u64 {
 // The stored answer is what the port answers: `x as f32` for n, `x.ceil() as i64` (as an `f64` again) for c, `x as u64` for u. Another letter is wrong.
 fn agrees(letter: u8, x: f64, stored: u64) -> bool {
     match letter {
-        b'n' => u64::from(float_encoding::bits_of_f32(float_narrow::narrow(x))) == stored,
+        b'n' => u64::from(floats::bits_of_f32(floats::narrow(x))) == stored,
         b'c' => {
-            let n = float_to_int::ceil_to_i64(x);
-            float_encoding::bits_of(std::num::nearest_i64_to_f64(n)) == stored
+            let n = floats::ceil_to_i64(x);
+            floats::bits_of(std::num::nearest_i64_to_f64(n)) == stored
         }
-        b'u' => float_to_int::to_u64(x) == stored,
+        b'u' => floats::to_u64(x) == stored,
         _ => false,
     }
 }
@@ -45,7 +45,7 @@ fn agrees(letter: u8, x: f64, stored: u64) -> bool {
 fn right(line: &[u8]) -> bool
     requires { length line.now ≡ 36 }
 {
-    let x = float_encoding::f64_of(hexadecimal(&line[2..18]));
+    let x = floats::f64_of(hexadecimal(&line[2..18]));
     agrees(line[0], x, hexadecimal(&line[19..35]))
 }
 

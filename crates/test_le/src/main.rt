@@ -4,7 +4,7 @@
 
 ghost use Rattle.std.specs.Prelude.{◌≤◌, length};
 
-use le_read_floats::FloatFault;
+use le_read::FloatFault;
 use le_write::LeWrite;
 
 // The numbers that the system gives standard input and standard output.
@@ -27,7 +27,7 @@ fn digits(n: u64, width: usize) {
 fn pattern<T: LeWrite>(x: T) -> u64 {
     let mut b = [0u8; 8];
     le_write::put(&mut b, 0, x);
-    le_read_or_zero::number::<u64>(&b, 0)
+    le_read::number::<u64>(&b, 0)
 }
 
 fn show_number(r: Option<u64>, width: usize) {
@@ -52,13 +52,13 @@ fn reads(s: &[u8], at: usize) {
     show_number(le_read::le::<u16>(s, at).map(u64::from), 4);
     show_number(le_read::le::<u32>(s, at).map(u64::from), 8);
     show_number(le_read::le::<u64>(s, at), 16);
-    show_float(le_read_floats::float::<f32>(s, at).map(pattern::<f32>), 8);
-    show_float(le_read_floats::float::<f64>(s, at).map(pattern::<f64>), 16);
-    digits(u64::from(le_read_or_zero::number::<u16>(s, at)), 4);
-    digits(u64::from(le_read_or_zero::number::<u32>(s, at)), 8);
-    digits(le_read_or_zero::number::<u64>(s, at), 16);
-    digits(pattern(le_read_or_zero::number::<f32>(s, at)), 8);
-    digits(pattern(le_read_or_zero::number::<f64>(s, at)), 16);
+    show_float(le_read::float::<f32>(s, at).map(pattern::<f32>), 8);
+    show_float(le_read::float::<f64>(s, at).map(pattern::<f64>), 16);
+    digits(u64::from(le_read::number::<u16>(s, at)), 4);
+    digits(u64::from(le_read::number::<u32>(s, at)), 8);
+    digits(le_read::number::<u64>(s, at), 16);
+    digits(pattern(le_read::number::<f32>(s, at)), 8);
+    digits(pattern(le_read::number::<f64>(s, at)), 16);
     text(b"\n");
 }
 
@@ -68,8 +68,8 @@ fn wrote<F: FnOnce(&mut [u8]) -> bool>(put: F)
 {
     let mut d = [0xa5u8; 12];
     text(if put(&mut d) { b" fits" } else { b" past" });
-    digits(le_read_or_zero::number::<u64>(&d, 0), 16);
-    digits(u64::from(le_read_or_zero::number::<u32>(&d, 8)), 8);
+    digits(le_read::number::<u64>(&d, 0), 16);
+    digits(u64::from(le_read::number::<u32>(&d, 8)), 8);
 }
 
 // A line of the five writes at an offset, of the values read at another.
@@ -77,11 +77,11 @@ fn writes(s: &[u8], from: usize, at: usize) {
     text(b"write");
     digits(from as u64, 16);
     digits(at as u64, 16);
-    wrote(|d| le_write::put::<u16>(d, at, le_read_or_zero::number::<u16>(s, from)));
-    wrote(|d| le_write::put::<u32>(d, at, le_read_or_zero::number::<u32>(s, from)));
-    wrote(|d| le_write::put::<u64>(d, at, le_read_or_zero::number::<u64>(s, from)));
-    wrote(|d| le_write::put::<f32>(d, at, le_read_or_zero::number::<f32>(s, from)));
-    wrote(|d| le_write::put::<f64>(d, at, le_read_or_zero::number::<f64>(s, from)));
+    wrote(|d| le_write::put::<u16>(d, at, le_read::number::<u16>(s, from)));
+    wrote(|d| le_write::put::<u32>(d, at, le_read::number::<u32>(s, from)));
+    wrote(|d| le_write::put::<u64>(d, at, le_read::number::<u64>(s, from)));
+    wrote(|d| le_write::put::<f32>(d, at, le_read::number::<f32>(s, from)));
+    wrote(|d| le_write::put::<f64>(d, at, le_read::number::<f64>(s, from)));
     text(b"\n");
 }
 

@@ -159,11 +159,11 @@ fn durations() {
 }
 
 fn lengths() {
-    say(pulse_length::reply_limit(SamplesPerPulse::Four));
-    say(pulse_length::mode_s_num_samples(SamplesPerPulse::Four, true) as u64);
-    say(pulse_length::mode_s_num_samples(SamplesPerPulse::Four, false) as u64);
-    say(pulse_length::mode_ac_num_samples(SamplesPerPulse::Four, false) as u64);
-    say(pulse_length::mode_ac_num_samples(SamplesPerPulse::Four, true) as u64);
+    say(pulse_map::reply_limit(SamplesPerPulse::Four));
+    say(pulse_map::mode_s_num_samples(SamplesPerPulse::Four, true) as u64);
+    say(pulse_map::mode_s_num_samples(SamplesPerPulse::Four, false) as u64);
+    say(pulse_map::mode_ac_num_samples(SamplesPerPulse::Four, false) as u64);
+    say(pulse_map::mode_ac_num_samples(SamplesPerPulse::Four, true) as u64);
 }
 
 fn replies() {

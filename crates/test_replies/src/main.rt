@@ -1,8 +1,7 @@
 // Replays the vectors of parity, making and classing: a line for each record of standard input. What it writes is held to the Rust's answers in the file stdout; `harness vectors` (differential/) makes both.
 #![tactic(auto)]
 
-use message::{Picks, Reply, ReplyKind};
-use message_classify::Class;
+use message::{Class, Picks, Reply, ReplyKind};
 use test_exports::replies::kind_numbered;
 
 // The numbers that the system gives standard input and standard output.
@@ -108,7 +107,7 @@ fn print_reply(r: Reply) {
     print_kind(r.kind);
     print_bytes(r.bytes);
     io::write_all(STDOUT_FILENO, b" class ");
-    print_class(message_classify::from_message(r));
+    print_class(message::from_message(r));
 }
 
 fn print_made(m: Result<Reply, u64>) {
@@ -135,7 +134,7 @@ fn make_line(r: [u8; 22]) {
     io::print_decimal(STDOUT_FILENO, u64::from(r[15]));
     io::write_all(STDOUT_FILENO, b" ");
     if let Some(t) = message::message_type(r[15]) {
-        print_made(message_make::make(t, p));
+        print_made(message::make(t, p));
     }
 }
 
@@ -147,7 +146,7 @@ fn class_line(r: [u8; 22]) {
     io::write_all(STDOUT_FILENO, b"class ");
     io::print_decimal(STDOUT_FILENO, u64::from(r[15]));
     io::write_all(STDOUT_FILENO, b" ");
-    print_class(message_classify::from_message(reply));
+    print_class(message::from_message(reply));
 }
 
 fn line(r: [u8; 22]) {

@@ -4,8 +4,7 @@
 ghost use Rattle.std.specs.Prelude.{◌≤◌};
 
 use constants::{Mode, SamplesPerPulse};
-use filterbank::Clock;
-use filterbank_apply::PADDED_LEN;
+use filterbank::{Clock, PADDED_LEN};
 
 // The number that the system gives standard output.
 const STDOUT_FILENO: i32 = 1;
@@ -53,7 +52,7 @@ fn fold(digest: u64, bits: u32) -> u64 {
 }
 
 fn fold_f32(digest: u64, x: f32) -> u64 {
-    fold(digest, float_encoding::bits_of_f32(x))
+    fold(digest, floats::bits_of_f32(x))
 }
 
 fn values_digest(values: &[f32], start: u64) -> u64 {
@@ -89,18 +88,15 @@ fn reply_digest(
             return (digest, n);
         }
         let taps = filterbank::filter_taps(SamplesPerPulse::Four, prototype, clock.phase);
-        digest = fold_f32(
-            digest,
-            filterbank_apply::pulse_sum(taps, padded, clock.index),
-        );
-        clock = filterbank_clock::advance(clock, step);
+        digest = fold_f32(digest, filterbank::pulse_sum(taps, padded, clock.index));
+        clock = filterbank::advance(clock, step);
     }
     (digest, MOST_VALUES)
 }
 
 fn reply(prototype: &[f32], padded: &[bool; PADDED_LEN], limit: usize, first: f64, e: f64) {
-    let step = filterbank_clock::clock_step(SamplesPerPulse::Four, e);
-    let clock = filterbank_clock::start_clock(SamplesPerPulse::Four, first);
+    let step = filterbank::clock_step(SamplesPerPulse::Four, e);
+    let clock = filterbank::start_clock(SamplesPerPulse::Four, first);
     let (digest, n) = reply_digest(prototype, padded, limit, clock, step);
     io::write_all(STDOUT_FILENO, b"reply ");
     io::print_decimal(STDOUT_FILENO, n);
@@ -115,8 +111,8 @@ fn line(n: u64) {
 
 fn delay(level: f32, prototype: &[f32]) {
     io::write_all(STDOUT_FILENO, b"delay");
-    match pulse_group_delay::group_delay(Mode::S, level, prototype) {
-        Some(x) => line(float_encoding::bits_of(x)),
+    match pulse_shape::group_delay(Mode::S, level, prototype) {
+        Some(x) => line(floats::bits_of(x)),
         None => line(0),
     }
 }
@@ -124,7 +120,7 @@ fn delay(level: f32, prototype: &[f32]) {
 fn replies(prototype: &[f32], seed: u32, len: usize)
     requires { len ≤ 240 }
 {
-    let padded = filterbank_apply::pad_pulses(&pulses(seed)[..len]);
+    let padded = filterbank::pad_pulses(&pulses(seed)[..len]);
     reply(prototype, &padded, len + 6, 0.0, 0.0);
     reply(prototype, &padded, len + 6, 1.1, -0.1);
     reply(prototype, &padded, len + 6, 0.37, 0.1);

@@ -4,7 +4,7 @@ use Rattle.std.proofs.lemmas.List.{map-id}
 use Rattle.std.proofs.lemmas.Simd.{Each1-weaker, map-map}
 use Rattle.math.specs.Carrier.{reduced, sine_sum, cosine_sum}
 use Rattle.block_rotate.specs.BlockModel.{limits_above}
-use Rattle.float_narrow.proofs.Rows.{mapped_next, mapped_end}
+use Rattle.floats.proofs.Rows.{mapped_next, mapped_end}
 use Rattle.block_rotate.proofs.Quarters.{turns_few}
 use Rattle.block_rotate.proofs.reduce_all.Goals as goal
 

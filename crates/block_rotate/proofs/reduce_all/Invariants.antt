@@ -1,7 +1,7 @@
 -- The first k rows are written.
 use Rattle.math.specs.Carrier.{reduced, sine_sum, cosine_sum}
 use Rattle.block_rotate.specs.BlockModel.{limits_above}
-use Rattle.float_narrow.proofs.Rows.{Mapped}
+use Rattle.floats.proofs.Rows.{Mapped}
 use Rattle.block_rotate.proofs.reduce_all.Given as goal
 
 abbrev pub invariant-loop-k : goal.invariant-loop-k

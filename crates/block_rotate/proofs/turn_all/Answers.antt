@@ -3,7 +3,7 @@ use Rattle.std.proofs.Common.{ℕ, List, ◌≡◌, ◌*◌, ◌+◌, ◌≤◌,
 use lib.Ieee.{Float}
 use Rattle.math.specs.Carrier.{quadrant}
 use Rattle.block_rotate.specs.BlockModel.{quarter, zip3, turned_sine, turned_cosine, scaled_by}
-use Rattle.float_narrow.proofs.Rows.{rows_next, rows_end, length_stored}
+use Rattle.floats.proofs.Rows.{rows_next, rows_end, length_stored}
 use Rattle.block_rotate.proofs.Scaled.{length_scaled, length_zip3, row_scaled}
 use Rattle.block_rotate.proofs.turn_all.Goals as goal
 

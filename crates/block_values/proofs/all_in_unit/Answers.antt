@@ -2,7 +2,7 @@
 use Rattle.std.proofs.Common.{◌≡◌, ◌+◌, ◌*◌, true, get_or, [], subst, ap, ◌∙◌, arith}
 use lib.Ieee.{nan}
 use Rattle.block_values.specs.BlockValuesModel.{in_unit, EachInUnit}
-use Rattle.float_narrow.proofs.Rows.{first_chunk, each_more}
+use Rattle.floats.proofs.Rows.{first_chunk, each_more}
 use Rattle.block_values.proofs.all_in_unit.Goals as goal
 
 pub loop-row-preserved : goal.loop-row-preserved

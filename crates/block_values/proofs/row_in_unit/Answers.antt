@@ -6,7 +6,7 @@ use borrow.Author.Tests.{eqb-true}
 use lib.Lanes.{zip2, mask_l}
 use lib.Ieee.{Float, binary64, of_bits, le, lt}
 use Rattle.block_values.specs.BlockValuesModel.{in_unit, EachInUnit}
-use Rattle.float_narrow.proofs.Rows.{as_map, tests, compared, compared_of_maps, both, all_of_mask}
+use Rattle.floats.proofs.Rows.{as_map, tests, compared, compared_of_maps, both, all_of_mask}
 use Rattle.block_values.proofs.row_in_unit.Goals as goal
 
 abbrev zero_f : Float

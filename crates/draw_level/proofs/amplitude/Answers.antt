@@ -1,4 +1,4 @@
--- `draw_level::amplitude` meets its contract.
+-- `amplitude` meets its contract.
 use Prim.Native.Nat.{◌+◌, ◌*◌, ◌/◌}
 use Rattle.draw_level.proofs.Significand.{five_fits, product_of, q_small, made, no_nan}
 use native.Mathlib.Omega.{arith}

@@ -1,4 +1,4 @@
--- `draw_level::halvings` meets its contract.
+-- `halvings` meets its contract.
 use Prim.Native.Nat.{◌-◌, ◌*◌, ◌^◌, ◌≤◌, ◌<◌}
 use native.Mathlib.Omega.{arith}
 use Rattle.draw_level.proofs.Powers.{at_least_23, below_52, halved}

@@ -1,4 +1,4 @@
--- `log_compare::compare_log` meets its contract.
+-- `compare_log` meets its contract.
 use Rattle.std.proofs.lemmas.Result.{err_from_is_err_and}
 use Rattle.log_compare.proofs.Decisions.{refusal_is, report_is, pairs_few}
 use Rattle.log_theory.proofs.Turns.{lists}

@@ -1,4 +1,4 @@
--- `math::cosine_sum` meets its contract: each of its numbers is the coefficient.
+-- `cosine_sum` meets its contract: each of its numbers is the coefficient.
 use Rattle.std.proofs.Common.{sym, ◌∙◌}
 use lib.Ieee.{binary64, mul, neg, of_bits}
 use Rattle.math.specs.Carrier.{cosine_coefficient, horner_of, cosine_sum}

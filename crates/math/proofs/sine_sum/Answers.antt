@@ -1,4 +1,4 @@
--- `math::sine_sum` meets its contract: each of its numbers is the coefficient.
+-- `sine_sum` meets its contract: each of its numbers is the coefficient.
 use Rattle.std.proofs.Common.{sym, ap, ◌∙◌}
 use lib.Ieee.{binary64, mul, neg, of_bits}
 use Rattle.math.specs.Carrier.{sine_coefficient, horner_of, sine_sum}

@@ -1,4 +1,4 @@
--- `mode_s::parity` meets its contract. The loop's invariant: going on from here over the bytes left gives the parity of all.
+-- `parity` meets its contract. The loop's invariant: going on from here over the bytes left gives the parity of all.
 use mathlib.Core.Path.{◌≡◌}
 use Prim.Native.Nat.{◌<◌}
 use lib.ListN.{drop}

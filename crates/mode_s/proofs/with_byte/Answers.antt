@@ -1,4 +1,4 @@
--- `mode_s::with_byte` meets its contract: the table's rule says what stands at the place.
+-- `with_byte` meets its contract: the table's rule says what stands at the place.
 use mathlib.Core.Path.{refl, sym, subst}
 use Prim.Native.Nat.{ℕ, ◌<◌}
 use borrow.Author.Rules.{rules}

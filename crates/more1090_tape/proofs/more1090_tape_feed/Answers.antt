@@ -1,4 +1,4 @@
--- `more1090_tape::more1090_tape_feed` meets its contract.
+-- `more1090_tape_feed` meets its contract.
 use Rattle.more1090_tape.proofs.Feed.{in_parts}
 use Rattle.more1090_tape.proofs.more1090_tape_feed.Goals as goal
 

@@ -1,4 +1,4 @@
--- `pulse_map::mode_ac_pulses` meets its contract: at every step, marking what is left gives what marking all gives.
+-- `mode_ac_pulses` meets its contract: at every step, marking what is left gives what marking all gives.
 use mathlib.Core.Path.{sym, ap, ◌∙◌}
 use mathlib.Core.Bool.{Bool, true}
 use mathlib.Core.List.{List}

@@ -1,4 +1,4 @@
--- `pulse_map::mode_s_pulses` meets its contract: at every step, marking what is left gives what marking all gives.
+-- `mode_s_pulses` meets its contract: at every step, marking what is left gives what marking all gives.
 use mathlib.Core.Path.{◌≡◌}
 use Prim.Native.Nat.{◌-◌}
 use lib.ListN.{length}

@@ -1,4 +1,4 @@
--- `reply_record::put` meets its contract.
+-- `put` meets its contract.
 use mathlib.Core.Path.{sym, ◌∙◌}
 use native.Mathlib.Omega.{arith}
 use Rattle.reply_record.specs.Record.{float_bytes, other_bytes, record_bytes}

@@ -1,4 +1,4 @@
--- `reply_record::put_floats` meets its contract.
+-- `put_floats` meets its contract.
 use Rattle.reply_record.proofs.Overwritten.{floats_overwritten}
 use Rattle.reply_record.proofs.put_floats.Goals as goal
 

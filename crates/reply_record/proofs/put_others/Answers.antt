@@ -1,4 +1,4 @@
--- `reply_record::put_others` meets its contract.
+-- `put_others` meets its contract.
 use borrow.Author.Rules.{rules}
 use Rattle.le_read.proofs.Halves.{overwritten_one}
 use Rattle.reply_record.proofs.Overwritten.{others_overwritten}

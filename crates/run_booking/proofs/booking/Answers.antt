@@ -1,4 +1,4 @@
--- `run_booking::booking` meets its contract: a refusal of opening is the booking's.
+-- `booking` meets its contract: a refusal of opening is the booking's.
 use Rattle.std.proofs.Common.{sym, ◌∙◌}
 use Rattle.std.proofs.lemmas.Result.{err_from_is_err_and}
 use Rattle.run_booking.specs.Booked.{booked_read}

@@ -7,7 +7,7 @@ use Rattle.constants.specs.Rate.{working_memory}
 use Rattle.constants.specs.Setting.{per_pulse}
 use Rattle.draw.specs.Draw.{draw_at}
 use Rattle.draw.specs.Config.{time_after}
-use Rattle.draw_config.specs.Pending.{pending_of}
+use Rattle.draw.specs.Pending.{pending_of}
 use Rattle.message_config.specs.declared.MessageConfig.{MessageConfig}
 use Rattle.run_call.specs.declared.State.{State}
 use Rattle.run_steps.specs.declared.Progress.{Progress}

@@ -1,7 +1,7 @@
--- `run_open::open` meets its contract: an opened run's buffers are filled.
+-- `open` meets its contract: an opened run's buffers are filled.
 use mathlib.Core.Path.{ap, sym, ◌∙◌}
-use Rattle.run_open_checks.specs.Opening.{OpenBuffers, opened_of, prepared_read}
-use Rattle.run_open_checks.proofs.OpenedAs.{opened_as}
+use Rattle.run_open.specs.Opening.{OpenBuffers, opened_of, prepared_read}
+use Rattle.run_open.proofs.OpenedAs.{opened_as}
 use Rattle.run_open.proofs.Filled.{filled}
 use Rattle.run_open.proofs.open.Goals as goal
 

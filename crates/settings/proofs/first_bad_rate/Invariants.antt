@@ -1,4 +1,4 @@
--- `settings::first_bad_rate` meets its contract: what the search finds from here on is what it finds from the start.
+-- `first_bad_rate` meets its contract: what the search finds from here on is what it finds from the start.
 use Prim.Native.Nat.{◌≤◌}
 use mathlib.Core.Path.{◌≡◌}
 use lib.ListN.{drop}

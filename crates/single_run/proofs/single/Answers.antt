@@ -1,7 +1,7 @@
 -- `single` meets its contract: what is made of a stretch that is accepted.
 use mathlib.Core.Path.{sym, ap, ◌∙◌}
-use Rattle.run_open_checks.specs.Opening.{prepared_read}
-use Rattle.run_open_checks.proofs.OpenedAs.{opened_as}
+use Rattle.run_open.specs.Opening.{prepared_read}
+use Rattle.run_open.proofs.OpenedAs.{opened_as}
 use Rattle.single_run.proofs.Joined.{accepted}
 use Rattle.single_run.proofs.single.Goals as goal
 

@@ -1,4 +1,4 @@
--- `tape_feed::call` meets its contract.
+-- `call` meets its contract.
 use Rattle.tape_feed.proofs.Parts.{called}
 use Rattle.tape_feed.proofs.call.Goals as goal
 

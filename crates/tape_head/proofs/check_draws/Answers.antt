@@ -1,4 +1,4 @@
--- `tape_head::check_draws` meets its contract.
+-- `check_draws` meets its contract.
 use Rattle.tape_head.proofs.Sections.{draw_refused}
 use Rattle.tape_head.proofs.check_draws.Goals as goal
 

@@ -1,4 +1,4 @@
--- `tape_head::draws_of` meets its contract: draws that are counted lie on the tape.
+-- `draws_of` meets its contract: draws that are counted lie on the tape.
 use Prim.Native.Nat.{ℕ, ◌+◌, ◌*◌, ◌≤◌}
 use mathlib.Core.Path.{ap, ◌∙◌, subst}
 use lib.ListN.{length}

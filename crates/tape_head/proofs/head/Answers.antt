@@ -1,6 +1,6 @@
--- `tape_head::head` meets its contract.
+-- `head` meets its contract.
 use Rattle.std.proofs.lemmas.Result.{err_from_is_err_and}
-use Rattle.run_open_checks.specs.Opening.{OpenBuffers}
+use Rattle.run_open.specs.Opening.{OpenBuffers}
 use Rattle.tape_head.proofs.Sections.{opening_refused, head_given}
 use Rattle.tape_head.proofs.head.Goals as goal
 

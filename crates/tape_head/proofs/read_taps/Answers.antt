@@ -1,4 +1,4 @@
--- `tape_head::read_taps` meets its contract: what stands behind the taps of the setting is not read.
+-- `read_taps` meets its contract: what stands behind the taps of the setting is not read.
 use borrow.Author.Rules.{rules}
 use mathlib.Core.Path.{ap, ◌∙◌}
 use lib.ListN.{length}

@@ -1,4 +1,4 @@
--- `tape_head::setting_of` is safe: settings that are counted lie on the tape.
+-- `setting_of` is safe: settings that are counted lie on the tape.
 use native.Mathlib.Omega.{arith}
 use mathlib.Core.Path.{ap, ◌∙◌}
 use Rattle.std.specs.Result.{result_ok}

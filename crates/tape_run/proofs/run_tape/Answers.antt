@@ -1,4 +1,4 @@
--- `tape_run::run_tape` is safe, and what it reports is right: a refused head by its number, a section behind a head that begins a run by the outcome of that run; and only a run that is done writes records.
+-- `run_tape` is safe, and what it reports is right: a refused head by its number, a section behind a head that begins a run by the outcome of that run; and only a run that is done writes records.
 use Prim.Native.Nat.{ℕ, ◌+◌, ◌*◌, ◌≤◌}
 use native.Mathlib.Omega.{arith}
 use mathlib.Core.Path.{◌≡◌, refl, sym, ap, ◌∙◌, subst}

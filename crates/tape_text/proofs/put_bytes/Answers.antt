@@ -1,4 +1,4 @@
--- `tape_text::put_bytes` meets its contract.
+-- `put_bytes` meets its contract.
 use Prim.Native.Nat.{◌+◌, ◌-◌}
 use mathlib.Core.Path.{refl, ap, ◌∙◌}
 use native.Mathlib.Omega.{arith}

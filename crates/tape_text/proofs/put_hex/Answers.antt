@@ -1,4 +1,4 @@
--- `tape_text::put_hex` meets its contract: after k steps the first k bytes are there in hexadecimal.
+-- `put_hex` meets its contract: after k steps the first k bytes are there in hexadecimal.
 use borrow.Author.Rules.{rules}
 use native.Mathlib.Omega.{arith}
 use lib.ListN.{length}

@@ -1,4 +1,4 @@
--- `tape_text::put_hex` meets its contract: after k steps the first k bytes are there in hexadecimal.
+-- `put_hex` meets its contract: after k steps the first k bytes are there in hexadecimal.
 use mathlib.Core.Path.{◌≡◌}
 use lib.ListN.{length, take}
 use Rattle.le_read.specs.LeBytes.{overwritten}

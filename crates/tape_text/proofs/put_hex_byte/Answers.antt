@@ -1,4 +1,4 @@
--- `tape_text::put_hex_byte` meets its contract.
+-- `put_hex_byte` meets its contract.
 use Prim.Native.Nat.{◌+◌}
 use Rattle.le_read.proofs.Halves.{overwritten_one}
 use borrow.Author.Rules.{rules}

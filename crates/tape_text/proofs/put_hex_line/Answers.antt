@@ -1,4 +1,4 @@
--- `tape_text::put_hex_line` meets its contract.
+-- `put_hex_line` meets its contract.
 use mathlib.Core.Path.{refl}
 use Rattle.le_read.proofs.Halves.{overwritten_one}
 use borrow.Author.Rules.{rules}

@@ -1,4 +1,4 @@
--- `tape_text::put_line` meets its contract.
+-- `put_line` meets its contract.
 use mathlib.Core.Path.{◌∙◌}
 use Rattle.tape_text.proofs.Lines.{line_put}
 use Rattle.tape_text.proofs.put_line.Goals as goal

@@ -1,4 +1,4 @@
--- `tape_text::put_lines` meets its contract: the invariant is `Going`.
+-- `put_lines` meets its contract: the invariant is `Going`.
 use native.Mathlib.Omega.{arith}
 use Rattle.tape_text.proofs.Lines.{first, next_line}
 use Rattle.tape_text.proofs.put_lines.Goals as goal

@@ -1,4 +1,4 @@
--- `tape_text::put_lines` meets its contract: the invariant is `Going`.
+-- `put_lines` meets its contract: the invariant is `Going`.
 use Rattle.tape_text.proofs.Lines.{Going}
 use Rattle.tape_text.proofs.put_lines.Given as goal
 

@@ -1,4 +1,4 @@
--- `tape_text::put_message` meets its contract.
+-- `put_message` meets its contract.
 use borrow.Author.Rules.{rules}
 use Rattle.tape_text.proofs.Lines.{mode_ac_put, mode_s_put}
 use Rattle.tape_text.proofs.put_message.Goals as goal

@@ -1,4 +1,4 @@
--- `tape_text::put_number` meets its contract.
+-- `put_number` meets its contract.
 use borrow.Author.Rules.{rules}
 use native.Mathlib.Omega.{arith}
 use Rattle.le_read.proofs.Halves.{overwritten_one}

@@ -1,4 +1,4 @@
--- `tape_text::refused_text` meets its contract.
+-- `refused_text` meets its contract.
 use borrow.Author.Rules.{rules}
 use mathlib.Core.Path.{refl}
 use Rattle.tape_text.proofs.Lines.{refused_put}

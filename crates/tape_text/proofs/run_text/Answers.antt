@@ -1,4 +1,4 @@
--- `tape_text::run_text` meets its contract.
+-- `run_text` meets its contract.
 use borrow.Author.Rules.{rules}
 use Rattle.tape_text.proofs.Lines.{run_put}
 use Rattle.tape_text.proofs.run_text.Goals as goal

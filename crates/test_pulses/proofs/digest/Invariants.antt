@@ -1,4 +1,4 @@
--- `test_pulses::digest` meets its contract.
+-- `digest` meets its contract.
 use Prim.Native.Nat.{◌<◌}
 use Rattle.test_pulses.proofs.digest.Given as goal
 

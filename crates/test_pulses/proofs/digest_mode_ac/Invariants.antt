@@ -1,4 +1,4 @@
--- `test_pulses::digest_mode_ac` meets its contract.
+-- `digest_mode_ac` meets its contract.
 use Prim.Native.Nat.{◌<◌}
 use Rattle.test_pulses.proofs.digest_mode_ac.Given as goal
 

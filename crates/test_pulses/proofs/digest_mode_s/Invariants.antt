@@ -1,4 +1,4 @@
--- `test_pulses::digest_mode_s` meets its contract.
+-- `digest_mode_s` meets its contract.
 use Prim.Native.Nat.{◌<◌}
 use Rattle.test_pulses.proofs.digest_mode_s.Given as goal
 

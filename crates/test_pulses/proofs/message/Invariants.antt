@@ -1,4 +1,4 @@
--- `test_pulses::message` meets its contract.
+-- `message` meets its contract.
 use Prim.Native.Nat.{◌<◌}
 use Rattle.test_pulses.proofs.message.Given as goal
 

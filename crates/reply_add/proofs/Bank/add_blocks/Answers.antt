@@ -29,8 +29,8 @@ loop-count-preserved c =
       held = omega arith;
       most = search rules;
       within = omega arith;
-      counted = block_counted a.self.setting a.self.prototype.now a.self.padded.now a.w _ l.count _ l.at.tick _ _ _ _ c.fill-at.ensures.block refl l.invariant.counted;
-      rest = block_added a.self.setting a.self.prototype.now a.self.padded.now a.w _ l.count _ l.at.tick _ _ _ l.slot _ l.memory _ _ _ _ _ c.fill-at.ensures.block refl l.invariant.long l.invariant.held c.ring_slots.ensures.0 (search rules) c.fill.ensures c.add.ensures l.invariant.rest;
+      counted = block_counted a.self.setting a.self.prototype.now a.self.padded.now a.w _ l.count _ l.at.tick _ _ _ _ c.fill_clocks-at.ensures.block refl l.invariant.counted;
+      rest = block_added a.self.setting a.self.prototype.now a.self.padded.now a.w _ l.count _ l.at.tick _ _ _ l.slot _ l.memory _ _ _ _ _ c.fill_clocks-at.ensures.block refl l.invariant.long l.invariant.held c.ring_slots.ensures.0 (search rules) c.fill.ensures c.add.ensures l.invariant.rest;
     }
 
 pub returns-else-at-w-clause-memory : goal.returns-else-at-w-clause-memory

@@ -3,7 +3,7 @@ use Rattle.std.proofs.Common.{◌≡◌, ◌+◌, ◌-◌, ◌<◌, ◌≤◌, l
 use Rattle.constants.specs.Setting.{per_pulse}
 use Rattle.constants.specs.Rate.{working_memory, ring_slots}
 use Rattle.reply_samples.specs.RingModel.{added_from}
-use Rattle.block_clocks.specs.Ticks.{ticks}
+use Rattle.block_values.specs.Ticks.{ticks}
 use Rattle.reply_add.specs.AddModel.{wave_samples}
 use Rattle.reply_add.proofs.Waves.{sample_of}
 use Rattle.reply_add.proofs.Bank.add_blocks.Given as goal

@@ -1,4 +1,4 @@
--- `test_exports::port_message` meets its contract.
+-- `port_message` meets its contract.
 use Rattle.std.proofs.Common.{w64}
 use mathlib.Core.Path.{◌∙◌}
 use mir.Facts.{to_z-of_z}

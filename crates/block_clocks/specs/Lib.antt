@@ -1,2 +1,0 @@
-pub mod Ticks
-pub mod TicksModel

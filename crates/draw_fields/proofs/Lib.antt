@@ -1,2 +1,0 @@
-mod Scan
-mod Fields

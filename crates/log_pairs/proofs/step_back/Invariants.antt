@@ -1,8 +1,0 @@
--- `log_pairs::step_back` meets its contract.
-use Rattle.log_entry.specs.Entries.{first_of}
-use Rattle.log_theory.specs.PairsModel.{Back}
-use Rattle.log_theory.proofs.Window.{Tops}
-use Rattle.log_pairs.proofs.step_back.Given as goal
-
-abbrev pub invariant-loop-k : goal.invariant-loop-k
-invariant-loop-k l = Tops (first_of l.records) l.k l.top × Back (first_of l.records) l.k l.back

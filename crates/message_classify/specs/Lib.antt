@@ -1,2 +1,0 @@
-pub mod Classing
-pub mod ClassChanges

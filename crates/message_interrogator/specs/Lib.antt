@@ -1,2 +1,0 @@
-pub mod Interrogators
-pub mod InterrogatorLaws

@@ -1,4 +1,0 @@
-pub mod Powers
-pub mod Table
-pub mod Places
-pub mod ParityLaws

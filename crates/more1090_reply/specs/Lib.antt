@@ -1,0 +1,2 @@
+pub mod LevelInC
+pub mod Places

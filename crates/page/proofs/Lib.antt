@@ -1,0 +1,9 @@
+pub mod Laid
+pub mod Aligned
+pub mod Columns
+pub mod Fields
+pub mod Judged
+pub mod Filled
+pub mod Values
+pub mod Shown
+pub mod ReadBack

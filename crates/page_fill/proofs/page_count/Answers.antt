@@ -1,9 +1,0 @@
--- `page_fill::page_count` meets its contract.
-use mathlib.Core.Path.{◌∙◌}
-use native.Mathlib.Omega.{arith}
-use Rattle.page_fill.specs.Pages.{page_count}
-use Rattle.page_fill.proofs.page_count.Goals as goal
-
-pub returns : goal.returns
-unfolding page_count
-returns c = c.div_ceil.ensures ∙ omega arith

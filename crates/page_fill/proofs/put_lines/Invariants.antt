@@ -1,8 +1,0 @@
--- `page_fill::put_lines` meets its contract: after k steps the lines of k records are put.
-use mathlib.Core.Path.{◌≡◌}
-use Rattle.le_read.specs.LeBytes.{overwritten}
-use Rattle.page_fill.specs.Pages.{record_lines}
-use Rattle.page_fill.proofs.put_lines.Given as goal
-
-abbrev pub invariant-loop-k : goal.invariant-loop-k
-invariant-loop-k l = l.out ≡ overwritten l.initial.out 0 (record_lines l.k l.records)

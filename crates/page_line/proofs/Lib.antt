@@ -1,4 +1,0 @@
-pub mod Laid
-pub mod Aligned
-pub mod Columns
-pub mod Fields

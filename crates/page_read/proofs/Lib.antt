@@ -1,3 +1,0 @@
-pub mod Values
-pub mod Shown
-pub mod ReadBack

@@ -1,2 +1,0 @@
-pub mod FirstPair
-pub mod WidenedLevel

@@ -1,2 +1,0 @@
-pub mod ThreeParts
-pub mod Products

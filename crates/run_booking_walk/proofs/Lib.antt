@@ -1,2 +1,0 @@
-mod Step4
-mod Turn

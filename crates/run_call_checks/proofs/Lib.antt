@@ -1,4 +1,0 @@
-pub mod NoiseInRange
-pub mod Lengths
-pub mod Draws
-mod Rows

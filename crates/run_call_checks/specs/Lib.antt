@@ -1,4 +1,0 @@
-pub mod NoiseModel
-pub mod Checks
-pub mod ChecksModel
-pub mod RowsModel

@@ -1,3 +1,0 @@
-pub mod Stretches
-pub mod BuffersTest
-pub mod AnyDraws

@@ -1,7 +1,0 @@
--- `mix_stretch`: the numbers so far are written.
-use Rattle.std.proofs.Common.{◌≡◌, take}
-use Rattle.run_due_samples.specs.DueModel.{mix}
-use Rattle.run_due_samples.proofs.mix_stretch.Given as goal
-
-abbrev pub invariant-loop-i : goal.invariant-loop-i
-invariant-loop-i l = take l.i l.output ≡ mix l.memory (take l.i l.noise)

@@ -1,0 +1,40 @@
+// Floats and phases for C.
+// A C name for each, although their bodies are alike: a static library exports its own functions alone.
+ghost use Rattle.std.specs.Prelude.{◌≡◌, [], ◌∷◌};
+ghost use Rattle.std.specs.Float.Ieee.{to_unsigned};
+ghost use Rattle.floats.specs.Narrow.{narrow as narrowed};
+ghost use Rattle.floats.specs.Ceil.{ceil_signed};
+ghost use Rattle.math.specs.Phase.{phase_wrap, phase_wrap_once};
+ghost use Rattle.math.specs.Carrier.{sin_cos};
+
+// Rust's `x as f32`.
+#[unsafe(no_mangle)]
+pub extern "C" fn port_narrow(x: f64) -> f32
+    ensures { result ≡ narrowed x }
+{
+    test_exports::phases::port_narrow(x)
+}
+
+// Rust's `x.ceil() as i64`.
+#[unsafe(no_mangle)]
+pub extern "C" fn port_ceil_to_i64(x: f64) -> i64
+    ensures { result ≡ ceil_signed 63 x }
+{
+    test_exports::phases::port_ceil_to_i64(x)
+}
+
+// Rust's `x as u64`.
+#[unsafe(no_mangle)]
+pub extern "C" fn port_to_u64(x: f64) -> u64
+    ensures { result ≡ to_unsigned 64 x }
+{
+    test_exports::phases::port_to_u64(x)
+}
+
+// The phase wrapped, wrapped once, its sine and its cosine.
+#[unsafe(no_mangle)]
+pub extern "C" fn port_phase(p: f64, out: &mut [f64; 4])
+    ensures { out.new ≡ phase_wrap p ∷ (phase_wrap_once p ∷ ((sin_cos p).sin ∷ ((sin_cos p).cos ∷ []))) }
+{
+    test_exports::phases::port_phase(p, out);
+}
