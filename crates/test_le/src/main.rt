@@ -1,4 +1,4 @@
-// Reads and writes of le_read, le_read_or_zero, le_read_floats and le_write, held to Rust's from_le_bytes and to_le_bytes.
+// Reads and writes of le_read and le_write, held to Rust's from_le_bytes and to_le_bytes.
 // `harness vectors` (differential/) makes the bytes of `stdin` and, by Rust's own functions, the lines of `stdout`.
 #![tactic(auto)]
 
