@@ -33,10 +33,10 @@ fn near(h: u64, f: u64, d: u64) -> bool
     h.abs_diff(f) <= d
 }
 
-const ENTRY_LEN: usize = 23;
+pub const ENTRY_LEN: usize = 23;
 
 // Offsets in an entry (SPECIFICATION 13.1): the message's length and bytes.
-const HEARD_LENGTH: usize = 8;
+pub const HEARD_LENGTH: usize = 8;
 
 const HEARD_BYTES: usize = 9;
 
@@ -255,7 +255,7 @@ impl<'a> Search<'a> {
         Some(j)
     }
 
-    // The earliest free and allowed record for entry i. Taken ones are looked at too: `better` passes them by, and one that is too late ends the search as well.
+    // The earliest free and allowed record for entry i. Taken ones are passed by without a look at their bytes.
     fn earliest(self, i: usize, lo: usize, back: u64) -> Option<usize>
         requires { (lo ≤ length self.heard.records.now / 66) × (length self.owners.now ≡ length self.heard.records.now / 66) × Past (first_of self.heard.records.now) self.heard.tolerance (free_in self.owners.now) (sample_of self.heard.log.now i) lo × Back (first_of self.heard.records.now) (length self.heard.records.now / 66) back }
         ensures { (result ≡ earliestOf (logs_of self.entry.heard) (free_in self.entry.owners.now) i) × Below (length self.entry.heard.records.now / 66) result }
@@ -264,6 +264,9 @@ impl<'a> Search<'a> {
         let latest = sum(sum(h, self.heard.tolerance), back);
         let mut best = None;
         for j in lo..self.owners.len() {
+            if self.owners[j] != NOBODY {
+                continue;
+            }
             let f = first_at(self.heard.records, j);
             let last = limit(self.heard.records, best, latest, back);
             if last < f {

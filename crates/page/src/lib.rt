@@ -16,7 +16,7 @@ use refusals::Refusal;
 // Bytes of a line, and of a line with its line feed.
 pub const TEXT_LEN: usize = 72;
 
-const LINE_LEN: usize = 73;
+pub const LINE_LEN: usize = 73;
 
 // Columns of the first sample and of the count, and of all three numbers with the space behind each.
 const FIRST_WIDTH: usize = 16;
@@ -127,7 +127,7 @@ fn put_blank(out: &mut [u8], at: usize) -> bool
 // Lines of a page, and its bytes.
 const PAGE_LINES: usize = 60;
 
-const PAGE_LEN: usize = 4380;
+pub const PAGE_LEN: usize = 4380;
 
 // The pages that records take, the last one padded.
 fn page_count(records: usize) -> usize

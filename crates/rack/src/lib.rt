@@ -13,7 +13,7 @@ use refusals::Refusal;
 pub const MOST_FEEDS: usize = 16;
 
 // The longest delay, in samples.
-const LONGEST_DELAY: u64 = 4095;
+pub const LONGEST_DELAY: u64 = 4095;
 
 // The memory, in f32: two for each sample of the longest delay.
 pub const MEMORY_LEN: usize = 8190;
@@ -145,6 +145,16 @@ fn write_feed(past: Past, feed: Feed, room: &mut [f32])
     scale(feed.gain, &samples[..n - held], &mut room[held..]);
 }
 
+// Copies numbers, by a loop: std's `copy_from_slice` becomes a call of `memmove` here, which the library for C asks of nobody else.
+fn copy(from: &[f32], to: &mut [f32])
+    requires { length from.now ≡ length to.old }
+    ensures { to.new ≡ from.now }
+{
+    for i in 0..to.len() {
+        to[i] = from[i];
+    }
+}
+
 // Moves the memory on by the samples of a call.
 #[tactic(auto, using(crate::proofs::Held::moved_and_filled, crate::proofs::Held::filled_whole))]
 fn hold(memory: &mut [f32; MEMORY_LEN], samples: &[f32])
@@ -153,10 +163,10 @@ fn hold(memory: &mut [f32; MEMORY_LEN], samples: &[f32])
     let n = samples.len();
     if n < MEMORY_LEN {
         memory.copy_within(n.., 0);
-        memory[MEMORY_LEN - n..].copy_from_slice(samples);
+        copy(samples, &mut memory[MEMORY_LEN - n..]);
         return;
     }
-    memory.copy_from_slice(&samples[n - MEMORY_LEN..]);
+    copy(&samples[n - MEMORY_LEN..], memory);
 }
 
 // Moves a memory on. One of another length stays as it is.

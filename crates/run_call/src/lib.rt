@@ -423,7 +423,8 @@ fn refused(s: State, q: Refusal) -> Ran
     }
 }
 
-// A run call: refused, or its steps until one stops it. A refusal changes neither the state nor any buffer.
+// A run call: refused, or its steps until one stops it. A refusal changes neither the state nor any buffer. Inlined, so that a short call spends nothing on passing a state on.
+#[inline(always)]
 #[tactic(auto, using(crate::proofs::Lengths::right_memory, crate::proofs::Refusing::buffers_refused, crate::proofs::Refusing::draw_refused, crate::proofs::Refusing::noise_refused))]
 pub fn run(
     s: State,

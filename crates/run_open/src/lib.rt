@@ -163,6 +163,7 @@ pub fn prepare(settings: &[u8], taps: Filters, lengths: Lengths) -> Result<Prepa
 }
 
 // Writes a list over the first values of another, as far as either goes.
+#[inline(always)]
 #[tactic(auto, unfolding(crate::specs::FillModel::over))]
 fn copy(from: &[f32], to: &mut [f32])
     ensures { to.new ≡ over from.now to.old }
@@ -172,6 +173,7 @@ fn copy(from: &[f32], to: &mut [f32])
 }
 
 // Writes two lists over the prototypes and sets working memory to 0.0. Three slices, here and in `open`, as C lends them: no struct of `&mut` slices, of which each contract would have to promise besides that every field is still the same borrow.
+#[inline(always)]
 pub fn fill(prototypes: Filters, mode_s: &mut [f32], mode_ac: &mut [f32], memory: &mut [f32])
     ensures { (mode_s.new ≡ over prototypes.entry.mode_s.now mode_s.old) × (mode_ac.new ≡ over prototypes.entry.mode_ac.now mode_ac.old) × (memory.new ≡ zeros (length memory.old)) }
 {
