@@ -241,7 +241,7 @@ more1090_single_result more1090_single(const uint8_t *settings, size_t settings_
                                        float *output, size_t output_length);
 
 /* The parity of a message in whole bytes, of any length: the remainder of the bytes times x^24 by the generator 0x1FFF409,
- * below 2^24. Of a message that ends in its own parity it is 0. (crates/more1090_parity) */
+ * below 2^24. Of a message that ends in its own parity it is 0. (crates/more1090_reply) */
 uint32_t more1090_parity(const uint8_t *bytes, size_t bytes_length);
 
 /* What flipping one bit of a message of 7 or 14 bytes changes in its parity, by exclusive or. Places are counted back from 0
@@ -276,7 +276,7 @@ uint32_t more1090_interrogator(const uint8_t *message, size_t message_length, ui
  * amplitude of a C/N0 of as many tenths of a dB Hz. It is within one part in 2^22 of that, and the nearest f32, ties to even, to
  * a table's entry times a power of ten (SPECIFICATION 6.15). Answers MORE1090_OK and writes *amplitude; or MORE1090_ERR_LEVEL for
  * tenths above 2000, whatever their size, and leaves it. amplitude must point to a float. Levels are those of 4 samples per
- * pulse: in a run at 8 the same amplitude has 3.01 dB Hz more. (crates/more1090_level) */
+ * pulse: in a run at 8 the same amplitude has 3.01 dB Hz more. (crates/more1090_reply) */
 uint64_t more1090_level(uint64_t tenths, float *amplitude);
 
 #define MORE1090_LINE_LEN 72
@@ -294,7 +294,7 @@ typedef struct more1090_pages_result {
  * 66, and for output shorter than the pages, then 18 for the first record with a first sample above 2^52, a type above 6, a
  * count above 9,999 or a length other than its type's (14, 7 or 2), with its index as the value. Then nothing is written.
  * Else answers the pages written, from the start of output on; output behind them is unchanged. Every record that a run
- * writes is accepted. (crates/more1090_pages) */
+ * writes is accepted. (crates/more1090_records) */
 more1090_pages_result more1090_pages(const uint8_t *records, size_t records_length, uint8_t *output, size_t output_length);
 
 typedef struct more1090_line_result {
@@ -400,7 +400,7 @@ typedef struct more1090_log_result {
  * Writes to `partners` each entry's record and to `owners` each record's entry, by their indices from 0, or MORE1090_NOBODY.
  * Refuses, first to last: MORE1090_ERR_LENGTH for a log of no multiple of 23 bytes, records of no multiple of 66 bytes, or a list
  * without exactly one number for each; MORE1090_ERR_RECORD; MORE1090_ERR_LOG. A refusal writes to neither list.
- * (SPECIFICATION 13; crates/more1090_log) */
+ * (SPECIFICATION 13; crates/more1090_records) */
 more1090_log_result more1090_compare_log(const uint8_t *log, size_t log_length, const uint8_t *records, size_t records_length,
                                          uint64_t tolerance, uint64_t *partners, size_t partners_length, uint64_t *owners,
                                          size_t owners_length);

@@ -1,4 +1,4 @@
-//! The crate `float_narrow`: what the language lacks and the Rust has.
+//! The crate `floats`: what the language lacks and the Rust has.
 
 use crate::random::Random;
 use crate::tally::{Tally, pattern32};
